@@ -120,7 +120,20 @@ static int is_good(struct session *session, unsigned char operation)
     return session->header[0] == RESPONSE && session->header[2] == 0 && session->header[3] == 0;
 }
 
-/* Begins a session whose unit is ready. A tape is rewound. */
+/* Sets the block length of a tape by MODE SELECT (6): a header of 4 bytes, and a block descriptor. Whether that is GOOD. */
+static int has_blocks(struct session *session)
+{
+    static const unsigned char list[12] = {[2] = 0x10, [3] = 8, [10] = BLOCK >> 8, [11] = BLOCK & 0xff};
+    unsigned char command[HEADER + sizeof list] = {COMMAND, 0xa1, [7] = sizeof list, [9] = (unsigned char)lun,
+                                                   [23] = sizeof list, [CDB] = MODE_SELECT, PAGE_FORMAT,
+                                                   [CDB + 4] = sizeof list};
+    memcpy(command + HEADER, list, sizeof list);
+    exchange(session, command, sizeof command);
+    session->next++;
+    return session->header[0] == RESPONSE && session->header[2] == 0 && session->header[3] == 0;
+}
+
+/* Begins a session whose unit is ready. A tape is rewound, and has its block length. */
 static void begin(struct session *session, int port_number)
 {
     int told = 0;
@@ -131,6 +144,8 @@ static void begin(struct session *session, int port_number)
             refused("the unit is not ready", session->header);
     if (kind->is_tape && !is_good(session, REWIND))
         refused("the tape is not rewound", session->header);
+    if (is_fixed() && !has_blocks(session))
+        refused("the block length is refused", session->header);
 }
 
 /* The bytes of a WRITE that come with its command. */

@@ -5,6 +5,7 @@
    kind=verify                        VERIFYs of so many bytes that are zeros, which the disk holds there too
    kind=read-on, kind=write-on        one behind the other, from the front of a disk on
    kind=read-tape, kind=write-tape    records of so many bytes, from the front of a tape on
+   kind=read-fixed, kind=write-fixed  fixed blocks of 512 bytes, so many bytes of them at a time, from the front of a tape on
    kind=read-short                    records of a tape, each of which may be shorter than what is asked for (SILI)
    kind=write-same                    WRITE SAMEs of 16 MiB by a block of `length` bytes, at the front of a disk
    kind=space, kind=locate            SPACE or LOCATE over so many records as `over` (1) says, there and back by turns
@@ -22,7 +23,8 @@
 enum { ROOM = 1 << 20, WINDOW = 64 };
 enum { TEST_UNIT_READY = 0x00, REWIND = 0x01, READ_6 = 0x08, WRITE_6 = 0x0a, SPACE = 0x11, READ_10 = 0x28 };
 enum { WRITE_10 = 0x2a, LOCATE = 0x2b, VERIFY_10 = 0x2f, WRITE_SAME = 0x41 };
-enum { SILI = 0x02, BYTCHK = 0x02 /* with the data that comes */, SAME = 32768 /* blocks of a WRITE SAME: 16 MiB */ };
+enum { MODE_SELECT = 0x15, PAGE_FORMAT = 0x10 };
+enum { SILI = 0x02, FIXED = 0x01, BYTCHK = 0x02 /* with the data that comes */, SAME = 32768 /* blocks of a WRITE SAME: 16 MiB */ };
 
 static const struct kind {
     const char *name;
@@ -36,6 +38,8 @@ static const struct kind {
              {"read-tape", READ_6, 0, 0, 0, 1, 0},
              {"write-tape", WRITE_6, 0, 1, 0, 1, 0},
              {"read-short", READ_6, SILI, 0, 0, 1, 1},
+             {"read-fixed", READ_6, FIXED, 0, 0, 1, 0},
+             {"write-fixed", WRITE_6, FIXED, 1, 0, 1, 0},
              {"write-same", WRITE_SAME, 0, 1, 0, 0, 0},
              {"space", SPACE, 0, 0, 0, 1, 0},
              {"locate", LOCATE, 0, 0, 0, 1, 0}};
@@ -95,6 +99,12 @@ static int has_data_in(void)
     return !kind->writes && length > 0;
 }
 
+/* Whether a command counts fixed blocks of a tape. */
+static int is_fixed(void)
+{
+    return kind->is_tape && (kind->flags & FIXED) != 0;
+}
+
 /* Writes the CDB of a command that moves a tape over so many items, there and back by turns. */
 static void put_move(unsigned char *cdb, long sent)
 {
@@ -116,7 +126,7 @@ static void put_cdb(unsigned char *cdb, long sent)
         return; /* TEST UNIT READY, where it is not said otherwise */
     cdb[0] = kind->operation;
     if (kind->is_tape) {
-        put_number(cdb, 1, (size_t)length); /* of it the last three bytes, behind byte 1 */
+        put_number(cdb, 1, (size_t)(is_fixed() ? length / BLOCK : length)); /* the last three bytes, behind byte 1 */
         cdb[1] = kind->flags;
         return;
     }

@@ -21,7 +21,9 @@ PASSES = [("WRITE of blocks", "write-on", 0, RECORD, None, None),
           ("WRITE of records", "write-tape", 1, RECORD, "WRITE of blocks", 1.2),
           ("READ of blocks", "read-on", 0, RECORD, None, None),
           ("READ of records", "read-tape", 1, RECORD, "READ of blocks", 1.2),
-          ("READ of records, 1 MiB asked for", "read-short", 1, 1 << 20, "READ of records", None)]
+          ("READ of records, 1 MiB asked for", "read-short", 1, 1 << 20, "READ of records", None),
+          ("WRITE of fixed blocks of 512 bytes", "write-fixed", 1, RECORD, "WRITE of records", 1.3),
+          ("READ of fixed blocks of 512 bytes", "read-fixed", 1, RECORD, "READ of records", 1.3)]
 # One more of a disk in a file: its file has none of the blocks, as that of a tape has none of the records.
 NEW_BLOCKS = ("WRITE of blocks that the file has not", "write-on", 0, RECORD, "WRITE of blocks", None)
 SMALL, MANY, FEW, MOVE_AIM = 512, 100_000, 10, 1.5
@@ -44,8 +46,8 @@ def tape_in(folder, name, content=b"", capacity=0):
 
 
 def disk_and_tape(count, folder=None):
-    """The units with room for so many records, in memory or in files of a folder."""
-    size, capacity = count * RECORD, (RECORD + 8) * count
+    """The units with room for so many records, of fixed blocks too, in memory or in files of a folder."""
+    size, capacity = count * RECORD, (BLOCK + 8) * (RECORD // BLOCK) * count
     if folder is None:
         return units(("disk", f"blocks = {size // BLOCK}"), ("tape", f"capacity = {capacity}, early = {capacity}"))
     return units(("disk", f'file = "{filled(folder, "disk", size)}"'), tape_in(folder, "tape", capacity=capacity))
@@ -80,7 +82,7 @@ def passes_of(bench, name, program, folder=None):
 
 
 def tape(bench):
-    """Blocks of a disk and records of a tape, in memory and in files."""
+    """Blocks of a disk, and records and fixed blocks of a tape, in memory and in files."""
     head(f"{bench.pace.of(RECORDS)} of {RECORD >> 10} KiB, one in flight", "Server", *FIGURES, "Cost", "Aim")
     with tempfile.TemporaryDirectory(dir=MEMORY) as folder:
         for name, program in bench.programs.items():
