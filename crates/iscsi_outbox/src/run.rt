@@ -113,7 +113,9 @@ pub(crate) fn left_behind(runs: &VecDeque<Run>, n: usize) -> Option<usize>
     let mut left = n;
     for place in 0..runs.len() {
         let run = &runs[place];
-        left = left.checked_sub(run.before.len())?.checked_sub(run.data_ins.rest())?;
+        left = left
+            .checked_sub(run.before.len())?
+            .checked_sub(run.data_ins.rest())?;
     }
     Some(left)
 }

@@ -36,6 +36,8 @@ mod Apart
 mod Asking
 mod Frames
 mod SessionCalls
+mod Skipping
+mod NumberSet
 mod Marked
 mod Heavier
 mod Carrying

@@ -1,7 +1,7 @@
 -- A call on the session of a connection, as a call of the target: what it does, what it leaves, and what stays apart from it.
-use Rattle.std.proofs.Common.{◌≡◌, ◌≢◌, ℕ, ◌<◌, List, [], ◌++◌, length, set, Bool, true, false, not, ◌&&◌, Option, Some, None, Result, Ok, Err, refl, sym, ap, ◌∙◌, subst, arith}
+use Rattle.std.proofs.Common.{◌≡◌, ◌≢◌, ℕ, ◌<◌, List, [], ◌++◌, length, set, Bool, true, false, not, ◌&&◌, Option, Some, None, Result, Ok, Err, refl, sym, ap, ◌∙◌, inl, inr, subst, arith}
 use Rattle.std.specs.Prelude.{slice_set, ⊤, IfOk, OnErr, if◌then◌else◌}
-use Rattle.std.proofs.lemmas.Bool.{eqb-true}
+use Rattle.std.proofs.lemmas.Bool.{eqb-true, cases_Bool}
 use Rattle.std.proofs.lemmas.List.{append-nil, length-set, set-get_or}
 use Rattle.iscsi_pdu.specs.Frames.{Frame}
 use Rattle.scsi_unit.specs.Units.{UnitStates, AreSound, AreSure, numbers_of}
@@ -263,15 +263,12 @@ settled_with machine c target lt count own e =
     }) refl
 
 -- settling it does nothing
-pub unsettled_at : (machine : Machine) (c target : ℕ) → c < connection_limit → length machine.links ≡ connection_limit
-    → (not (is_settled (link_at machine c).phase) && is_with target (link_at machine c).phase) ≡ false → SettlesOne target c None machine machine
-unsettled_at machine c target lt count e = by_cases (is_settled (link_at machine c).phase) (is_with target (link_at machine c).phase) refl refl e
-  where
-    by_cases : (a b : Bool) → is_settled (link_at machine c).phase ≡ a → is_with target (link_at machine c).phase ≡ b → (not a && b) ≡ false
-        → SettlesOne target c None machine machine
-    by_cases a false settled own none = settles_none machine c target lt own
-    by_cases true true settled own none = settled_with machine c target lt count own settled
-    by_cases false true settled own none = absurd cc
+pub settled_at : (machine : Machine) (c target : ℕ) → c < connection_limit → length machine.links ≡ connection_limit
+    → is_settled (link_at machine c).phase ≡ true → SettlesOne target c None machine machine
+settled_at machine c target lt count settled = elim (cases_Bool (is_with target (link_at machine c).phase)) [
+  | inl own ↦ settled_with machine c target lt count own settled
+  | inr other ↦ settles_none machine c target lt other
+]
 
 -- ---- a frame that a session serves
 

@@ -31,6 +31,7 @@ pub mod World
 pub mod Output
 pub mod Events
 pub mod Machine
+pub mod NumberSet
 pub mod Connections
 pub mod Lending
 pub mod SessionCalls

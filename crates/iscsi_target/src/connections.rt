@@ -1,11 +1,12 @@
 //! All connections, and what was found of those that nobody has changed since.
 
-ghost use Rattle.std.specs.Prelude.{◌≡◌, ◌<◌, length, replicate, slice_index_or, slice_set, IfOk};
+ghost use Rattle.std.specs.Prelude.{◌≡◌, ◌<◌, ◌≤◌, ℕ, true, length, replicate, slice_index_or, slice_set, IfOk, IfSome, IfNone};
 ghost use Rattle.std.specs.Borrow.{sem};
 ghost use Rattle.iscsi_target.specs.Lending.{LendsLink};
 ghost use Rattle.iscsi_target.specs.Machine.{free_link, is_settled, is_silent};
 
 use crate::connection::Connection;
+use crate::number_set::NumberSet;
 use connection_numbers::CONNECTIONS;
 use out_of_memory::Memory;
 use std::alloc::Global;
@@ -13,27 +14,27 @@ use std::marker::Model;
 
 /// The connections under their numbers. Clauses see them as a list.
 ///
-/// Most of them have nothing to do at most times, so what is found of one is remembered until it is lent to be changed.
+/// Most of them have nothing to do at most times, so each that was found to be so is passed over until it is lent to be changed.
 #[derive(Drop)]
 pub(crate) struct Connections {
     items: Vec<Connection>,
-    /// Settling their sessions does nothing.
-    settled: [bool; CONNECTIONS],
-    /// Nothing waits to be sent on them, and they are not closing.
-    silent: [bool; CONNECTIONS],
+    /// Settling the session of any other does nothing.
+    unsettled: NumberSet,
+    /// On any other nothing waits to be sent, and it is not closing.
+    busy: NumberSet,
 }
 
 impl Model for Connections {
-    ghost use Rattle.std.specs.Prelude.{◌≡◌, length, true, List};
-    ghost use Rattle.iscsi_target.specs.Connections.{MarksAreTrue};
+    ghost use Rattle.std.specs.Prelude.{◌≡◌, length, List};
+    ghost use Rattle.iscsi_target.specs.Connections.{IsTrueOfOthers};
     ghost use Rattle.iscsi_target.specs.Machine.{LinkState, is_settled, is_silent};
 
     ghost Value = { List LinkState };
 
     ghost view = { λ l. l.items.items };
 
-    ghost invariant = { λ l. (length l.items.items ≡ 64) × MarksAreTrue (λ (link : LinkState). is_settled link.phase) l.settled l.items.items
-        × MarksAreTrue is_silent l.silent l.items.items };
+    ghost invariant = { λ l. (length l.items.items ≡ 64) × IsTrueOfOthers (λ (link : LinkState). is_settled link.phase) l.unsettled l.items.items
+        × IsTrueOfOthers is_silent l.busy l.items.items };
 }
 
 /// Every connection, none of them open.
@@ -55,8 +56,8 @@ impl Connections {
         let items = free_connections(alloc)?;
         Ok(Connections {
             items,
-            settled: [false; CONNECTIONS],
-            silent: [false; CONNECTIONS],
+            unsettled: NumberSet::all(),
+            busy: NumberSet::all(),
         })
     }
 
@@ -84,8 +85,8 @@ impl Connections {
         ensures* writes_back { sem 𝓛 (LendsLink self.entry c result) }
         ensures value { result.now ≡ slice_index_or self.old c result.now }
     {
-        self.settled[c] = false;
-        self.silent[c] = false;
+        self.unsettled.insert(c);
+        self.busy.insert(c);
         &mut self.items[c]
     }
 
@@ -97,13 +98,22 @@ impl Connections {
         *self.at_mut(c) = connection;
     }
 
-    /// No command of the connection's session can be done, or it has none.
-    #[inline]
-    pub(crate) fn is_settled(&self, c: usize) -> bool
-        requires { c < 64 }
-        ensures { result ≡ is_settled (slice_index_or self.now c free_link).phase }
+    /// The lowest number from this one on of a connection whose session has a command that can be done.
+    pub(crate) fn next_unsettled(&mut self, from: usize) -> Option<usize>
+        ensures same { self.new ≡ self.old }
+        ensures found { IfSome result (λ c. (from ≤ c) × (c < 64)) }
+        ensures before { IfSome result (λ c. (d : ℕ) → from ≤ d → d < c → is_settled (slice_index_or self.old d free_link).phase ≡ true) }
+        ensures none { IfNone result ((d : ℕ) → from ≤ d → d < 64 → is_settled (slice_index_or self.old d free_link).phase ≡ true) }
     {
-        self.settled[c] || self.items[c].is_settled()
+        let mut at = from;
+        while let Some(c) = self.unsettled.next_from(at) {
+            if !self.items[c].is_settled() {
+                return Some(c);
+            }
+            self.unsettled.remove(c);
+            at = c + 1;
+        }
+        None
     }
 
     /// Nothing waits to be sent on the connection, and it is not closing.
@@ -112,17 +122,25 @@ impl Connections {
         requires { c < 64 }
         ensures { result ≡ is_silent (slice_index_or self.now c free_link) }
     {
-        self.silent[c] || self.items[c].is_silent()
+        !self.busy.contains(c) || self.items[c].is_silent()
     }
 
-    /// The connection gives back room that it does not need, and what is found of it is remembered.
+    /// It is remembered where nothing waits to be sent on the connection, and it is not closing.
+    pub(crate) fn note(&mut self, c: usize)
+        requires { c < 64 }
+        ensures { self.new ≡ self.old }
+    {
+        if self.items[c].is_silent() {
+            self.busy.remove(c);
+        }
+    }
+
+    /// The connection gives back room that it does not need.
     pub(crate) fn rest(&mut self, alloc: Global, c: usize)
         requires { c < 64 }
         ensures { self.new ≡ self.old }
     {
-        let connection = &mut self.items[c];
-        connection.rest(alloc);
-        self.settled[c] = connection.is_settled();
-        self.silent[c] = connection.is_silent();
+        self.items[c].rest(alloc);
+        self.note(c);
     }
 }

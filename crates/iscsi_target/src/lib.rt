@@ -32,6 +32,7 @@ mod history;
 mod incoming;
 pub mod laws;
 mod logging_in;
+mod number_set;
 mod orders;
 mod phase;
 mod run;

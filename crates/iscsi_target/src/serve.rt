@@ -16,7 +16,6 @@ ghost use Rattle.iscsi_target.specs.SessionCalls.{InSession, LeavesSession, Ends
 use crate::fault::Starved;
 use crate::orders::luns_of;
 use crate::target::Target;
-use connection_numbers::CONNECTIONS;
 use iscsi_pdu::{Frame, Header};
 use media_store::Store;
 use out_of_memory::Memory;
@@ -42,9 +41,11 @@ impl<S: Store> Target<S> {
         ensures moves { (b : ℕ) → Preserves b (first_starved result) self.old self.new }
     {
         let mut outcome = Ok(());
-        for c in 0..CONNECTIONS {
+        let mut from = 0;
+        while let Some(c) = self.next_unsettled(from) {
             let settled = self.settle_one(c, target);
             outcome = earlier_of(outcome, settled);
+            from = c + 1;
         }
         outcome
     }
@@ -71,7 +72,7 @@ impl<S: Store> Target<S> {
         ensures apart { KeepsApart target self.old self.new }
         ensures moves { (b : ℕ) → Preserves b (first_starved result) self.old self.new }
     {
-        if !self.can_settle(c, target) {
+        if !self.is_with(c, target) {
             return Ok(());
         }
         let goes_on = self.settle_session(c, target);

@@ -200,6 +200,7 @@ impl<S: Store> Target<S> {
         ensures bounded { Bounded self.old → Bounded self.new }
     {
         self.advance(c, n);
+        self.note(c);
         self.rest();
     }
 
@@ -212,6 +213,14 @@ impl<S: Store> Target<S> {
     {
         let connection = self.connections.at_mut(c);
         connection.sent(n);
+    }
+
+    /// What is found of the connection is remembered.
+    fn note(&mut self, c: usize)
+        requires { c < 64 }
+        ensures { self.new ≡ self.old }
+    {
+        self.connections.note(c);
     }
 
     /// One connection after the other gives back room that it does not need, so that one that is idle does not keep what
@@ -288,13 +297,15 @@ impl<S: Store> Target<S> {
         is_same_target(self.target_at(c), Some(target))
     }
 
-    /// The connection has a session with this target, of which a command can be done.
-    pub(crate) fn can_settle(&self, c: usize, target: usize) -> bool
-        requires { c < 64 }
-        ensures value { result ≡ (not (is_settled (link_at self.now c).phase) && is_with target (link_at self.now c).phase) }
-        ensures count { length self.now.links ≡ 64 }
+    /// The lowest number from this one on of a connection whose session has a command that can be done.
+    pub(crate) fn next_unsettled(&mut self, from: usize) -> Option<usize>
+        ensures same { self.new ≡ self.old }
+        ensures found { IfSome result (λ c. (from ≤ c) × (c < 64)) }
+        ensures before { IfSome result (λ c. (d : ℕ) → from ≤ d → d < c → is_settled (link_at self.old d).phase ≡ true) }
+        ensures none { IfNone result ((d : ℕ) → from ≤ d → d < 64 → is_settled (link_at self.old d).phase ≡ true) }
+        ensures count { length self.old.links ≡ 64 }
     {
-        !self.connections.is_settled(c) && self.is_with(c, target)
+        self.connections.next_unsettled(from)
     }
 
     /// The connection closes, and its session ends.

@@ -1,4 +1,4 @@
-use Rattle.std.proofs.Common.{ℕ, ◌<◌, length}
+use Rattle.std.proofs.Common.{ℕ, ◌-◌, ◌<◌, ◌≤◌, length}
 use Rattle.iscsi_target.specs.Machine.{KeepsApart}
 use Rattle.iscsi_target.specs.Serving.{Preserves, first_starved}
 use Rattle.iscsi_target.proofs.Frames.{SettledBelow}
@@ -6,6 +6,9 @@ use Rattle.iscsi_target.proofs.target.Target.settle.Given as goal
 
 -- the connections below the next one are settled
 abbrev pub invariant-loop-c : goal.invariant-loop-c
-invariant-loop-c g l = SettledBelow l.target l.c (first_starved l.outcome) l.initial.self l.self
+invariant-loop-c g l = SettledBelow l.target l.from (first_starved l.outcome) l.initial.self l.self
     × ((b : ℕ) → Preserves b (first_starved l.outcome) l.initial.self l.self) × (l.target < length l.self.units)
-    × KeepsApart l.target l.initial.self l.self
+    × KeepsApart l.target l.initial.self l.self × (l.from ≤ 64)
+
+abbrev pub decreases-loop-c : goal.decreases-loop-c
+decreases-loop-c g l = 64 - l.from

@@ -1,24 +1,22 @@
 use Rattle.std.proofs.Common.{Some, sym, ◌∙◌}
 use Rattle.iscsi_target.specs.Machine.{link_at}
 use Rattle.iscsi_target.specs.Serving.{first_starved}
-use Rattle.iscsi_target.proofs.Choices.{eqb_self, and_true}
+use Rattle.iscsi_target.proofs.Choices.{eqb_self}
 use Rattle.iscsi_target.proofs.Apart.{apart_none}
 use Rattle.iscsi_target.proofs.Moving.{moves_none}
-use Rattle.iscsi_target.proofs.SessionCalls.{session_with, is_called, unsettled_at, settles_called, called_moves, ended_moves, ended_called_apart}
+use Rattle.iscsi_target.proofs.SessionCalls.{session_with, is_called, settles_none, settles_called, called_moves, ended_moves, ended_called_apart}
 use Rattle.iscsi_target.proofs.target.Target.settle_one.Goals as goal
 
-pub returns-then-not-can_settle : goal.returns-then-not-can_settle
-returns-then-not-can_settle g c = record {
-  settles = unsettled_at c.args.self.now c.args.c c.args.target c.requires.in_range c.can_settle.ensures.count
-      (sym c.can_settle.ensures.value ∙ c.if-not-can_settle.true);
+pub returns-then-not-is_with : goal.returns-then-not-is_with
+returns-then-not-is_with g c = record {
+  settles = settles_none c.args.self.now c.args.c c.args.target c.requires.in_range (sym c.is_with.ensures ∙ c.if-not-is_with.true);
   moves = λ b. moves_none b c.args.self.now;
   apart = apart_none c.args.target c.args.self.now;
 }
 
 pub returns : goal.returns
 returns g c =
-    let with_ = (and_true _ _ (sym c.can_settle.ensures.value ∙ c.if-not-can_settle.false)).1 in
-    let at = session_with (link_at c.args.self.now c.args.c).phase c.args.target with_ in
+    let at = session_with (link_at c.args.self.now c.args.c).phase c.args.target (sym c.is_with.ensures ∙ c.if-not-is_with.false) in
     let own = Some c.args.target in
     let given = c.args.self.now in
     let call = c.settle_session-goes_on in

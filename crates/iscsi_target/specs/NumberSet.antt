@@ -1,0 +1,7 @@
+-- A set of connection numbers.
+use Rattle.std.specs.Prelude.{ℕ, Bool, ◌==◌}
+use Rattle.std.specs.Int.{bit_at}
+
+-- own: the number is in the set, whose bits are those of this number
+unfoldable pub is_in : ℕ → ℕ → Bool
+is_in set c = bit_at set c == 1
