@@ -16,6 +16,7 @@ ghost use Rattle.iscsi_ports.specs.Polls.{IsNoLonger};
 ghost use Rattle.std.specs.Duration.{as_nanos};
 ghost use Rattle.std.specs.List.{list_all};
 
+mod peers;
 mod reads;
 
 use crate::bind_fault::{BindFault, bind_fault};

@@ -46,7 +46,7 @@ use std::time::Duration;
 /// bytes of it are ahead.
 #[derive(Drop)]
 pub struct SocketPorts<K: SocketCalls + Drop> {
-    sockets: K,
+    pub(crate) sockets: K,
     /// Which ports may be ready.
     readiness: Readiness,
     /// Something was read, written or accepted since the last poll, so that there may be more.

@@ -56,9 +56,9 @@ fn accept_one<P: Ports, S: Store>(ports: &mut P, target: &mut Target<S>) -> Resu
     Ok(())
 }
 
-/// Feeds a connection. Where an allocation fails the connection that the target names is closing from then on, and the others
-/// go on.
-fn feed<S: Store>(target: &mut Target<S>, c: usize, piece: &[u8])
+/// Feeds a connection. Where an allocation fails the connection that the target names, and that is given, is closing from then
+/// on, and the others go on.
+fn feed<S: Store>(target: &mut Target<S>, c: usize, piece: &[u8]) -> Option<usize>
     requires in_range { c < 64 }
     requires open { is_open_at target.old c ≡ true }
     ensures stands { IsSound target.new → StandsFed MayHappen c piece.now target.old target.new }
@@ -70,8 +70,18 @@ fn feed<S: Store>(target: &mut Target<S>, c: usize, piece: &[u8])
     ensures sure { IsSure target.old → IsSure target.new }
 {
     match target.feed(c, piece) {
-        Ok(()) => {}
-        Err(Starved { .. }) => {}
+        Ok(()) => None,
+        Err(Starved { connection }) => Some(connection),
+    }
+}
+
+/// Tells the ports which connection closes since an allocation failed, if one does.
+fn tell_starved<P: Ports>(ports: &mut P, starved: Option<usize>)
+    ensures log { P.log ports.new ≡ P.log ports.old }
+    ensures tells { P.tells ports.new ≡ P.tells ports.old }
+{
+    if let Some(connection) = starved {
+        ports.starved(connection);
     }
 }
 
@@ -103,7 +113,10 @@ fn read_piece<P: Ports, S: Store>(
 {
     match ports.read(c, piece) {
         IoResult::Bytes(0) => {}
-        IoResult::Bytes(count) => feed(target, c, &piece[..count]),
+        IoResult::Bytes(count) => {
+            let starved = feed(target, c, &piece[..count]);
+            tell_starved(ports, starved);
+        }
         IoResult::End | IoResult::Fault => ended[c] = true,
     }
 }

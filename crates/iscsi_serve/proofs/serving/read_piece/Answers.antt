@@ -1,4 +1,4 @@
-use Rattle.std.proofs.Common.{◌≡◌, ◌<◌, ◌≤◌, [], length, take, rules, arith, inl, inr, refl}
+use Rattle.std.proofs.Common.{◌≡◌, ◌∙◌, ◌<◌, ◌≤◌, [], length, take, rules, arith, inl, inr, refl, sym}
 use Rattle.std.proofs.lemmas.List.{length-take-le}
 use Rattle.iscsi_ports.specs.Log.{Read, Bytes, End, Fault}
 use Rattle.iscsi_serve.specs.Served.{MayHappen, MayComeOut}
@@ -26,23 +26,25 @@ returns-in-Bytes g c = λ named due.
     let below : 0 < c.in-Bytes.count = search rules in
     let some : 0 < length piece = omega (arith, below, count) in
     let fits : length piece ≤ length c.args.piece.now = omega (arith, count, same, c.in-Bytes.ensures.count) in
+    let told = sym c.tell_starved.ensures.tells in
+    let log = c.tell_starved.ensures.log in
     record {
       keeps = record {
-        back = c.read.ensures.back;
-        sound = c.feed.ensures.sound;
-        each = c.feed.ensures.each;
-        sure = c.feed.ensures.sure;
+        back = λ tells. c.read.ensures.back (told ∙ tells);
+        sound = c.feed-starved.ensures.sound;
+        each = c.feed-starved.ensures.each;
+        sure = c.feed-starved.ensures.sure;
         served = λ tells sound.
-            read_stays MayHappen _ _ _ _ c.args.c (length c.args.piece.now) piece some (rw same at (c.in-Bytes.ensures.log tells))
-            (c.feed.ensures.stands sound);
+            read_stays MayHappen _ _ _ _ c.args.c (length c.args.piece.now) piece some (log ∙ rw same at (c.in-Bytes.ensures.log (told ∙ tells)))
+            (c.feed-starved.ensures.stands sound);
         came = λ tells.
-            read_stays (MayComeOut c.feed.new.target) _ _ _ _ c.args.c (length c.args.piece.now) piece some (rw same at (c.in-Bytes.ensures.log tells))
-            (fed_comes_out _ _ _ _ c.feed.ensures.fed);
-        bounded = (let room = due.is_room in c.feed.ensures.bounded (omega (arith, fits, room)));
+            read_stays (MayComeOut c.feed-starved.new.target) _ _ _ _ c.args.c (length c.args.piece.now) piece some (log ∙ rw same at (c.in-Bytes.ensures.log (told ∙ tells)))
+            (fed_comes_out _ _ _ _ c.feed-starved.ensures.fed);
+        bounded = (let room = due.is_room in c.feed-starved.ensures.bounded (omega (arith, fits, room)));
       };
       goes = λ tells.
-          read_some _ _ _ _ named _ c.args.c (length c.args.piece.now) piece due some fits (rw same at (c.in-Bytes.ensures.log tells))
-          c.feed.ensures.feeds c.feed.ensures.fed;
+          read_some _ _ _ _ named _ c.args.c (length c.args.piece.now) piece due some fits (log ∙ rw same at (c.in-Bytes.ensures.log (told ∙ tells)))
+          c.feed-starved.ensures.feeds c.feed-starved.ensures.fed;
     })
 
 pub returns-in-End : goal.returns-in-End
