@@ -1,0 +1,119 @@
+//! One direction of a connection, cut into headers and data segments as its bytes pass (RFC 7143 §11.2.1).
+
+ghost use Rattle.std.specs.Prelude.{◌≤◌, ◌<◌, length};
+
+use iscsi_pdu::{HEADER_LENGTH, Header};
+
+/// What the first bytes of a piece are.
+#[derive(Clone, Copy, Debug, PartialEq, Eq)]
+pub(crate) enum Part {
+    /// The end of a header, which is whole now.
+    Header,
+    /// Data.
+    Data,
+    /// The front of a header, additional headers, or padding.
+    Other,
+}
+
+/// So many first bytes of a piece are one part.
+#[derive(Clone, Copy, Debug, PartialEq, Eq)]
+pub(crate) struct Taken {
+    pub(crate) count: usize,
+    pub(crate) part: Part,
+}
+
+/// Where a direction is. Nothing is kept of data segments.
+#[derive(Clone, Copy, Debug)]
+pub(crate) struct PduStream {
+    header: [u8; HEADER_LENGTH],
+    /// So many bytes of the header have come.
+    come: usize,
+    /// So many bytes of additional headers, of data and of padding are to come.
+    additional: usize,
+    data: usize,
+    padding: usize,
+    ghost range: { come ≤ 48 },
+}
+
+impl PduStream {
+    /// At its beginning.
+    pub(crate) fn new() -> PduStream {
+        PduStream {
+            header: [0; HEADER_LENGTH],
+            come: 0,
+            additional: 0,
+            data: 0,
+            padding: 0,
+        }
+    }
+
+    /// The header that came last.
+    pub(crate) fn header(&self) -> &[u8; HEADER_LENGTH] {
+        &self.header
+    }
+
+    /// Takes the part that a piece begins with.
+    pub(crate) fn take(&mut self, piece: &[u8]) -> Taken
+        ensures { result.count ≤ length piece.now }
+    {
+        if self.come < HEADER_LENGTH {
+            return self.take_header(piece);
+        }
+        let (count, part) = self.take_behind(piece.len());
+        if self.additional == 0 && self.data == 0 && self.padding == 0 {
+            self.come = 0;
+        }
+        Taken { count, part }
+    }
+
+    /// Takes bytes of the header.
+    fn take_header(&mut self, piece: &[u8]) -> Taken
+        requires { self.old.come < 48 }
+        ensures { result.count ≤ length piece.now }
+    {
+        let count = piece.len().min(HEADER_LENGTH - self.come);
+        self.header[self.come..self.come + count].copy_from_slice(&piece[..count]);
+        self.come += count;
+        if self.come < HEADER_LENGTH {
+            return Taken {
+                count,
+                part: Part::Other,
+            };
+        }
+        self.begin_behind();
+        Taken {
+            count,
+            part: Part::Header,
+        }
+    }
+
+    /// What comes behind the header, by its lengths: a data segment is padded to a multiple of 4 (§11.1).
+    fn begin_behind(&mut self) {
+        let header = Header::new(self.header);
+        self.additional = header.additional_length();
+        self.data = header.data_length();
+        self.padding = (4 - self.data % 4) % 4;
+        if self.additional == 0 && self.data == 0 {
+            self.come = 0;
+        }
+    }
+
+    /// Takes bytes of what comes behind a header, of so many.
+    fn take_behind(&mut self, length: usize) -> (usize, Part)
+        ensures { result.0 ≤ length }
+    {
+        if self.additional > 0 {
+            let count = length.min(self.additional);
+            self.additional -= count;
+            return (count, Part::Other);
+        }
+        if self.data > 0 {
+            let count = length.min(self.data);
+            self.data -= count;
+            return (count, Part::Data);
+        }
+        let count = length.min(self.padding);
+        self.padding -= count;
+        (count, Part::Other)
+    }
+}

@@ -1,0 +1,295 @@
+//! The observer that writes lines.
+
+use crate::connection::{Cause, Connection, State, Told};
+use crate::limit::Limit;
+use crate::lines;
+use crate::log_file::LogFile;
+use crate::observed::Observer;
+use connection_numbers::CONNECTIONS;
+use jiff::Timestamp;
+use std::alloc::{AllocError, Global};
+use std::fs::File;
+use std::net::SocketAddr;
+use std::rt::{Clock, Files};
+
+/// So many lines a second are written of connections that have not logged in, and of those that have.
+const MOST_OF_STRANGERS: u32 = 20;
+
+const MOST_OF_HOSTS: u32 = 200;
+
+/// The sense key and code of a unit that is not ready since its store failed, and those of a read and a write that failed.
+const NOT_READY: (u8, u16) = (0x04, 0x4400);
+
+const READ_FAILED: (u8, u16) = (0x03, 0x1100);
+
+const WRITE_FAILED: (u8, u16) = (0x03, 0x0C00);
+
+/// Whose line it is: how many are written depends on it.
+#[derive(Clone, Copy, Debug, PartialEq, Eq)]
+enum Whose {
+    Stranger,
+    Host,
+}
+
+/// A unit that was told to be not ready.
+#[derive(Drop)]
+struct FailedUnit {
+    target: Vec<u8>,
+    lun: [u8; 8],
+}
+
+/// Writes a line for each connection that comes, each login, the end of each session, each Task Management function and
+/// its answer, and each unit whose store failed.
+#[derive(Drop)]
+pub struct SessionLog<'r, R: Files<File = File> + Clock> {
+    alloc: Global,
+    file: LogFile<'r, R>,
+    /// By their numbers.
+    connections: Vec<Option<Connection>>,
+    failed: Vec<FailedUnit>,
+    strangers: Limit,
+    hosts: Limit,
+}
+
+/// A time in UTC, as RFC 3339 has it.
+fn utc(alloc: Global, second: u64) -> Option<String> {
+    let timestamp = Timestamp::from_second(i64::try_from(second).ok()?).ok()?;
+    timestamp.strftime(alloc, "%Y-%m-%dT%H:%M:%SZ").ok()
+}
+
+/// Why a connection ended, where its own end says so.
+fn cause_of(connection: &Connection) -> Option<&'static str> {
+    if connection.state == State::LoggedOut {
+        return Some("logout");
+    }
+    match connection.cause {
+        Some(Cause::Closed) => Some("its peer closed the connection"),
+        Some(Cause::Failed) => Some("its peer is gone"),
+        Some(Cause::Starved) => Some("out of memory"),
+        None if !connection.has_come => Some("out of memory"),
+        None => None,
+    }
+}
+
+/// Both are of one initiator and target.
+fn is_same_session(one: &Connection, other: &Connection) -> bool {
+    !one.names.is_discovery
+        && !other.names.is_discovery
+        && one.isid == other.isid
+        && one.names.initiator.as_slice() == other.names.initiator.as_slice()
+        && one.names.target.as_slice() == other.names.target.as_slice()
+}
+
+impl<'r, R: Files<File = File> + Clock> SessionLog<'r, R> {
+    /// A log of no connections yet. Its first line says where the program listens.
+    pub fn new(
+        alloc: Global,
+        file: LogFile<'r, R>,
+        address: SocketAddr,
+    ) -> Result<SessionLog<'r, R>, AllocError> {
+        let mut connections = Vec::with_capacity(alloc, CONNECTIONS)?;
+        for _ in 0..CONNECTIONS {
+            connections.push(None)?;
+        }
+        let mut log = SessionLog {
+            alloc,
+            file,
+            connections,
+            failed: Vec::new(alloc),
+            strangers: Limit::new(MOST_OF_STRANGERS),
+            hosts: Limit::new(MOST_OF_HOSTS),
+        };
+        log.say_always(lines::listening(alloc, address));
+        Ok(log)
+    }
+
+    /// Writes a line, unless too many were written in this second.
+    fn say(&mut self, whose: Whose, text: Result<String, AllocError>) {
+        let Ok(text) = text else {
+            return;
+        };
+        let second = self.file.seconds();
+        let limit = match whose {
+            Whose::Stranger => &mut self.strangers,
+            Whose::Host => &mut self.hosts,
+        };
+        let left_out = limit.take_left_out(second);
+        if !limit.allows(second) {
+            return;
+        }
+        if left_out > 0 {
+            self.say_always(lines::left_out(self.alloc, left_out));
+        }
+        self.put(second, text.as_str());
+    }
+
+    /// Writes a line, however many were written.
+    fn say_always(&mut self, text: Result<String, AllocError>) {
+        if let Ok(text) = text {
+            let second = self.file.seconds();
+            self.put(second, text.as_str());
+        }
+    }
+
+    /// Writes a line with this time.
+    fn put(&mut self, second: u64, text: &str) {
+        let Some(time) = utc(self.alloc, second) else {
+            return;
+        };
+        if let Ok(line) = lines::timed(self.alloc, time.as_str(), text) {
+            self.file.put(line.as_str());
+        }
+    }
+
+    /// Another connection of the same initiator and target.
+    fn successor_of(&self, gone: &Connection) -> Option<usize> {
+        for (c, connection) in self.connections.iter().enumerate() {
+            if let Some(connection) = connection {
+                if is_same_session(connection, gone) {
+                    return Some(c);
+                }
+            }
+        }
+        None
+    }
+
+    /// Tells what was heard or seen on a connection.
+    fn tell(&mut self, c: usize, told: Told) {
+        let Some(Some(connection)) = self.connections.get(c) else {
+            return;
+        };
+        let names = &connection.names;
+        match told {
+            Told::LoggedIn { tsih } => {
+                let line = lines::logged_in(self.alloc, c, names, tsih);
+                self.say(Whose::Host, line);
+            }
+            Told::Refused { status } => {
+                let line = lines::refused(self.alloc, c, names, status);
+                self.say(Whose::Stranger, line);
+            }
+            Told::Asked { function, lun, tag } => {
+                let line = lines::asked(self.alloc, c, function, lun, tag);
+                self.say(Whose::Host, line);
+            }
+            Told::Answered { response, tag } => {
+                let line = lines::answered(self.alloc, c, response, tag);
+                self.say(Whose::Host, line);
+            }
+            Told::Sensed { lun, key, code } => self.tell_sensed(c, lun, (key, code)),
+        }
+    }
+
+    /// Tells that a store failed: of a unit that is not ready then once.
+    fn tell_sensed(&mut self, c: usize, lun: [u8; 8], sense: (u8, u16)) {
+        let Some(Some(connection)) = self.connections.get(c) else {
+            return;
+        };
+        let target = connection.names.target.as_slice();
+        let line = lines::failed(self.alloc, target, lun, sense.0, sense.1);
+        if sense == READ_FAILED || sense == WRITE_FAILED {
+            self.say(Whose::Host, line);
+        } else if sense == NOT_READY && !is_noted(self.failed.as_slice(), target, lun) {
+            let mut name = Vec::new(self.alloc);
+            let _ = name.extend_from_slice(target);
+            let _ = self.failed.push(FailedUnit { target: name, lun });
+            self.say_always(line);
+        }
+    }
+}
+
+/// The unit is among these.
+fn is_noted(failed: &[FailedUnit], target: &[u8], lun: [u8; 8]) -> bool {
+    failed
+        .iter()
+        .any(|unit| unit.lun == lun && unit.target.as_slice() == target)
+}
+
+impl<R: Files<File = File> + Clock> Observer for SessionLog<'_, R> {
+    fn accepted(&mut self, c: usize, peer: Option<SocketAddr>) {
+        match self.connections.get_mut(c) {
+            Some(place) => {
+                *place = Some(Connection::new(peer));
+                self.say(Whose::Stranger, lines::came(self.alloc, c, peer));
+            }
+            None => self.say(Whose::Stranger, lines::turned_away(self.alloc, peer)),
+        }
+    }
+
+    fn read(&mut self, c: usize, bytes: &[u8]) {
+        let mut rest = bytes;
+        for _ in 0..bytes.len() {
+            let Some(Some(connection)) = self.connections.get_mut(c) else {
+                return;
+            };
+            let heard = connection.hear(rest);
+            if let Some(told) = heard.told {
+                self.tell(c, told);
+            }
+            rest = &rest[heard.count..];
+            if rest.is_empty() {
+                return;
+            }
+        }
+    }
+
+    fn written(&mut self, c: usize, bytes: &[u8]) {
+        let mut rest = bytes;
+        for _ in 0..bytes.len() {
+            let Some(Some(connection)) = self.connections.get_mut(c) else {
+                return;
+            };
+            let seen = connection.see(rest);
+            if let Some(told) = seen.told {
+                self.tell(c, told);
+            }
+            rest = &rest[seen.count..];
+            if rest.is_empty() {
+                return;
+            }
+        }
+    }
+
+    fn ended(&mut self, c: usize, has_failed: bool) {
+        if let Some(Some(connection)) = self.connections.get_mut(c) {
+            connection.cause = Some(if has_failed {
+                Cause::Failed
+            } else {
+                Cause::Closed
+            });
+        }
+    }
+
+    fn starved(&mut self, c: usize) {
+        if let Some(Some(connection)) = self.connections.get_mut(c) {
+            connection.cause = Some(Cause::Starved);
+        }
+    }
+
+    fn closed(&mut self, c: usize) {
+        let Some(place) = self.connections.get_mut(c) else {
+            return;
+        };
+        let Some(connection) = place.take() else {
+            return;
+        };
+        let has_session = match connection.state {
+            State::Refused => return,
+            State::LoggingIn => false,
+            State::LoggedIn | State::LoggedOut => true,
+        };
+        let whose = if has_session {
+            Whose::Host
+        } else {
+            Whose::Stranger
+        };
+        let line = match (cause_of(&connection), self.successor_of(&connection)) {
+            (Some(why), _) => lines::ended(self.alloc, c, has_session, why, None),
+            (None, Some(other)) if has_session => {
+                lines::ended(self.alloc, c, true, "reinstated", Some(other))
+            }
+            (None, _) => lines::ended(self.alloc, c, has_session, "violation", None),
+        };
+        self.say(whose, line);
+    }
+}
