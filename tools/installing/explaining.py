@@ -59,6 +59,25 @@ def explains_each_fault_at_its_line_and_key():
         assert ran(top / EXPLAIN)[0] == 2 and ran(top / EXPLAIN, "--help")[0] == 0
 
 
+def explains_where_a_log_cannot_be_written():
+    with installed() as top:
+        config, disk = top / "my.toml", top / "disk"
+        disk.write_bytes(bytes(512))
+        units = SOUND.replace("blocks = 8", f'file = "{disk}"')
+        for log, told in (
+                (f'"{top}/log"', f"{config}: targetd takes it"), ('"-"', f"{config}: targetd takes it"),
+                (f'"{top}"', f'{config}:1: stream fault: the log "{top}" cannot be written to: it is a folder'),
+                (f'"{top}/none/log"',
+                 f'{config}:1: stream fault: the log "{top}/none/log" cannot be written to: its folder is not there'),
+                (f'"{disk}"', f'{config}:1: stream fault: the log "{disk}" is the file of a unit'),
+                ("7", f'{config}:1: note: the configuration: "log" is no text, so there is no log\n'
+                      f"{config}: targetd takes it")):
+            config.write_text(f"log = {log}\n{units}", encoding="utf-8")
+            ended = ran(top / EXPLAIN, config)
+            assert ended == (int("stream" in told), told + "\n", ""), ended
+        assert not (top / "log").exists()
+
+
 def told_of_file(top, content, lines='kind = "disk"\n'):
     """What targetd-explain-config prints of a second unit whose file has this content."""
     path, config = top / "unit", top / "my.toml"
@@ -150,6 +169,7 @@ def explains_every_configuration_of_the_cases_by_its_number():
 
 CHECKS = [
     explains_each_fault_at_its_line_and_key,
+    explains_where_a_log_cannot_be_written,
     tells_why_a_file_is_no_disk_or_tape,
     tells_who_has_a_file_locked,
     names_the_addresses_of_this_host_in_place_of_all,

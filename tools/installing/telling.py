@@ -2,11 +2,13 @@
 
 import json
 import os
+import socket
 import time
 
-from installing.installation import SOUND, STATUS, installed, ran
+from installing.installation import LIMIT, SOUND, STATUS, installed, ran
 from running.server import free_port, listening
 from sockets.tape_files import item
+from wire import notation, pdu
 
 TARGETS = ('[[target]]\nname = "one"\nunit = [{{ lun = 0, kind = "disk", serial = "A", file = "{folder}/disk" }},\n'
            '{{ lun = 3, kind = "tape", serial = "B", capacity = 100, early = 50, file = "tape" }}]\n')
@@ -70,6 +72,24 @@ def notes_what_may_be_otherwise_since_the_start():
             assert (status, told["targets"]) == (3, []) and "cannot be read" in told["notes"][0], told
 
 
+def tells_by_the_log_who_has_logged_in():
+    with installed() as top:
+        config, log, port = top / "my.toml", top / "log", free_port()
+        config.write_text(f'log = "log"\nlisten = "127.0.0.1:{port}"\n{SECOND}', encoding="ascii")
+        began = int(time.time())
+        with listening(top / "sbin/targetd", "serve", "--config=my.toml", cwd=top) as server, \
+                socket.create_connection(("127.0.0.1", port), LIMIT) as client:
+            text = b"InitiatorName=h\0TargetName=two\0"
+            client.sendall(notation.data(f"[Login-Request I T CSG=1 NSG=3 ITT=1 DataSegmentLength={len(text)}]", {})
+                           + text + bytes(pdu.padding(len(text))))
+            client.recv(48, socket.MSG_WAITALL)
+            here = f"127.0.0.1:{client.getsockname()[1]}"
+            (one,) = told_of(top, server.process.pid)[1]["connections"]
+            assert (one["remote"], one["initiator"], one["target"]) == (here, "h", "two"), (one, log.read_text())
+            assert began <= one["logged_in"] <= time.time(), one
+            assert f"    {here}, h to two since " in "\n".join(lines_of(top, server.process.pid))
+
+
 def takes_its_words_and_no_others():
     with installed() as top:
         status, said, fault = ran(top / STATUS)  # others may serve on this machine
@@ -82,5 +102,6 @@ def takes_its_words_and_no_others():
 CHECKS = [
     tells_units_and_files_of_a_process_that_serves,
     notes_what_may_be_otherwise_since_the_start,
+    tells_by_the_log_who_has_logged_in,
     takes_its_words_and_no_others,
 ]

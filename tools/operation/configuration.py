@@ -16,10 +16,11 @@ MOST_BYTES, BLOCK = 1_048_576, 512
 MOST_TARGETS, MOST_UNITS, MOST_LUN = 8, 16, 255
 MOST_LISTEN, MOST_NAME, MOST_SERIAL = 253, 223, 32
 MOST_BLOCKS, MOST_CAPACITY = 1_048_576, 34_359_738_360
-KEYS = {"the configuration": ["listen", "target"], "target": ["name", "unit"],
+KEYS = {"the configuration": ["listen", "log", "target"], "target": ["name", "unit"],
         "disk": ["lun", "kind", "serial", "blocks", "file"],
         "tape": ["lun", "kind", "serial", "capacity", "early", "file"]}
 EXAMPLE_SERIAL = "EXAMPLE1"
+STANDARD_ERROR = "-"
 ADDRESS = re.compile(r"(?:([0-9.]+)|\[([0-9A-Fa-f:.]+)(?:%[0-9]+)?\]):([0-9]+)")
 
 
@@ -124,6 +125,7 @@ class Configuration:
             self.listen(listen, root.lines["listen"])
         for target in self.tables(place, "target", "target {}", MOST_TARGETS):
             self.target(target)
+        self.log(place)
         self.unread(place, KEYS["the configuration"])
 
     def listen(self, listen, line):
@@ -135,6 +137,19 @@ class Configuration:
         elif address.is_unspecified:
             self.tell(line, None, f'"listen" is "{listen}", which discovery tells: no other host can log in by it. '
                       f"Name an address of this host{own_addresses(address.version, listen.rpartition(':')[2])}")
+
+    def log(self, place):
+        """Where the log is written to. Another value than a text is not looked at."""
+        value = place.table.held.get("log")
+        if value is None:
+            return
+        line = place.table.lines["log"]
+        if value.kind != "text":
+            self.tell(line, None, f'{place.name}: "log" is no text, so there is no log')
+        elif value.held in self.files:
+            self.tell(line, "stream", f'the log "{value.held}" is the file of a unit')
+        elif value.held != STANDARD_ERROR and (why := closed_log(Path(self.folder, value.held))):
+            self.tell(line, "stream", f'the log "{value.held}" cannot be written to: {why}')
 
     def target(self, place):
         """A target with its units."""
@@ -248,6 +263,21 @@ def tape_fault(file, capacity):
         return (f"has no whole record or filemark at byte {found.end} of {found.size}, but {found.fault}: "
                 "targetd-mend-tape can cut it there")
     return f"has {found.size} bytes, and more than the capacity of {capacity}" if found.size > capacity else None
+
+
+def closed_log(path):
+    """Why the file of a log cannot be appended to, or nothing. None is made here."""
+    if "\0" in str(path):
+        return "it has a zero byte"
+    try:
+        if path.is_dir():
+            return "it is a folder"
+        if not path.parent.is_dir():
+            return "its folder is not there"
+        is_open = os.access(path if path.exists() else path.parent, os.R_OK | os.W_OK)
+    except (OSError, ValueError) as error:
+        return getattr(error, "strerror", None) or error
+    return None if is_open else "it may not be read and written"
 
 
 def article(kind):

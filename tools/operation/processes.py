@@ -34,7 +34,8 @@ class Target(NamedTuple):
 
 class Process(NamedTuple):
     """A process that serves. `started`: seconds since 1970. `memory` and `most_memory`: bytes. `sockets`: what it has
-    open, or nothing where that cannot be seen. `notes`: what cannot be seen or may be otherwise."""
+    open, or nothing where that cannot be seen. `log`: the path of its log, or nothing where it has none in a file. `notes`:
+    what cannot be seen or may be otherwise."""
     number: int
     configuration: str
     started: float
@@ -42,6 +43,7 @@ class Process(NamedTuple):
     most_memory: int
     targets: list
     sockets: list
+    log: str
     notes: list
 
 
@@ -119,9 +121,14 @@ def unit_of(table, folder, opened):
     return Unit(held(table, "lun"), held(table, "kind"), held(table, "serial"), name, size, is_open)
 
 
-def targets_of(path, folder, opened):
-    """The targets of the configuration at a path, with their units."""
-    document = toml_lines.read(Path(path).read_text(encoding="utf-8"))
+def log_of(document, folder):
+    """The path of the log in a file, or nothing."""
+    log = held(document, "log")
+    return str(Path(folder, log)) if isinstance(log, str) and log != "-" else None
+
+
+def targets_of(document, folder, opened):
+    """The targets of a configuration, with their units."""
     return [Target(held(target, "name"), [unit_of(unit, folder, opened) for unit in held(target, "unit", [])])
             for target in held(document, "target", [])]
 
@@ -141,14 +148,15 @@ def notes_of_files(targets, opened):
 
 
 def served_by(path, folder, opened, started):
-    """The targets of the configuration at a path, and what is to be noted of it."""
+    """The targets and the log of the configuration at a path, and what is to be noted of it."""
     try:
-        targets = targets_of(path, folder, opened or set())
+        document = toml_lines.read(Path(path).read_text(encoding="utf-8"))
+        targets, log = targets_of(document, folder, opened or set()), log_of(document, folder)
         changed = os.stat(path).st_mtime > started + ROUNDED
     except (OSError, UnicodeDecodeError, toml_lines.NotToml, AttributeError, TypeError) as error:
-        return [], [f"the configuration cannot be read: {getattr(error, 'strerror', None) or error}"]
+        return [], None, [f"the configuration cannot be read: {getattr(error, 'strerror', None) or error}"]
     notes = ["the configuration was changed since the start, and is not read again"] if changed else []
-    return targets, notes + notes_of_files(targets, opened)
+    return targets, log, notes + notes_of_files(targets, opened)
 
 
 def process_of(number):
@@ -162,8 +170,8 @@ def process_of(number):
     except (FileNotFoundError, ProcessLookupError):
         return None  # it has ended meanwhile
     path = str(Path(folder, named))
-    targets, notes = served_by(path, folder, opened, started)
-    return Process(number, path, started, *memory, targets, sockets, unseen + notes)
+    targets, log, notes = served_by(path, folder, opened, started)
+    return Process(number, path, started, *memory, targets, sockets, log, unseen + notes)
 
 
 def serving():

@@ -1,5 +1,5 @@
 -- What a configuration says.
-use Rattle.std.specs.Prelude.{ℕ, ℤ, pos, negsuc, List, map, flat_map, filter_map, Bool, true, false, Option, Some, None, string_bytes}
+use Rattle.std.specs.Prelude.{ℕ, ℤ, pos, negsuc, List, map, flat_map, filter_map, Bool, true, false, Option, Some, None, option_map, string_bytes}
 use Rattle.std.specs.List.{list_all}
 use Rattle.target_config.specs.declared.configuration.MediumConfiguration.{MediumConfiguration}
 use Rattle.target_config.specs.declared.configuration.MediumConfiguration.TheVariants as media
@@ -27,6 +27,7 @@ pub record TargetEntry : Type 0 where
 
 pub record Document : Type 0 where
   pub listen : List ℕ
+  pub log : Option (List ℕ)
   pub targets : List TargetEntry
 
 -- a LUN that is not below 0
@@ -79,4 +80,8 @@ abbrev pub targets_view : List TargetConfiguration → List TargetEntry
 targets_view targets = map target_view targets
 
 abbrev pub configuration_view : Configuration → Document
-configuration_view configuration = record { listen = string_bytes configuration.listen; targets = targets_view configuration.targets.items }
+configuration_view configuration = record {
+  listen = string_bytes configuration.listen;
+  log = option_map string_bytes configuration.log;
+  targets = targets_view configuration.targets.items;
+}

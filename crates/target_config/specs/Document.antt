@@ -111,12 +111,16 @@ target_of value = do
   units ← each unit_of values
   Some (record { name = name; units = units })
 
+-- profile: a text is where the log is written to, and any other value is not looked at
+abbrev pub log_in : Members → Option (List ℕ)
+log_in table = text_at table (codes "log")
+
 unfoldable pub document_of : Members → Option Document
 document_of table = do
   listen ← name_at table (codes "listen")
   values ← items_at table (codes "target")
   targets ← each target_of values
-  Some (record { listen = listen; targets = targets })
+  Some (record { listen = listen; log = log_in table; targets = targets })
 
 -- ---- what a step of the code returns
 

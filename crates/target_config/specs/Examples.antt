@@ -12,7 +12,7 @@ abbrev two_targets : UnitEntry → UnitEntry → UnitEntry → Document
 two_targets first second third =
     let one : TargetEntry = record { name = codes "t1"; units = first ∷ second ∷ [] } in
     let other : TargetEntry = record { name = codes "t2"; units = third ∷ [] } in
-    record { listen = codes "a"; targets = one ∷ other ∷ [] }
+    record { listen = codes "a"; log = None; targets = one ∷ other ∷ [] }
 
 abbrev in_files : Document
 in_files = two_targets (unit_at 0 (FileDisk (codes "b"))) (unit_at 1 (MemoryTape 9 0)) (unit_at 0 (FileDisk (codes "a")))

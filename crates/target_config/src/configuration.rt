@@ -7,6 +7,8 @@ use crate::block_count::BlockCount;
 pub struct Configuration {
     /// The address that initiators connect to: 1 to 253 bytes.
     pub listen: String,
+    /// Where the log is written to, if there is one: the path of a file, or `-` for standard error.
+    pub log: Option<String>,
     /// At most 8.
     pub targets: Vec<TargetConfiguration>,
 }

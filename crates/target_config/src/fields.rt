@@ -1,7 +1,7 @@
 //! The fields of the document: each is there, of its type, and in the range that belongs to it.
 //! Fields that nothing reads are passed over.
 
-ghost use Rattle.std.specs.Prelude.{◌≡◌, ◌≤◌, IfOk, map, codes, string_bytes};
+ghost use Rattle.std.specs.Prelude.{◌≡◌, ◌≤◌, IfOk, map, codes, Some, option_map, string_bytes};
 ghost use Rattle.toml.specs.Data.{get_member};
 ghost use Rattle.toml.specs.View.{view, items_view, table_view};
 ghost use Rattle.target_config.specs.Document.{Gives, text_at, integer_at, items_at, number_at, name_at, disk_of, memory_disk_of, file_disk_of, tape_of, memory_tape_of, file_tape_of, medium_of, has_member, is_name as is_name_text, unit_of, target_of, each, document_of};
@@ -204,6 +204,17 @@ fn targets(alloc: Global, values: &[Value]) -> Result<Vec<TargetConfiguration>, 
     Ok(targets)
 }
 
+/// The text of a field that need not be there, nor be a text.
+fn optional_text(alloc: Global, table: &Table, key: &str) -> Result<Option<String>, ConfigFault>
+    ensures { Gives (λ text. option_map string_bytes text) result (Some (text_at (table_view table.now) key.now)) }
+{
+    match text(table, key) {
+        Ok(text) => Ok(Some(String::from_str(alloc, text)?)),
+        Err(ConfigFault::Field) => Ok(None),
+        Err(fault) => Err(fault),
+    }
+}
+
 /// The fields of a document.
 #[tactic(auto, unfolding(crate::specs::Document::document_of))]
 pub fn fields(alloc: Global, table: &Table) -> Result<Configuration, ConfigFault>
@@ -211,5 +222,10 @@ pub fn fields(alloc: Global, table: &Table) -> Result<Configuration, ConfigFault
 {
     let listen = name(alloc, table, "listen")?;
     let targets = targets(alloc, array(table, "target")?)?;
-    Ok(Configuration { listen, targets })
+    let log = optional_text(alloc, table, "log")?;
+    Ok(Configuration {
+        listen,
+        log,
+        targets,
+    })
 }

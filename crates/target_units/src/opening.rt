@@ -28,6 +28,8 @@ use target_config::{BlockCount, Configuration, MediumConfiguration, UnitConfigur
 pub struct OpenedTargets<S: Start> {
     /// The address that is listened on, as the configuration has it.
     pub listen: String,
+    /// Where the log is written to, as the configuration has it.
+    pub log: Option<String>,
     /// The names of the targets.
     pub names: Vec<String>,
     /// The units of each target, in the same order.
@@ -212,6 +214,7 @@ pub fn open<S: Start>(
     }
     Ok(OpenedTargets {
         listen: configuration.listen,
+        log: configuration.log,
         names,
         units,
     })

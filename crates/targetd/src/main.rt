@@ -31,6 +31,7 @@ mod arguments;
 mod fault;
 mod help;
 mod left;
+mod logging;
 mod opening;
 mod run;
 mod serve;

@@ -19,6 +19,8 @@ use target_units::{OpenedTargets, SystemStore};
 #[derive(Drop)]
 pub struct Setup<S: Start> {
     pub config: Config,
+    /// Where the log is written to.
+    pub log: Option<String>,
     /// Of each target, in order.
     pub units: Vec<Units<SystemStore<S>>>,
 }
@@ -36,6 +38,7 @@ pub fn open<S: Start>(
 {
     let OpenedTargets {
         listen,
+        log,
         names,
         units,
     } = target_units::open(rt, configuration)?;
@@ -44,6 +47,7 @@ pub fn open<S: Start>(
             listen,
             targets: names,
         },
+        log,
         units,
     })
 }

@@ -10,8 +10,8 @@ ghost use Rattle.targetd.specs.Run.{Replays, ServesAt, Runs};
 use crate::fault::Fault;
 use crate::help::refuse_words;
 use crate::left::{Left, Served};
+use crate::logging::serve_logged;
 use crate::opening::{Setup, open};
-use crate::serve::serve;
 use command_line::{Mode, WordsFault, as_texts, mode_of};
 use iscsi_ports::{MioPorts, Ports};
 use iscsi_target::Target;
@@ -19,7 +19,7 @@ use media_store::Start;
 use std::fs::File;
 use std::io::{Read, Write};
 use std::net::Net;
-use std::rt::Files;
+use std::rt::{Clock, Files};
 use target_config::{file_config, load};
 use target_replay::{Engine, replay};
 
@@ -37,7 +37,7 @@ fn replay_at<S: Start, R: Read, W: Write>(
 {
     let alloc = rt.alloc();
     let configuration = file_config(alloc, contents)?;
-    let Setup { config, units } = open(rt, configuration)?;
+    let Setup { config, units, .. } = open(rt, configuration)?;
     let target = Target::new(alloc, config, units)?;
     let mut engine = Engine::new(alloc, target);
     let ended = replay(&mut engine, reader, writer);
@@ -48,7 +48,7 @@ fn replay_at<S: Start, R: Read, W: Write>(
 
 /// Serves at the configuration whose file has these contents, for so many turns.
 fn serve_at<S: Start, W: Write>(
-    rt: &(impl Files<File = File> + AllocGlobal + Net),
+    rt: &(impl Files<File = File> + AllocGlobal + Net + Clock),
     contents: &[u8],
     count: u64,
     left: &mut Left<S>,
@@ -60,13 +60,13 @@ fn serve_at<S: Start, W: Write>(
 {
     let alloc = rt.alloc();
     let configuration = file_config(alloc, contents)?;
-    let Setup { config, units } = open(rt, configuration)?;
+    let Setup { config, log, units } = open(rt, configuration)?;
     let mut ports = MioPorts::new(rt, alloc, config.listen.as_str(), None)?;
     let Ok(address) = ports.address() else {
         return Err(Fault::Socket);
     };
     let mut target = Target::new(alloc, config, units)?;
-    let ended = serve(alloc, address, &mut ports, &mut target, count, writer);
+    let (ports, ended) = serve_logged(rt, address, ports, log, &mut target, count, writer);
     left.served = Some(Served { ports, target });
     ended
 }
@@ -74,7 +74,7 @@ fn serve_at<S: Start, W: Write>(
 /// Does what the words say that stand behind the program's name, from the first to the end of the
 /// input or of the turns. `S` stands for what the files hold as they are opened.
 pub fn run<S: Start, R: Read, W: Write>(
-    rt: &(impl Files<File = File> + AllocGlobal + Net),
+    rt: &(impl Files<File = File> + AllocGlobal + Net + Clock),
     words: &[String],
     left: &mut Left<S>,
     reader: &mut R,

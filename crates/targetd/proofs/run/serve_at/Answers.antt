@@ -32,4 +32,4 @@ returns-clause-ends g c =
     rw c.in_ok-configuration.ensures.read
     (inr (serving g.S.Start.held _ _ _ (configuration_view c.in_ok-configuration.configuration) c.args.count c.in_ok-config.field-0.units.items
     address _ c.in_ok-target.target _
-    c.serve-ended.result c.in_ok-config.ensures.units refl asked made c.in_ok-target.ensures.bounded c.serve-ended.ensures))
+    c.serve_logged-ports.result.1 c.in_ok-config.ensures.units refl asked made c.in_ok-target.ensures.bounded c.serve_logged-ports.ensures))

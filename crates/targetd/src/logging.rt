@@ -1,0 +1,67 @@
+//! Serving with a log, where the configuration names one.
+
+ghost use Rattle.std.specs.Prelude.{◌≡◌, ◌⊎◌, IfErr};
+ghost use Rattle.targetd.specs.Serve.{listening_line, Serves};
+ghost use Rattle.targetd.specs.declared.fault.Fault.TheVariants.{Output, OutOfMemory};
+
+use crate::fault::Fault;
+use crate::serve::serve;
+use iscsi_ports::{MioPorts, Ports};
+use iscsi_target::Target;
+use media_store::Store;
+use session_log::{LogFile, ObservedPorts, SessionLog};
+use std::fs::File;
+use std::io::{self, ErrorKind, Write};
+use std::net::{Net, SocketAddr};
+use std::rt::{Clock, Files};
+
+/// What an error of the system at the log's file is told as.
+fn unopened(error: &io::Error) -> Fault
+    ensures { (result ≡ Output) ⊎ (result ≡ OutOfMemory) }
+{
+    match error.kind() {
+        ErrorKind::OutOfMemory => Fault::OutOfMemory,
+        _ => Fault::Output,
+    }
+}
+
+/// Opens the log, if there is to be one.
+fn open_log<'r, R: Files<File = File> + AllocGlobal + Net + Clock>(
+    rt: &'r R,
+    path: Option<String>,
+    address: SocketAddr,
+) -> Result<Option<SessionLog<'r, R>>, Fault>
+    ensures { IfErr result (λ fault. (fault ≡ Output) ⊎ (fault ≡ OutOfMemory)) }
+{
+    let Some(path) = path else {
+        return Ok(None);
+    };
+    match LogFile::open(rt, rt, rt.alloc(), path) {
+        Ok(file) => Ok(Some(SessionLog::new(rt.alloc(), file, address)?)),
+        Err(error) => Err(unopened(&error)),
+    }
+}
+
+/// Serves, and writes the log that this path names, if there is one. Where it cannot be opened nothing is served. It has no
+/// say in what is served.
+pub fn serve_logged<S: Store, W: Write, R: Files<File = File> + AllocGlobal + Net + Clock>(
+    rt: &R,
+    address: SocketAddr,
+    ports: MioPorts,
+    log: Option<String>,
+    target: &mut Target<S>,
+    count: u64,
+    writer: &mut W,
+) -> (MioPorts, Result<(), Fault>)
+    ensures { Serves (listening_line address) count (⟦<MioPorts as Ports>⟧.tells result.0) (⟦<MioPorts as Ports>⟧.log ports)
+        (⟦<MioPorts as Ports>⟧.log result.0) target.old target.new (W.contents writer.old) (W.contents writer.new) result.1 }
+{
+    let observer = match open_log(rt, log, address) {
+        Ok(observer) => observer,
+        Err(fault) => return (ports, Err(fault)),
+    };
+    let mut observed = ObservedPorts { ports, observer };
+    let ended = serve(rt.alloc(), address, &mut observed, target, count, writer);
+    let ObservedPorts { ports, .. } = observed;
+    (ports, ended)
+}
