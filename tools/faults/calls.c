@@ -7,7 +7,7 @@
  *   FAIL_ON      1: all calls behind it fail too
  *   FAIL_ERROR   errno of the failed call; 0: it reads or writes no byte and is no error
  *   FAIL_PIECE   the most bytes that a read of descriptor 0 or a write to descriptor 1 moves, or, where FAIL_CALL is send,
- *                a write to a connection
+ *                a write to a connection, or, where it is store, a read or a write at a place of a file
  *   FAIL_REPORT  the descriptor that is told `failed` for each call that failed
  */
 #include <errno.h>
@@ -96,6 +96,12 @@ static size_t at_most(size_t count)
     return piece && (size_t)piece < count ? (size_t)piece : count;
 }
 
+/* The same where calls of this kind are chosen. */
+static size_t at_most_of(const char *call, size_t count)
+{
+    return which && !strcmp(call, which) ? at_most(count) : count;
+}
+
 ssize_t read(int descriptor, void *out, size_t count)
 {
     if (fails(descriptor == 0 ? "input" : "file"))
@@ -117,7 +123,7 @@ ssize_t __write(int descriptor, const void *bytes, size_t count)
 
 ssize_t pread64(int descriptor, void *out, size_t count, off_t at)
 {
-    return fails("store") ? -1 : syscall(SYS_pread64, descriptor, out, count, at);
+    return fails("store") ? -1 : syscall(SYS_pread64, descriptor, out, at_most_of("store", count), at);
 }
 
 ssize_t pread(int descriptor, void *out, size_t count, off_t at)
@@ -127,7 +133,7 @@ ssize_t pread(int descriptor, void *out, size_t count, off_t at)
 
 ssize_t pwrite64(int descriptor, const void *bytes, size_t count, off_t at)
 {
-    return fails("store") ? -1 : syscall(SYS_pwrite64, descriptor, bytes, count, at);
+    return fails("store") ? -1 : syscall(SYS_pwrite64, descriptor, bytes, at_most_of("store", count), at);
 }
 
 ssize_t pwrite(int descriptor, const void *bytes, size_t count, off_t at)
@@ -166,8 +172,7 @@ ssize_t send(int connection, const void *bytes, size_t count, int flags)
 {
     if (fails("send"))
         return error ? -1 : 0;
-    count = which && !strcmp("send", which) ? at_most(count) : count;
-    return syscall(SYS_sendto, connection, bytes, count, flags, NULL, 0);
+    return syscall(SYS_sendto, connection, bytes, at_most_of("send", count), flags, NULL, 0);
 }
 
 int accept4(int listener, struct sockaddr *address, socklen_t *length, int flags)

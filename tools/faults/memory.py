@@ -1,11 +1,11 @@
 """Two initiators of the target of crates/two_initiators, which goes on where an allocation fails.
 
-A writes 1 MiB to the disk, as its data is asked for, while B writes records to the tape and reads them back. A resets the
-disk while B has a WRITE in flight and a command behind it. Each reads what both wrote. Then A reserves the disk and goes, and
-B preempts. Whatever allocation fails, one initiator is closed at the most. It was answered the first PDUs of the plain run,
-and the other one is answered as in a run in which that one sends nothing from the piece on at which it was closed, or from
-the next one on; and what it wrote there is to be read only where it was answered. It is closed no earlier as the number of
-the allocation rises.
+A writes 1 MiB to the disk, as its data is asked for, while B writes records to the tape and reads them back, and behind them
+fixed blocks. A resets the disk while B has a WRITE in flight and a command behind it. Each reads what both wrote. Then A
+reserves the disk and goes, and B preempts. Whatever allocation fails, one initiator is closed at the most. It was answered
+the first PDUs of the plain run, and the other one is answered as in a run in which that one sends nothing from the piece on
+at which it was closed, or from the next one on; and what it wrote there is to be read only where it was answered. It is
+closed no earlier as the number of the allocation rises.
 """
 
 import errno
@@ -30,11 +30,13 @@ READ = "[SCSI-Command F R ITT={} CmdSN={} ExpectedDataTransferLength=1024 CDB=28
 TAPE_WRITE = "[SCSI-Command F W LUN=1 ITT={} CmdSN={} ExpectedDataTransferLength={} CDB=0a000000{:02x}00 | {}]"
 TAPE = "[SCSI-Command F LUN=1 ITT={} CmdSN={} CDB={}]"
 TAPE_READ = "[SCSI-Command F R LUN=1 ITT={} CmdSN={} ExpectedDataTransferLength={} CDB=080{}0000{:02x}00]"
+SELECT = "[SCSI-Command F W LUN=1 ITT={} CmdSN={} ExpectedDataTransferLength=12 CDB=151000000c00 | 00000008 00*6 0014]"
+BLOCKS_WRITE = "[SCSI-Command F W LUN=1 ITT={} CmdSN={} ExpectedDataTransferLength={} CDB=0a010000{:02x}00 | {}]"
 RESERVE = "[SCSI-Command F W ITT={} CmdSN={} ExpectedDataTransferLength=24 CDB=5f{}00000000001800 | {}]"
 KEYS = "[SCSI-Command F R ITT={} CmdSN={} ExpectedDataTransferLength=16 CDB=5e000000000000001000]"
 RESET = "[Task-Management-Request I Function=5 LUN=0 ITT=9 CmdSN=2 ReferencedTaskTag=0xffffffff]"
 LOGOUT = "[Logout-Request Reason=0 ITT={} CmdSN={}]"
-REWIND, FILEMARK = "010000000000", "100000000100"
+REWIND, FILEMARK, LOCATE = "010000000000", "100000000100", "2b0000{:08x}000000"
 WRITTEN_AT = (15, 127, 639, 1151, 1663, 2047, 2999)  # each with the block behind it: where one part of A's data ends
 
 
@@ -45,8 +47,9 @@ def disk_reads(c, number):
 
 def tape_reads(c, number):
     """And what was written to the tape."""
-    return [(c, TAPE.format(number, number, REWIND))] \
-        + [(c, TAPE_READ.format(number + n, number + n, 16, 2, 16)) for n in (1, 2, 3)]
+    return [(c, READY.format(1, number, number)), (c, TAPE.format(number + 1, number + 1, REWIND))] \
+        + [(c, TAPE_READ.format(number + n, number + n, 16, 2, 16)) for n in (2, 3, 4)] \
+        + [(c, TAPE_READ.format(number + 5, number + 5, 80, 1, 4))]
 
 
 # What is sent, in this order.
@@ -59,21 +62,23 @@ PARTS = [
     (A, DATA.format(2, 589824, 55, 262144)), (B, TAPE_READ.format(6, 5, 8, 0, 8)),
     (A, DATA.format(3, 851968, 66, 196608)), (B, TAPE_READ.format(7, 6, 4, 0, 4)),
     (B, TAPE_READ.format(8, 7, 8, 0, 8)), (B, TAPE_READ.format(9, 8, 8, 0, 8)),
-    (B, WRITE.format(2, 9, "")), (B, READY.format(1, 3, 10)), (A, RESET), (B, DATA.format(0, 0, 77, 512)),
-    (B, READY.format(0, 3, 11)), (A, READY.format(0, 3, 2)),
-    *disk_reads(A, 3), *tape_reads(A, 10), *disk_reads(B, 12), *tape_reads(B, 19),
-    (A, RESERVE.format(30, 14, "0000", "00*15 a1 00*8")), (A, RESERVE.format(31, 15, "0105", "00*7 a1 00*16")),
-    (B, WRITE.format(30, 23, " | 88*512")), (B, READ.format(31, 24, 3000)),
-    (A, WRITE.format(32, 16, " | 99*512")), (A, LOGOUT.format(33, 17)),
-    (B, WRITE.format(32, 25, " | 88*512")), (B, RESERVE.format(33, 26, "0000", "00*15 b2 00*8")),
-    (B, RESERVE.format(34, 27, "0405", "00*7 b2 00*7 a1 00*8")), (B, KEYS.format(35, 28)),
-    (B, WRITE.format(36, 29, " | aa*512")), (B, READ.format(37, 30, 2999)),
+    (B, SELECT.format(10, 9)), (B, BLOCKS_WRITE.format(11, 10, 60, 3, "aa*20 bb*20 cc*20")),
+    (B, TAPE.format(12, 11, LOCATE.format(3))), (B, TAPE_READ.format(13, 12, 80, 1, 4)),
+    (B, WRITE.format(2, 13, "")), (B, READY.format(1, 3, 14)), (A, RESET), (B, DATA.format(0, 0, 77, 512)),
+    (B, READY.format(0, 3, 15)), (A, READY.format(0, 3, 2)),
+    *disk_reads(A, 3), *tape_reads(A, 10), *disk_reads(B, 16), *tape_reads(B, 23),
+    (A, RESERVE.format(30, 16, "0000", "00*15 a1 00*8")), (A, RESERVE.format(31, 17, "0105", "00*7 a1 00*16")),
+    (B, WRITE.format(30, 29, " | 88*512")), (B, READ.format(31, 30, 3000)),
+    (A, WRITE.format(32, 18, " | 99*512")), (A, LOGOUT.format(33, 19)),
+    (B, WRITE.format(32, 31, " | 88*512")), (B, RESERVE.format(33, 32, "0000", "00*15 b2 00*8")),
+    (B, RESERVE.format(34, 33, "0405", "00*7 b2 00*7 a1 00*8")), (B, KEYS.format(35, 34)),
+    (B, WRITE.format(36, 35, " | aa*512")), (B, READ.format(37, 36, 2999)),
 ]
 # What the plain run is answered, to each initiator: the status of each SCSI Response that is not GOOD, and its sense data.
 REFUSED = {
-    A: ["02/06/2900", "02/06/2900", "02/06/2903", "02/00/0001"],
-    B: ["02/06/2900", "02/06/2900", "02/00/0000", "02/00/0000", "02/00/0001", "02/08/0005", "02/06/2903", "02/00/0001", "18",
-        "18"],
+    A: ["02/06/2900", "02/06/2900", "02/06/2903", "02/06/2a01", "02/00/0001", "02/08/0005"],
+    B: ["02/06/2900", "02/06/2900", "02/00/0000", "02/00/0000", "02/00/0001", "02/08/0005", "02/08/0005", "02/06/2903",
+        "02/00/0001", "02/08/0005", "18", "18"],
 }
 
 

@@ -6,6 +6,8 @@ import tempfile
 from faults.serve import Failed
 from replay.program import at_once
 
+OUT_OF_MEMORY = (3, b"targetd: out of memory\n")
+
 
 class Sweep:
     """The runs of one input in which a call of one kind fails."""
@@ -56,3 +58,9 @@ def is_front_of_lines(sweep, ended):
     """The output is whole lines that the plain run begins with."""
     out = ended.stdout
     return sweep.plain.stdout.startswith(out) and (not out or out.endswith(b"\n"))
+
+
+def out_of_memory(sweep, _, ended):
+    """It ends with out of memory, or the allocation was not needed."""
+    ran_out = (ended.status, ended.stderr) == OUT_OF_MEMORY and is_front_of_lines(sweep, ended)
+    return ran_out or ended == sweep.plain
