@@ -1,10 +1,11 @@
-"""Three initiators of one target, over `targetd serve`, one of which resets a unit, while an allocation fails.
+"""Three initiators of one target, over `targetd serve` with a log, one of which resets a unit, while an allocation fails.
 
 A has a WRITE (10) of LUN 1 in flight. B has one of LUN 0 in flight, and behind it a READ of LUN 1 and TEST UNIT
 READYs of LUN 0, the last of them held. C reads. A resets LUN 0, which removes B's commands of LUN 0, and its READ is
 done in the same event. Then B's data comes and is dropped, all are told of the reset, and A and B write. Whatever
 fails, one initiator is closed at the most. It was answered the first PDUs of the plain run, and all others, and the
-disk, are as in a run in which that one leaves before the part at which it was closed, or behind it.
+disk, are as in a run in which that one leaves before the part at which it was closed, or behind it. The log tells of that
+one that it ended by out of memory, and of nobody else.
 """
 
 import errno
@@ -64,7 +65,7 @@ def is_whole(answer):
     return bool(found) and not rest and found[-1][0][0] == pdu.LAYOUTS["NOP-In"][0]
 
 
-SCRIPT = Script(3, [(c, notation.data(text + PING, {})) for c, text in PARTS], exchange)
+SCRIPT = Script(3, [(c, notation.data(text + PING, {})) for c, text in PARTS], exchange, is_logged=True)
 
 
 def answered(ended, c):
@@ -86,6 +87,16 @@ def check_front(plain, ended, c):
         raise Failed(f"what {'ABC'[c]} was answered is not how the plain run begins")
 
 
+def check_log(ended):
+    """Who was closed is told to have ended by out of memory, with its login or without. All before it are there still, so
+    it has the number of its place."""
+    wanted = [f"session of connection {c} ended: out of memory" if answered(ended, c) else
+              f"connection {c} ended without a login: out of memory" for c in ended.closed]
+    told = [line.partition(" ")[2] for line in ended.log.splitlines() if line.endswith("out of memory")]
+    if told != wanted:
+        raise Failed(f"the log tells {told}, in place of {wanted}")
+
+
 def check(plain, ended, left):
     """Who was closed was answered a front of the plain run, and the others as if it had left."""
     if ended.status not in (None, 3):
@@ -96,6 +107,7 @@ def check(plain, ended, left):
         return
     if len(ended.closed) > 1:
         raise Failed("one allocation failed, and several connections were closed")
+    check_log(ended)
     others = set(range(SCRIPT.initiators)) - set(ended.closed)
     wanted = [left(c, part + behind) for c, part in ended.closed.items() for behind in (0, 1)] or [plain]
     if seen(ended, others) not in [seen(one, others) for one in wanted]:

@@ -14,7 +14,7 @@ PAUSE = 0.2  # seconds within which a program ends that has closed its connectio
 AT_ONCE = 4  # runs beside each other
 LENGTH = 4096 * 512  # of the disk in a file
 CONFIG = """listen = "127.0.0.1:0"
-[[target]]
+{}[[target]]
 name = "t1"
 [[target.unit]]
 lun = 0
@@ -35,27 +35,29 @@ class Failed(Exception):
 
 class Script(NamedTuple):
     """How many initiators there are, what is sent, each part by one of them, and how a part's answer is had: it sends
-    the part, and gives the answer and whether the connection is open behind it."""
+    the part, and gives the answer and whether the connection is open behind it. And whether there is a log."""
     initiators: int
     parts: list
     exchange: Callable
+    is_logged: bool = False
 
 
 class Ended(NamedTuple):
     """The answer to each part, None where it was not sent; the initiators whose connection had ended, each with the
-    part at which; the disk; the status, where the program ended by itself; how many calls failed."""
+    part at which; the disk; the status, where the program ended by itself; how many calls failed; the log."""
     answers: list
     closed: dict
     disk: bytes
     status: Optional[int]
     failures: int
+    log: str
 
 
 @contextmanager
-def started(program, shim, folder, report, settings):
+def started(program, shim, folder, report, settings, log):
     """The program on a disk of zeros, and the port that it listens on, or None where it has ended."""
     (folder / "disk").write_bytes(bytes(LENGTH))
-    (folder / "config.toml").write_text(CONFIG.format(folder / "disk"), encoding="ascii")
+    (folder / "config.toml").write_text(CONFIG.format(log, folder / "disk"), encoding="ascii")
     chosen = {f"FAIL_{name.upper()}": str(value) for name, value in settings.items()}
     inherited = {**os.environ, "LD_PRELOAD": str(shim), **chosen, "FAIL_REPORT": str(report.fileno())}
     with subprocess.Popen([program, "serve", "--config", folder / "config.toml"], env=inherited,
@@ -96,7 +98,10 @@ def run(script, program, shim, leaving=None, **settings):
     connection before that part is sent."""
     with tempfile.TemporaryDirectory() as folder, tempfile.TemporaryFile() as report:
         folder = Path(folder)
-        with started(program, shim, folder, report, settings) as (process, port):
+        log = folder / "log"
+        log.touch()
+        line = f'log = "{log}"\n' if script.is_logged else ""
+        with started(program, shim, folder, report, settings, line) as (process, port):
             try:
                 clients = connected(port, script.initiators) if port else []
             except OSError:
@@ -106,7 +111,7 @@ def run(script, program, shim, leaving=None, **settings):
                 client.close()
             status = ended_by_itself(process, LIMIT if not clients else PAUSE if closed else 0)
         failures = os.fstat(report.fileno()).st_size // len("failed\n")
-        return Ended(answers, closed, (folder / "disk").read_bytes(), status, failures)
+        return Ended(answers, closed, (folder / "disk").read_bytes(), status, failures, log.read_text(encoding="ascii"))
 
 
 def ended_by_itself(process, seconds):
