@@ -100,6 +100,8 @@ static void login(struct session *session, int port_number)
                             limit, MOST);
     if (asks > 0 && size < 512)
         size += 1 + snprintf(data + size, 512 - (size_t)size, "%s%ld", most_asks, asks);
+    if (burst > 0 && size < 512)
+        size += 1 + snprintf(data + size, 512 - (size_t)size, "MaxBurstLength=%ld", burst);
     if (size > 512)
         fail("the name of the target is too long");
     put_number(pdu, 4, (size_t)size);

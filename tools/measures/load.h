@@ -16,7 +16,8 @@
    apart=1    a session sends nothing before all commands of the one before it are answered
    bytewise=1 each byte is sent by a call of its own
    flood=1    it logs in nowhere, but connects and resets, over and over, which counts as a command
-   asks=N     each login offers this MaxOutstandingR2T, and "logged in" is followed by that which is in force */
+   asks=N     each login offers this MaxOutstandingR2T, and "logged in" is followed by that which is in force
+   burst=N    each login offers this MaxBurstLength */
 
 #include "fields.h"
 
@@ -47,7 +48,7 @@ static const struct kind {
 static const struct kind *kind = kinds;
 static const char *target = "t1";
 static long port, lun, connections = 1, window = 1, count = 1L << 40, milliseconds = 3600000, length;
-static long over = 1, held, stalled, apart, bytewise, flood, asks;
+static long over = 1, held, stalled, apart, bytewise, flood, asks, burst;
 static const struct {
     const char *name;
     long *value, most;
@@ -64,7 +65,8 @@ static const struct {
                {"apart", &apart, 1},
                {"bytewise", &bytewise, 1},
                {"flood", &flood, 1},
-               {"asks", &asks, 65535}};
+               {"asks", &asks, 65535},
+               {"burst", &burst, 16777215}};
 
 /* Notes what a word says. Whether it says anything. */
 static int is_taken(const char *word)
