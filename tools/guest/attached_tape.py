@@ -82,6 +82,16 @@ def keeps_archives_in_fixed_blocks(lab):
     must(said.strip().endswith("512"), said)
 
 
+def reads_records_of_an_archive_as_fixed_blocks(lab):
+    """The other way round: an archive that was written in variable blocks, one of 512 bytes by each WRITE."""
+    sets_blocks(lab, 0)
+    lab.guest.says("/bin/tar -b 1 -cf /dev/nst0 /files", LONG)
+    for blocks in (1, 20, 128):
+        sets_blocks(lab, 512)
+        lab.guest.says(f"/bin/tar -b {blocks} -df /dev/nst0 -C /", LONG)
+    sets_blocks(lab, 0)
+
+
 def reads_fixed_blocks_up_to_a_filemark(lab):
     """Fourteen blocks, a filemark and nine more, by READs of four."""
     guest = lab.guest
@@ -136,6 +146,7 @@ CHECKS = [
     unloads_and_loads,
     tells_and_seeks_with_scsi2logical,
     keeps_archives_in_fixed_blocks,
+    reads_records_of_an_archive_as_fixed_blocks,
     reads_fixed_blocks_up_to_a_filemark,
     refuses_records_of_another_length_in_fixed_blocks,
     fills_a_tape_with_fixed_blocks,
