@@ -23,12 +23,14 @@ by_four k m even =
     omega (arith, product, same)
 
 -- the same between places that are equal
-along : (size burst : ℕ) (pieces : List Piece) (from to from' to' : ℕ) → from ≡ from' → to ≡ to' → AreCut size burst from to pieces → AreCut size burst from' to' pieces
+along : (size burst : ℕ) (pieces : List Piece) (from to from' to' : ℕ) → from ≡ from' → to ≡ to' → AreCut size burst from to pieces
+    → AreCut size burst from' to' pieces
 along size burst pieces from to from' to' same_from same_to cut =
     subst (λ (n : ℕ). AreCut size burst n to' pieces) same_from (subst (λ (n : ℕ). AreCut size burst from n pieces) same_to cut)
 
 -- pieces behind pieces
-joined : (size burst : ℕ) (ps qs : List Piece) (from mid to : ℕ) → AreCut size burst from mid ps → AreCut size burst mid to qs → AreCut size burst from to (ps ++ qs)
+joined : (size burst : ℕ) (ps qs : List Piece) (from mid to : ℕ) → AreCut size burst from mid ps → AreCut size burst mid to qs
+    → AreCut size burst from to (ps ++ qs)
 joined size burst [] qs from mid to first second = along size burst qs mid to from to (sym first) refl second
 joined size burst (p ∷ ps) qs from mid to first second = (first.0, joined size burst ps qs (from + p.length) mid to first.1 second)
 

@@ -97,7 +97,8 @@ behind items head o m long within past =
 put_in_front : (items new head rest : List ℕ) (o n size at : ℕ) → length head ≡ headroom → o + n ≤ size → headroom + size ≤ length items
     → at ≡ headroom + o → new ≡ take o items ++ (head ++ drop (o + headroom) items)
     → slice_range new o (headroom + (o + n)) ++ (rest ++ drop (max o (headroom + size)) new)
-    ≡ slice_range items at (headroom + o) ++ (((head ++ take (o + n - o) (drop o (drop headroom items))) ++ rest) ++ drop (max at (headroom + size)) items)
+    ≡ slice_range items at (headroom + o) ++ (((head ++ take (o + n - o) (drop o (drop headroom items))) ++ rest)
+    ++ drop (max at (headroom + size)) items)
 put_in_front items new head rest o n size at long within room place written =
     let none : headroom + o - at ≡ 0 = omega arith in
     let first : slice_range new o (headroom + (o + n)) ≡ head ++ take n (drop (o + headroom) items) =
@@ -111,7 +112,8 @@ put_in_front items new head rest o n size at long within room place written =
     ap (λ (xs : List ℕ). xs ++ (rest ++ drop (max o (headroom + size)) new)) (first ∙ ap (λ (xs : List ℕ). head ++ xs) part)
     ∙ ap (λ (xs : List ℕ). (head ++ take (o + n - o) (drop o (drop headroom items))) ++ (rest ++ xs)) last
     ∙ sym (append_assoc (head ++ take (o + n - o) (drop o (drop headroom items))) rest (drop (max at (headroom + size)) items))
-    ∙ ap (λ (k : ℕ). take k (drop at items) ++ (((head ++ take (o + n - o) (drop o (drop headroom items))) ++ rest) ++ drop (max at (headroom + size)) items)) (sym none)
+    ∙ ap (λ (k : ℕ). take k (drop at items) ++ (((head ++ take (o + n - o) (drop o (drop headroom items))) ++ rest)
+    ++ drop (max at (headroom + size)) items)) (sym none)
 
 -- ---- the cursor
 
@@ -150,9 +152,12 @@ settles c buffer head p placed found at is written =
     ap (λ (xs : List ℕ). slice_range buffer.items o (headroom + (o + p.length)) ++ (xs ++ drop (max o (headroom + c.length)) buffer.items))
     (same_pieces c.length c.limits.burst (o + p.length) ps (c.number + 1) c.shared (drop headroom buffer.items) d after.others same)
     ∙ put_in_front c.buffer.items buffer.items head rest o p.length c.length c.at long within room at written
-    ∙ ap (λ (n : ℕ). slice_range c.buffer.items c.at (headroom + o) ++ (((head ++ take (n + p.length - n) (drop n d)) ++ rest) ++ drop (max c.at (headroom + c.length)) c.buffer.items)) (sym begins)
-    ∙ ap (λ (xs : List ℕ). slice_range c.buffer.items c.at (headroom + o) ++ (((xs ++ part_of d p) ++ rest) ++ drop (max c.at (headroom + c.length)) c.buffer.items)) is
-    ∙ ap (λ (qs : List Piece). slice_range c.buffer.items c.at (headroom + o) ++ (flat_map (unpadded c.shared d) (enumerate_from c.number qs) ++ drop (max c.at (headroom + c.length)) c.buffer.items)) (sym after.first)
+    ∙ ap (λ (n : ℕ). slice_range c.buffer.items c.at (headroom + o) ++ (((head ++ take (n + p.length - n) (drop n d)) ++ rest)
+    ++ drop (max c.at (headroom + c.length)) c.buffer.items)) (sym begins)
+    ∙ ap (λ (xs : List ℕ). slice_range c.buffer.items c.at (headroom + o) ++ (((xs ++ part_of d p) ++ rest)
+    ++ drop (max c.at (headroom + c.length)) c.buffer.items)) is
+    ∙ ap (λ (qs : List Piece). slice_range c.buffer.items c.at (headroom + o)
+    ++ (flat_map (unpadded c.shared d) (enumerate_from c.number qs) ++ drop (max c.at (headroom + c.length)) c.buffer.items)) (sym after.first)
 
 pub settles_ready : (c : Cursor) (buffer : Filled) (head : List ℕ) (p : Piece) → IsPlaced c → slice_get (all_pieces c) c.number ≡ Some p
     → length head ≡ headroom → buffer.items ≡ take c.offset c.buffer.items ++ (head ++ drop (c.offset + headroom) c.buffer.items)
@@ -193,7 +198,8 @@ last_bytes c placed past =
     let items = c.buffer.items in
     let whole : c.offset ≡ c.length = (let below = placed.below in omega arith) in
     let none = no_piece c.length c.limits.burst c.offset (pieces_left c) whole placed.cut in
-    ap (λ (ps : List Piece). slice_range items c.at (headroom + c.offset) ++ (flat_map (unpadded c.shared (drop headroom items)) (enumerate_from c.number ps) ++ drop (max c.at (headroom + c.length)) items)) none
+    ap (λ (ps : List Piece). slice_range items c.at (headroom + c.offset)
+    ++ (flat_map (unpadded c.shared (drop headroom items)) (enumerate_from c.number ps) ++ drop (max c.at (headroom + c.length)) items)) none
     ∙ ap (λ (n : ℕ). take (headroom + n - c.at) (drop c.at items) ++ drop (max c.at (headroom + c.length)) items) whole
     ∙ (let count : max c.at (headroom + c.length) ≡ c.at + (headroom + c.length - c.at) = omega arith in
     ap (λ (n : ℕ). take (headroom + c.length - c.at) (drop c.at items) ++ drop n items) count)
@@ -222,7 +228,8 @@ moves_within c n placed within short =
     ap (λ (k : ℕ). slice_range items (c.at + n) (headroom + c.offset) ++ (rest ++ drop k items)) same
     ∙ sym (front_bytes items (rest ++ drop (max c.at (headroom + c.length)) items) c.at (headroom + c.offset) n short (omega arith))
 
-moved_placed : (c : Cursor) (n : ℕ) → IsPlaced c → c.at + n ≤ length c.buffer.items → (c.offset < c.length → c.at + n ≤ headroom + c.offset) → IsPlaced (moved c n)
+moved_placed : (c : Cursor) (n : ℕ) → IsPlaced c → c.at + n ≤ length c.buffer.items → (c.offset < c.length → c.at + n ≤ headroom + c.offset)
+    → IsPlaced (moved c n)
 unfolding pieces_left
 moved_placed c n placed room near = record {
   limits = placed.limits;
@@ -235,7 +242,8 @@ moved_placed c n placed room near = record {
   cut = placed.cut;
 }
 
-pub moves : (c : Cursor) (n end : ℕ) → IsPlaced c → (c.offset < c.length → end ≡ headroom + c.offset) → (c.length ≤ c.offset → end ≡ length c.buffer.items) → c.at + n ≤ end
+pub moves : (c : Cursor) (n end : ℕ) → IsPlaced c → (c.offset < c.length → end ≡ headroom + c.offset) → (c.length ≤ c.offset → end
+    ≡ length c.buffer.items) → c.at + n ≤ end
     → IsPlaced (moved c n) × (left (moved c n) ≡ drop n (left c))
 moves c n end placed more last short =
     let room = placed.within in
@@ -251,7 +259,8 @@ moves c n end placed more last short =
     ]
 
 -- what stands together is the front of what is left
-pub fronts : (c : Cursor) (end : ℕ) → IsPlaced c → (c.offset < c.length → end ≡ headroom + c.offset) → (c.length ≤ c.offset → end ≡ length c.buffer.items)
+pub fronts : (c : Cursor) (end : ℕ) → IsPlaced c → (c.offset < c.length → end ≡ headroom + c.offset) → (c.length ≤ c.offset → end
+    ≡ length c.buffer.items)
     → c.at ≤ end → (end ≤ length c.buffer.items) × (slice_range c.buffer.items c.at end ≡ take (end - c.at) (left c))
 unfolding left pieces_left
 fronts c end placed more last ahead =
@@ -261,7 +270,8 @@ fronts c end placed more last ahead =
       | inl within ↦
           let is = more within in
           let long : length (slice_range items c.at end) ≡ end - c.at = simp (length-take, length-drop) (omega arith) in
-          let rest = flat_map (unpadded c.shared (drop headroom items)) (enumerate_from c.number (pieces_left c)) ++ drop (max c.at (headroom + c.length)) items in (
+          let rest = flat_map (unpadded c.shared (drop headroom items)) (enumerate_from c.number (pieces_left c))
+          ++ drop (max c.at (headroom + c.length)) items in (
             omega arith,
             sym (take_at (slice_range items c.at end) rest (end - c.at) long)
                 ∙ ap (λ (k : ℕ). take (end - c.at) (slice_range items c.at k ++ rest)) is,
@@ -272,7 +282,8 @@ fronts c end placed more last ahead =
     ]
 
 -- where bytes are left, some stand together
-pub some_stand : (c : Cursor) (end : ℕ) → IsReady c → (c.offset < c.length → end ≡ headroom + c.offset) → (c.length ≤ c.offset → end ≡ length c.buffer.items)
+pub some_stand : (c : Cursor) (end : ℕ) → IsReady c → (c.offset < c.length → end ≡ headroom + c.offset) → (c.length ≤ c.offset → end
+    ≡ length c.buffer.items)
     → 0 < length (left c) → c.at < end
 some_stand c end ready more last some =
     elim (cases_lt c.offset c.length) [
@@ -284,7 +295,8 @@ some_stand c end ready more last some =
     ]
 
 -- what stands together is left to be sent
-pub stand_there : (c : Cursor) (end : ℕ) → IsPlaced c → (c.offset < c.length → end ≡ headroom + c.offset) → (c.length ≤ c.offset → end ≡ length c.buffer.items)
+pub stand_there : (c : Cursor) (end : ℕ) → IsPlaced c → (c.offset < c.length → end ≡ headroom + c.offset) → (c.length ≤ c.offset → end
+    ≡ length c.buffer.items)
     → c.at ≤ end → end - c.at ≤ length (left c)
 stand_there c end placed more last ahead =
     let is = fronts c end placed more last ahead in

@@ -72,15 +72,18 @@ padded_last size burst from (p ∷ ps) number shared d t by_4 long cut =
           let even = aligned before in
           let none : padding (length (part_of d p)) ≡ [] = counted ∙ no_padding p.length (omega arith) in
           ap (λ (xs : List ℕ). (head ++ (part_of d p ++ xs)) ++ others) none
-          ∙ ap (λ (xs : List ℕ). (head ++ (part_of d p ++ [])) ++ xs) (padded_last size burst (from + p.length) ps (number + 1) shared d t even long cut.1)
+          ∙ ap (λ (xs : List ℕ). (head ++ (part_of d p ++ []))
+          ++ xs) (padded_last size burst (from + p.length) ps (number + 1) shared d t even long cut.1)
           ∙ one_padded head (part_of d p) rest (padding size) ∙ same
       | inr past ↦
           let none = no_piece size burst (from + p.length) ps (omega arith) cut.1 in
           let pad : padding (length (part_of d p)) ≡ padding size = counted ∙ same_padding p.length size (omega arith) in
           ap (λ (xs : List ℕ). (head ++ (part_of d p ++ xs)) ++ others) pad
-          ∙ ap (λ (qs : List Piece). (head ++ (part_of d p ++ padding size)) ++ flat_map spelling (map (data_in shared d) (enumerate_from (number + 1) qs))) none
+          ∙ ap (λ (qs : List Piece). (head ++ (part_of d p ++ padding size))
+          ++ flat_map spelling (map (data_in shared d) (enumerate_from (number + 1) qs))) none
           ∙ last_padded head (part_of d p) (padding size)
-          ∙ ap (λ (qs : List Piece). ((head ++ part_of d p) ++ flat_map (unpadded shared (d ++ t)) (enumerate_from (number + 1) qs)) ++ padding size) (sym none)
+          ∙ ap (λ (qs : List Piece). ((head ++ part_of d p) ++ flat_map (unpadded shared (d ++ t)) (enumerate_from (number + 1) qs))
+          ++ padding size) (sym none)
           ∙ same
     ]
 
@@ -126,7 +129,8 @@ start_answered buffer shared limits items last size aligned long written =
 
 -- ---- how long it is
 
-pieces_long : (size burst from : ℕ) (pieces : List Piece) (number : ℕ) (shared : SharedFields) (d : List ℕ) → size ≤ length d → AreCut size burst from size pieces
+pieces_long : (size burst from : ℕ) (pieces : List Piece) (number : ℕ) (shared : SharedFields) (d : List ℕ) → size ≤ length d
+    → AreCut size burst from size pieces
     → length (flat_map (unpadded shared d) (enumerate_from number pieces)) + from ≡ headroom * length pieces + size
 pieces_long size burst from [] number shared d long cut = omega (arith, cut)
 pieces_long size burst from (p ∷ ps) number shared d long cut =

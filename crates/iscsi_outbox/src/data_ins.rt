@@ -1,6 +1,6 @@
 //! The data of a command that is cut as it is sent.
 
-ghost use Rattle.std.specs.Prelude.{◌≡◌, ◌<◌, ◌≤◌, ◌+◌, ◌^◌, length, take, drop};
+ghost use Rattle.std.specs.Prelude.{◌≡◌, ◌<◌, ◌≤◌, ◌+◌, ◌^◌, [], length, take, drop};
 ghost use Rattle.scsi_sense.specs.Given.{headroom};
 ghost use Rattle.iscsi_pdu.specs.Answer.{spelling};
 ghost use Rattle.iscsi_outbox.specs.Answer.{AreAligned, answered};
@@ -82,8 +82,12 @@ impl DataIns {
         step
     }
 
-    /// The buffer, to be used again.
-    pub fn into_buffer(self) -> BytesMut {
-        self.cursor.buffer
+    /// The buffer, to be used again. None of its bytes is left in it.
+    pub fn into_buffer(self) -> BytesMut
+        ensures { result.items ≡ [] }
+    {
+        let mut buffer = self.cursor.buffer;
+        buffer.clear();
+        buffer
     }
 }

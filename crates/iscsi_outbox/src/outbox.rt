@@ -1,6 +1,6 @@
 //! What waits to be sent on a connection.
 
-ghost use Rattle.std.specs.Prelude.{◌≡◌, ◌<◌, ◌≤◌, ◌+◌, ◌++◌, ◌==◌, [], length, take, drop, nat_lt, OnOk};
+ghost use Rattle.std.specs.Prelude.{◌≡◌, ◌<◌, ◌≤◌, ◌+◌, ◌++◌, ◌==◌, [], length, take, drop, nat_lt, OnOk, IfSome};
 ghost use Rattle.iscsi_pdu.specs.Answer.{spelling};
 
 use crate::data_ins::DataIns;
@@ -119,6 +119,7 @@ impl Outbox {
         ensures spare { self.old.spare ≤ self.new.spare }
         ensures slots { self.old.slots ≤ self.new.slots }
         ensures runs { self.new.runs ≤ self.old.runs }
+        ensures spent { IfSome result.1 (λ buffer. buffer.items ≡ []) }
     {
         if !self.runs.is_empty() {
             return skip_in(&mut self.runs, n);

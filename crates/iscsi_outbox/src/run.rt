@@ -94,6 +94,7 @@ pub(crate) fn skip_in(runs: &mut VecDeque<Run>, n: usize) -> (usize, Option<Byte
     ensures running { AreRunning runs.new.items }
     ensures capacity { deque_capacity runs.new ≡ deque_capacity runs.old }
     ensures len { deque_len runs.new ≤ deque_len runs.old }
+    ensures spent { IfSome result.1 (λ buffer. buffer.items ≡ []) }
 {
     let run = &mut runs[0];
     let step = run.skip_some(n);

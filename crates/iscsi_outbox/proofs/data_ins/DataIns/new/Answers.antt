@@ -1,37 +1,33 @@
-use Rattle.std.proofs.Common.{◌≡◌, ◌-◌, ◌∙◌, ℕ, List, length, drop, ap, sym, arith, length-drop}
+use Rattle.std.proofs.Common.{◌≡◌, ◌<◌, ◌≤◌, ◌-◌, ◌^◌, ◌∙◌, ℕ, List, length, drop, ap, sym, arith, length-drop}
 use Rattle.iscsi_pdu.specs.Answer.{spelling}
-use Rattle.iscsi_transfer.specs.DataIn.{pieces_of}
+use Rattle.iscsi_transfer.specs.DataIn.{pieces_of, piece_count}
 use Rattle.iscsi_transfer.proofs.Counts.{pieces_are_counted, count_fits}
+use Rattle.iscsi_outbox.specs.declared.limits.Limits.{Limits}
+use Rattle.iscsi_outbox.specs.Answer.{AreAligned}
 use Rattle.iscsi_outbox.proofs.Starts.{answer_long}
 use Rattle.iscsi_outbox.proofs.data_ins.DataIns.new.Goals as goal
 
+-- there are no more pieces than bytes, and of these fewer than 2^32
+bounds : (items : List ℕ) (limits : Limits) (size : ℕ) → AreAligned limits → size ≡ length items → length (drop 48 items) < 2 ^ 32
+    → (piece_count (size - 48) limits.burst limits.segment ≤ size - 48) × (size - 48 < 2 ^ 32)
+bounds items limits size aligned is short =
+    (count_fits (size - 48) limits.burst limits.segment aligned.burst aligned.segment, omega (arith, is, length-drop 48 items))
+
 pub overflow_mul-rest : goal.overflow_mul-rest
 overflow_mul-rest c =
-    let size = c.len-length.result - 48 in
-    let short = c.requires.short in
-    let few = count_fits size c.args.limits.burst c.args.limits.segment c.requires.limits.burst c.requires.limits.segment in
-    omega (arith, few, length-drop 48 c.args.buffer.items)
+    omega (arith, bounds c.args.buffer.items c.args.limits c.len-length.result c.requires.limits c.len-length.ensures.value c.requires.short)
 
 pub overflow_add-rest : goal.overflow_add-rest
 overflow_add-rest c =
-    let size = c.len-length.result - 48 in
-    let short = c.requires.short in
-    let few = count_fits size c.args.limits.burst c.args.limits.segment c.requires.limits.burst c.requires.limits.segment in
-    omega (arith, few, length-drop 48 c.args.buffer.items)
+    omega (arith, bounds c.args.buffer.items c.args.limits c.len-length.result c.requires.limits c.len-length.ensures.value c.requires.short)
 
 pub overflow_add-rest-2 : goal.overflow_add-rest-2
 overflow_add-rest-2 c =
-    let size = c.len-length.result - 48 in
-    let short = c.requires.short in
-    let few = count_fits size c.args.limits.burst c.args.limits.segment c.requires.limits.burst c.requires.limits.segment in
-    omega (arith, few, length-drop 48 c.args.buffer.items)
+    omega (arith, bounds c.args.buffer.items c.args.limits c.len-length.result c.requires.limits c.len-length.ensures.value c.requires.short)
 
 pub overflow_add-rest-3 : goal.overflow_add-rest-3
 overflow_add-rest-3 c =
-    let size = c.len-length.result - 48 in
-    let short = c.requires.short in
-    let few = count_fits size c.args.limits.burst c.args.limits.segment c.requires.limits.burst c.requires.limits.segment in
-    omega (arith, few, length-drop 48 c.args.buffer.items)
+    omega (arith, bounds c.args.buffer.items c.args.limits c.len-length.result c.requires.limits c.len-length.ensures.value c.requires.short)
 
 pub invariant_of-result : goal.invariant_of-result
 invariant_of-result c =
