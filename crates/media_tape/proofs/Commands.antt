@@ -1,6 +1,6 @@
 -- What commands are where nothing is refused.
 use Rattle.std.proofs.Common.{◌≡◌, ℕ, zero, suc, ◌+◌, ◌-◌, ◌*◌, ◌/◌, ◌≤◌, ◌<◌, min, nat_lt, ◌==◌, Bool, true, false, List, [], ◌∷◌, length}
-use Rattle.std.proofs.Common.{inl, inr, refl, ap, sym, ◌∙◌, arith, rules, if◌then◌else◌}
+use Rattle.std.proofs.Common.{inl, inr, refl, ap, ◌∙◌, arith, rules, if◌then◌else◌}
 use Rattle.std.proofs.Math.Nat.{mul-le-mul_right, div-mul-le_self, eq-or-lt_of_le}
 use Rattle.std.proofs.lemmas.Bool.{lt-ltb, le-ltb, ne_eqb}
 use Rattle.media_tape.specs.Items.{Item, Record, size_of, item_of, items_of}
@@ -30,31 +30,23 @@ first_data-item (byte ∷ bytes) items = refl
 pub refused_told : (more : ℕ) (tape : TapeState) → tape.capacity < size_of tape.before + more → size_told more tape ≡ written.Refused
 refused_told more tape less = rw (lt-ltb tape.capacity (size_of tape.before + more) less) refl
 
-pub put_refused : (objects : Objects) (tape : TapeState) → put_if_told objects written.Refused tape ≡ tape
-put_refused (object.Records spelled count size) tape = refl
-put_refused (object.Filemarks count) tape = refl
+pub put_refused : (objects : Objects) (before : Bool) (tape : TapeState)
+    → (put_if_told objects written.Refused tape ≡ tape) × (put_synced objects written.Refused before ≡ before)
+put_refused (object.Records spelled count size) before tape = (refl, refl)
+put_refused (object.Filemarks count) before tape = (refl, refl)
 
 pub fitting_told : (more : ℕ) (tape : TapeState) → size_of tape.before + more ≤ tape.capacity
     → size_told more tape ≡ (if nat_lt tape.early_mark (size_of tape.before + more) then written.Early else written.Whole)
 fitting_told more tape fits = rw (le-ltb tape.capacity (size_of tape.before + more) fits) refl
 
-pub put_fitting : (objects : Objects) (early : Bool) (tape : TapeState) → put_if_told objects (if early then written.Early else written.Whole) tape
-    ≡ record (wrote (items_of (bytes_of objects)) tape) { synced = is_synced objects }
-put_fitting (object.Records spelled count size) true tape = refl
-put_fitting (object.Records spelled count size) false tape = refl
-put_fitting (object.Filemarks count) true tape = refl
-put_fitting (object.Filemarks count) false tape = refl
-
-pub synced_refused : (objects : Objects) (before : Bool) → put_synced objects written.Refused before ≡ before
-synced_refused (object.Records spelled count size) before = refl
-synced_refused (object.Filemarks count) before = refl
-
-pub synced_fitting : (objects : Objects) (early before : Bool)
-    → put_synced objects (if early then written.Early else written.Whole) before ≡ is_synced objects
-synced_fitting (object.Records spelled count size) true before = refl
-synced_fitting (object.Records spelled count size) false before = refl
-synced_fitting (object.Filemarks count) true before = refl
-synced_fitting (object.Filemarks count) false before = refl
+pub put_fitting : (objects : Objects) (early before : Bool) (tape : TapeState)
+    → (put_if_told objects (if early then written.Early else written.Whole) tape
+    ≡ record (wrote (items_of (bytes_of objects)) tape) { synced = is_synced objects })
+    × (put_synced objects (if early then written.Early else written.Whole) before ≡ is_synced objects)
+put_fitting (object.Records spelled count size) true before tape = (refl, refl)
+put_fitting (object.Records spelled count size) false before tape = (refl, refl)
+put_fitting (object.Filemarks count) true before tape = (refl, refl)
+put_fitting (object.Filemarks count) false before tape = (refl, refl)
 
 -- a write of some bytes
 pub write_told-is : (bytes : List ℕ) (tape : TapeState) → 0 < length bytes → write_told bytes tape ≡ size_told (length bytes + 8) tape

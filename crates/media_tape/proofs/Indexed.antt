@@ -12,7 +12,7 @@ use Rattle.media_tape.specs.Writing.{KeepsBefore}
 use Rattle.media_tape.proofs.Items.{front-cases, front-is, length-front, items_of-next, items_of-none, drop-items_of, items_of-replaced}
 use Rattle.media_tape.proofs.Commands.{first_told-item, first_data-item}
 use Rattle.media_tape.proofs.Sizes.{sum-sizes}
-use Rattle.media_tape.proofs.Runs.{sum-append}
+use Rattle.media_tape.proofs.Alike.{sum-append}
 
 -- the items that a content shows by their sizes
 abbrev pub shown : List ℕ → List ℕ → List Item

@@ -3,12 +3,10 @@ pub mod Found
 pub mod Writes
 pub mod Spelled
 pub mod Commands
-pub mod Results
+pub mod Alike
 pub mod Runs
-pub mod RunEnds
-pub mod Indexes
 pub mod SizeWays
-pub mod RunSpacing
+pub mod Spacing
 pub mod SizeFixed
 pub mod Sizes
 pub mod Walks

@@ -1,212 +1,258 @@
--- What a run says of the sizes: those before it, its own, and those behind it.
-use Rattle.std.proofs.Common.{◌≡◌, ℕ, zero, suc, ◌+◌, ◌-◌, ◌*◌, ◌≤◌, ◌<◌, List, [], ◌∷◌, ◌++◌, length}
-use Rattle.std.proofs.Common.{take, drop, reverse, get_or, sum, refl, ap, sym, ◌∙◌, arith, append_assoc, length-append, add-one, subst, mul-le-mul_left}
+-- What runs say of the sizes of their items: those before a run, its own, and those behind it.
+use Rattle.std.proofs.Common.{◌≡◌, ℕ, zero, suc, ◌+◌, ◌-◌, ◌*◌, ◌^◌, ◌≤◌, ◌<◌, List, [], ◌∷◌, ◌++◌, length}
+use Rattle.std.proofs.Common.{take, drop, get_or, sum, refl, ap, sym, ◌∙◌, arith, append_assoc, add-one, mul-le-mul_left, drop-cons}
 use Rattle.std.specs.Prelude.{replicate}
-use Rattle.std.proofs.lemmas.List.{length-replicate, take_at, drop_at, replicate-append-replicate}
-use Rattle.std.proofs.lemmas.List.{reverse-append, replicate_more, get_or-append-add, get_or-replicate, get_or_append_left}
-use Rattle.std.proofs.lemmas.List.Sums.{sum_by-append, sum_by-cons}
-use Rattle.media_tape.specs.Index.{mark_size, most_size}
-use Rattle.media_tape.specs.Runs.{first_at, sizes_of, IsRun, AreRuns, AreAllRuns}
+use Rattle.std.proofs.lemmas.List.{length-drop, length-reverse, length-take-le, length-replicate, length-append, append-nil, take_all, take_at, drop_at, replicate-append-replicate}
+use Rattle.media_tape.specs.Index.{mark_size, most_size, Joins, AreAlike, AreAround, AreAhead, IsLast}
+use Rattle.media_tape.specs.declared.index.Alike.{Alike}
+use Rattle.media_tape.specs.declared.outcome.Direction.TheVariants.{Forward, Backward}
+use Rattle.media_tape.specs.Runs.{no_run, run_before, sizes_of, Follows, AreRuns}
 use Rattle.media_tape.specs.declared.run.Run.{Run}
+use Rattle.media_tape.proofs.Alike.{sum-append, sum-replicate, alike-front, alike-behind, alike-taken, alike-sum, alike-size, alike-back}
 
-pub sum-append : (xs ys : List ℕ) → sum (xs ++ ys) ≡ sum xs + sum ys
-sum-append xs ys = sum_by-append (λ n. n) xs ys
+-- runs up to one, which ends them, and those behind it; and where another ends them
+record IsCut (before : Run) (runs : List Run) (i : ℕ) (last : Run) : Type 0 where
+  pub is : sizes_of before runs ≡ sizes_of before (take i runs) ++ sizes_of last (drop i runs)
+  pub count : before.count + length (sizes_of before (take i runs)) ≡ last.count
+  pub end : before.end + sum (sizes_of before (take i runs)) ≡ last.end
+  pub few : before.count * 8 ≤ before.end → last.count * 8 ≤ last.end
+  pub rest : AreRuns last (drop i runs)
+  pub more : (run : Run) → Follows last run → AreRuns before (take i runs ++ run ∷ [])
+  pub sizes_more : (run : Run) → sizes_of before (take i runs ++ run ∷ []) ≡ sizes_of before (take i runs) ++ replicate (run.count - last.count) run.size
 
-pub sum-replicate : (n size : ℕ) → sum (replicate n size) ≡ n * size
-sum-replicate zero size = omega arith
-sum-replicate (suc n) size = sum_by-cons (λ n. n) size (replicate n size) ∙ ap (λ s. size + s) (sum-replicate n size) ∙ grind arith
-
-pub reverse-replicate : (n size : ℕ) → reverse (replicate n size) ≡ replicate n size
-reverse-replicate zero size = refl
-reverse-replicate (suc n) size =
-    reverse-append (size ∷ []) (replicate n size) ∙ ap (λ l. l ++ size ∷ []) (reverse-replicate n size) ∙ replicate_more n size
-    ∙ ap (λ k. replicate k size) (add-one n)
-
--- ---- of all runs
-
-pub length-sizes_of : (count end number place : ℕ) (runs : List Run) → AreRuns count end number place runs → number + length (sizes_of count runs) ≡ count
-length-sizes_of count end number place [] are = omega (arith, are.0)
-length-sizes_of count end number place (run ∷ runs) are =
-    let next = first_at count runs 0 in
-    let rest = length-sizes_of count end next (place + (next - number) * run.size) runs are.1 in
-    let own = length-replicate (next - run.first) run.size in
-    omega (arith, rest, own, are.0.first, are.0.some, length-append (replicate (next - run.first) run.size) (sizes_of count runs))
-
-pub sum-sizes_of : (count end number place : ℕ) (runs : List Run) → AreRuns count end number place runs → place + sum (sizes_of count runs) ≡ end
-sum-sizes_of count end number place [] are = omega (arith, are.1)
-sum-sizes_of count end number place (run ∷ runs) are =
-    let next = first_at count runs 0 in
-    let rest = sum-sizes_of count end next (place + (next - number) * run.size) runs are.1 in
-    let own : sum (replicate (next - run.first) run.size) ≡ (next - number) * run.size = sum-replicate (next - run.first) run.size
-    ∙ ap (λ n. (next - n) * run.size) are.0.first in
-    omega (arith, rest, own, sum-append (replicate (next - run.first) run.size) (sizes_of count runs))
-
--- each item has eight bytes at least
-pub few-runs : (count end number place : ℕ) (runs : List Run) → AreRuns count end number place runs → number * 8 ≤ place → count * 8 ≤ end
-few-runs count end number place [] are le = omega (arith, are.0, are.1)
-few-runs count end number place (run ∷ runs) are le =
-    let next = first_at count runs 0 in
-    let own : (next - number) * 8 ≤ (next - number) * run.size = mul-le-mul_left (next - number) are.0.least in
-    few-runs count end next (place + (next - number) * run.size) runs are.1 (omega (arith, are.0.some, own))
-
--- ---- of one run
-
--- a run stands behind these runs, up to the next, with these sizes behind it
-pub record HasRun (sizes : List ℕ) (number place : ℕ) (before : List Run) (run : Run) (next : ℕ) : Type 0 where
-  pub many : ℕ
-  pub back : List ℕ
-  pub is : sizes ≡ sizes_of run.first before ++ (replicate many run.size ++ back)
-  pub are : AreRuns run.first run.offset number place before
-  pub next_is : run.first + many ≡ next
-  pub some : 0 < many
-  pub least : mark_size ≤ run.size
-  pub most : run.size ≤ most_size
-
-first_at-take : (count : ℕ) (runs : List Run) (i : ℕ) (d : Run) → i < length runs → first_at (get_or runs i d).first (take i runs) 0 ≡ first_at count runs 0
-first_at-take count [] i d lt = absurd (omega arith)
-first_at-take count (run ∷ runs) zero d lt = refl
-first_at-take count (run ∷ runs) (suc i) d lt = refl
-
-pub has_run : (count end number place : ℕ) (runs : List Run) (i : ℕ) (d : Run) → AreRuns count end number place runs → i < length runs
-    → HasRun (sizes_of count runs) number place (take i runs) (get_or runs i d) (first_at count runs (suc i))
-has_run count end number place [] i d are lt = absurd (omega arith)
-has_run count end number place (run ∷ runs) zero d are lt =
-    let next = first_at count runs 0 in
+cut : (before : Run) (runs : List Run) (i : ℕ) → AreRuns before runs → i ≤ length runs → IsCut before runs i (get_or (before ∷ runs) i no_run)
+cut before runs zero are le = record {
+  is = refl;
+  count = omega arith;
+  end = omega arith;
+  few = λ is. is;
+  rest = are;
+  more = λ run is. (is, tt);
+  sizes_more = λ run. append-nil (replicate (run.count - before.count) run.size);
+}
+cut before [] (suc i) are le = absurd (omega arith)
+cut before (run ∷ runs) (suc i) are le =
+    let rest = cut run runs i are.1 (omega arith) in
+    let own = replicate (run.count - before.count) run.size in
+    let front = sizes_of run (take i runs) in
     record {
-      many = next - run.first;
-      back = sizes_of count runs;
-      is = refl;
-      are = (sym are.0.first, sym are.0.offset);
-      next_is = omega (arith, are.0.first, are.0.some);
-      some = omega (arith, are.0.first, are.0.some);
-      least = are.0.least;
-      most = are.0.most;
-    }
-has_run count end number place (run ∷ runs) (suc i) d are lt =
-    let next = first_at count runs 0 in
-    let that = get_or runs i d in
-    let own : List ℕ = replicate (next - run.first) run.size in
-    let below : i < length runs = omega arith in
-    let rest = has_run count end next (place + (next - number) * run.size) runs i d are.1 below in
-    let same = first_at-take count runs i d below in
-    let P : ℕ → Type 0 = λ n. IsRun run number place n × AreRuns that.first that.offset n (place + (n - number) * run.size) (take i runs) in
-    record {
-      many = rest.many;
-      back = rest.back;
-      is = ap (λ l. own ++ l) rest.is ∙ sym (append_assoc own (sizes_of that.first (take i runs)) (replicate rest.many that.size ++ rest.back))
-          ∙ ap (λ n. (replicate (n - run.first) run.size ++ sizes_of that.first (take i runs)) ++ (replicate rest.many that.size ++ rest.back)) (sym same);
-      are = subst P (sym same) (are.0, rest.are);
-      next_is = rest.next_is;
-      some = rest.some;
-      least = rest.least;
-      most = rest.most;
+      is = ap (λ l. own ++ l) rest.is ∙ sym (append_assoc own front (sizes_of (get_or (run ∷ runs) i no_run) (drop i runs)));
+      count = omega (arith, rest.count, are.0.some, length-append own front, length-replicate (run.count - before.count) run.size);
+      end = omega (arith, rest.end, are.0.end, sum-append own front, sum-replicate (run.count - before.count) run.size);
+      few = λ is.
+          let least : (run.count - before.count) * 8 ≤ (run.count - before.count) * run.size = mul-le-mul_left (run.count - before.count) are.0.least in
+          rest.few (omega (arith, is, are.0.end, are.0.some, least));
+      rest = rest.rest;
+      more = λ next is. (are.0, rest.more next is);
+      sizes_more = λ next. ap (λ l. own ++ l) (rest.sizes_more next)
+          ∙ sym (append_assoc own front (replicate (next.count - (get_or (run ∷ runs) i no_run).count) next.size));
     }
 
--- of all runs, from the first item on
-pub run_has : (count : ℕ) (runs : List Run) (i : ℕ) (run : Run) → AreAllRuns count runs → i < length runs → run ≡ get_or runs i run
-    → HasRun (sizes_of count runs) 0 0 (take i runs) run (first_at count runs (i + 1))
-run_has count runs i run (end, are) lt is =
-    let P : Run → Type 0 = λ r. HasRun (sizes_of count runs) 0 0 (take i runs) r (first_at count runs (i + 1)) in
-    subst P (sym is) (rw (add-one i) (has_run count end 0 0 runs i run are lt))
+-- all runs end with the last
+pub record AreAll (runs : List Run) (last : Run) : Type 0 where
+  pub count : last.count ≡ length (sizes_of no_run runs)
+  pub end : last.end ≡ sum (sizes_of no_run runs)
+  pub few : last.count * 8 ≤ last.end
 
-pub length-all : (count : ℕ) (runs : List Run) → AreAllRuns count runs → length (sizes_of count runs) ≡ count
-length-all count runs (end, are) = omega (arith, length-sizes_of count end 0 0 runs are)
-
-pub first_at-zero : (count : ℕ) (runs : List Run) → AreAllRuns count runs → first_at count runs 0 ≡ 0
-first_at-zero count [] (end, are) = omega (arith, are.0)
-first_at-zero count (run ∷ runs) (end, are) = are.0.first
-
--- the run of an index
-pub first_at-run : (count : ℕ) (runs : List Run) (i : ℕ) (d : Run) → i < length runs → first_at count runs i ≡ (get_or runs i d).first
-first_at-run count [] i d lt = absurd (omega arith)
-first_at-run count (run ∷ runs) zero d lt = refl
-first_at-run count (run ∷ runs) (suc i) d lt = first_at-run count runs i d (omega arith)
-
-pub first_at-past : (count : ℕ) (runs : List Run) (i : ℕ) → length runs ≤ i → first_at count runs i ≡ count
-first_at-past count [] i le = refl
-first_at-past count (run ∷ runs) zero le = absurd (omega arith)
-first_at-past count (run ∷ runs) (suc i) le = first_at-past count runs i (omega arith)
-
--- ---- at a number within a run
-
--- what stands before and behind a number within a run
-pub record IsAt (sizes : List ℕ) (before : List Run) (run : Run) (next at : ℕ) : Type 0 where
-  pub taken : take at sizes ≡ sizes_of run.first before ++ replicate (at - run.first) run.size
-  pub sum_is : run.offset + (at - run.first) * run.size ≡ sum (take at sizes)
-  pub behind : drop at sizes ≡ replicate (next - at) run.size ++ drop next sizes
-  pub back : reverse (take at sizes) ≡ replicate (at - run.first) run.size ++ reverse (take run.first sizes)
-  pub within : next ≤ length sizes
-
-split : (front back : List ℕ) (size i j : ℕ) → front ++ (replicate (i + j) size ++ back) ≡ (front ++ replicate i size) ++ (replicate j size ++ back)
-split front back size i j =
-    ap (λ l. front ++ (l ++ back)) (sym (replicate-append-replicate i j size))
-    ∙ ap (λ l. front ++ l) (append_assoc (replicate i size) (replicate j size) back)
-    ∙ sym (append_assoc front (replicate i size) (replicate j size ++ back))
-
-pub is_at : (sizes : List ℕ) (before : List Run) (run : Run) (next at : ℕ) → HasRun sizes 0 0 before run next → run.first ≤ at → at ≤ next
-    → IsAt sizes before run next at
-is_at sizes before run next at has low high =
-    let i : ℕ = at - run.first in
-    let j : ℕ = next - at in
-    let size = run.size in
-    let many = has.many in
-    let front = sizes_of run.first before in
-    let first : length front ≡ run.first = omega (arith, length-sizes_of run.first run.offset 0 0 before has.are) in
-    let offset : sum front ≡ run.offset = omega (arith, sum-sizes_of run.first run.offset 0 0 before has.are) in
-    let whole : many ≡ i + j = omega (arith, has.next_is) in
-    let here : sizes ≡ (front ++ replicate i size) ++ (replicate j size ++ has.back) =
-    has.is ∙ ap (λ n. front ++ (replicate n size ++ has.back)) whole ∙ split front has.back size i j in
-    let long : length (front ++ replicate i size) ≡ at = omega (arith, length-append front (replicate i size), length-replicate i size) in
-    let taken : take at sizes ≡ front ++ replicate i size =
-    ap (take at) here ∙ take_at (front ++ replicate i size) (replicate j size ++ has.back) at long in
-    let start : take run.first sizes ≡ front = ap (take run.first) has.is ∙ take_at front (replicate many size ++ has.back) run.first first in
-    let rest : drop next sizes ≡ has.back =
-    ap (drop next) (has.is ∙ sym (append_assoc front (replicate many size) has.back))
-    ∙ drop_at (front ++ replicate many size) has.back next (omega (
-      arith,
-      length-append front
-          (replicate many size),
-      length-replicate many size,
-      has.next_is,
-    )) in
-    let total : sum (take at sizes) ≡ run.offset + i * size =
-    ap sum taken ∙ sum-append front (replicate i size) ∙ ap (λ n. sum front + n) (sum-replicate i size) ∙ ap (λ n. n + i * size) offset in
+pub are_all : (runs : List Run) → AreRuns no_run runs → AreAll runs (run_before runs (length runs))
+are_all runs are =
+    let here = cut no_run runs (length runs) are (omega arith) in
+    let all : take (length runs) runs ≡ runs = take_all (length runs) runs (omega arith) in
     record {
-      taken = taken;
-      sum_is = sym total;
-      behind = ap (drop at) here ∙ drop_at (front ++ replicate i size) (replicate j size ++ has.back) at long ∙ ap (λ l. replicate j size ++ l) (sym rest);
-      back = ap reverse taken ∙ reverse-append front (replicate i size)
-          ∙ ap (λ l. l ++ reverse front) (reverse-replicate i size) ∙ ap (λ l. replicate i size ++ reverse l) (sym start);
-      within = omega (
-        arith,
-        ap length has.is,
-        length-append front (replicate many size ++ has.back),
-        length-append
-            (replicate many size) has.back,
-        length-replicate many size,
-        has.next_is,
-      );
+      count = omega (arith, here.count, ap (λ l. length (sizes_of no_run l)) all);
+      end = omega (arith, here.end, ap (λ l. sum (sizes_of no_run l)) all);
+      few = here.few (omega arith);
     }
 
-pub size-at : (sizes : List ℕ) (before : List Run) (run : Run) (next at : ℕ) → HasRun sizes 0 0 before run next → run.first ≤ at → at < next
-    → get_or sizes at 0 ≡ run.size
-size-at sizes before run next at has low high =
-    let size = run.size in
-    let many = has.many in
-    let i : ℕ = at - run.first in
-    let front = sizes_of run.first before in
-    let first : length front ≡ run.first = omega (arith, length-sizes_of run.first run.offset 0 0 before has.are) in
-    let here : at ≡ length front + i = omega arith in
-    let within : i < many = omega (arith, has.next_is) in
-    let below : i < length (replicate many size) = omega (arith, length-replicate many size) in
-    ap (λ l. get_or l at 0) has.is ∙ ap (λ n. get_or (front ++ (replicate many size ++ has.back)) n 0) here
-    ∙ get_or-append-add front (replicate many size ++ has.back) i 0
-    ∙ get_or_append_left (replicate many size) has.back 0 i below
-    ∙ get_or-replicate many i size 0 within
+-- ---- the runs up to one
 
-pub some-runs : (count : ℕ) (runs : List Run) (number : ℕ) → first_at count runs 0 ≤ number → number < count → 0 < length runs
-some-runs count [] number first some = absurd (omega arith)
-some-runs count (run ∷ runs) number first some = omega arith
+pub record HasRun (sizes : List ℕ) (before run : Run) : Type 0 where
+  pub follows : Follows before run
+  pub are : AreAlike sizes before.count run.count run.size
+  pub start : sum (take before.count sizes) ≡ before.end
+  pub end : sum (take run.count sizes) ≡ run.end
 
-abbrev pub no_run : Run
-no_run = record { first = 0; offset = 0; size = 0 }
+pub has_run : (runs : List Run) (i : ℕ) → AreRuns no_run runs → i < length runs → HasRun (sizes_of no_run runs) (run_before runs i) (run_before runs (i + 1))
+has_run runs i are lt =
+    let before = run_before runs i in
+    let run = get_or runs i no_run in
+    let sizes = sizes_of no_run runs in
+    let here = cut no_run runs i are (omega arith) in
+    let front = sizes_of no_run (take i runs) in
+    let rest = sizes_of run (drop (suc i) runs) in
+    let own = replicate (run.count - before.count) run.size in
+    let next = drop-cons runs i no_run lt in
+    let those : AreRuns before (run ∷ drop (suc i) runs) = rw next at here.rest in
+    let is : sizes ≡ front ++ (own ++ rest) = here.is ∙ ap (λ l. front ++ sizes_of before l) next in
+    let is_left : sizes ≡ (front ++ own) ++ rest = is ∙ sym (append_assoc front own rest) in
+    let many : length front ≡ before.count = omega (arith, here.count) in
+    let long : length (front ++ own) ≡ run.count =
+    omega (arith, many, those.0.some, length-append front own, length-replicate (run.count - before.count) run.size) in
+    rw (add-one i) (record {
+      follows = those.0;
+      are = record {
+        is = ap (drop before.count) is ∙ drop_at front (own ++ rest) before.count many
+            ∙ ap (λ l. own ++ l) (sym (ap (drop run.count) is_left ∙ drop_at (front ++ own) rest run.count long));
+        within = omega (arith, ap length is_left, length-append (front ++ own) rest, long);
+      };
+      start = ap sum (ap (take before.count) is ∙ take_at front (own ++ rest) before.count many) ∙ omega (arith, here.end);
+      end = ap sum (ap (take run.count) is_left ∙ take_at (front ++ own) rest run.count long) ∙ sum-append front own
+          ∙ omega (arith, here.end, those.0.end, sum-replicate (run.count - before.count) run.size);
+    })
+
+pub around : (runs : List Run) (i number : ℕ) (before run : Run) → AreRuns no_run runs → i < length runs → before ≡ run_before runs i
+    → run ≡ run_before runs (i + 1) → (run_before runs i).count ≤ number → number < (run_before runs (i + 1)).count
+    → AreAround (sizes_of no_run runs) (record { first = before.count; next = run.count; end = run.end; size = run.size; run = i }) number
+around runs i number before run are lt before_is run_is from to =
+    let has = has_run runs i are lt in
+    rw (before_is, run_is)
+    (record { from = from; to = to; are = has.are; end = sym has.end; least = has.follows.least; most = has.follows.most })
+
+-- where a number within it is
+pub around-place : (sizes : List ℕ) (alike : Alike) (number : ℕ) → AreAround sizes alike number
+    → alike.end ≡ sum (take number sizes) + (alike.next - number) * alike.size
+around-place sizes alike number is =
+    is.end ∙ alike-sum sizes number alike.next alike.size
+    (alike-behind sizes alike.first number alike.next alike.size is.are is.from (omega (arith, is.to))) (omega (arith, is.to))
+
+pub around-size : (sizes : List ℕ) (alike : Alike) (number : ℕ) → AreAround sizes alike number → alike.size ≡ get_or sizes number 0
+around-size sizes alike number is =
+    sym (alike-size sizes number alike.next alike.size
+    (alike-behind sizes alike.first number alike.next alike.size is.are is.from (omega (arith, is.to))) is.to)
+
+-- on the way from a number
+pub ahead_on : (sizes : List ℕ) (at : ℕ) (alike : Alike) → AreAround sizes alike at → alike.next < 2 ^ 64
+    → AreAhead Forward at sizes (record { many = alike.next - at; size = alike.size; run = alike.run })
+ahead_on sizes at alike is fits =
+    let there : at + (alike.next - at) ≡ alike.next = omega (arith, is.to) in
+    let are = alike-behind sizes alike.first at alike.next alike.size is.are is.from (omega (arith, is.to)) in
+    record {
+      some = omega (arith, is.to);
+      is = rw there are.is;
+      many = omega (arith, length-drop at sizes, are.within);
+      can = omega (arith, there, fits);
+      least = is.least;
+    }
+
+pub ahead_back : (sizes : List ℕ) (at : ℕ) (alike : Alike) → 0 < at → at ≤ length sizes → AreAround sizes alike (at - 1)
+    → AreAhead Backward at sizes (record { many = at - alike.first; size = alike.size; run = alike.run })
+ahead_back sizes at alike some within is =
+    let there : at - (at - alike.first) ≡ alike.first = omega (arith, is.from) in
+    let front = alike-front sizes alike.first at alike.next alike.size is.are (omega (arith, is.from)) (omega (arith, is.to)) in
+    record {
+      some = omega (arith, is.from);
+      is = rw there (alike-back sizes alike.first at alike.size front (omega (arith, is.from)));
+      many = omega (arith, length-reverse (take at sizes), length-take-le at sizes within);
+      can = omega arith;
+      least = is.least;
+    }
+
+-- the last run
+pub is_last : (runs : List Run) (last : Run) → AreRuns no_run runs → last ≡ run_before runs (length runs) → IsLast (sizes_of no_run runs) last
+is_last [] last are is = rw is (record { count = refl; end = refl; few = omega arith; size = refl })
+is_last (run ∷ runs) last are is =
+    let all = are_all (run ∷ runs) are in
+    let sizes = sizes_of no_run (run ∷ runs) in
+    let i = length runs in
+    let end : i + 1 ≡ suc i = add-one i in
+    let has : HasRun sizes (run_before (run ∷ runs) i) (run_before (run ∷ runs) (suc i)) = rw end at (has_run (run ∷ runs) i are (omega arith)) in
+    let before = run_before (run ∷ runs) i in
+    let that = run_before (run ∷ runs) (suc i) in
+    let some = has.follows.some in
+    let last_one = alike-size sizes (length sizes - 1) that.count that.size
+    (alike-behind sizes before.count (length sizes - 1) that.count that.size has.are (omega (arith, all.count)) (omega (arith, all.count)))
+    (omega (arith, all.count)) in
+    rw is (record { count = all.count; end = all.end; few = omega (arith, all.count, all.few); size = sym last_one })
+
+-- ---- and others in the place of those behind it
+
+pub record AreThose (runs : List Run) (sizes : List ℕ) : Type 0 where
+  pub are : AreRuns no_run runs
+  pub sizes_are : sizes_of no_run runs ≡ sizes
+
+pub put_behind : (runs : List Run) (i : ℕ) (run : Run) → AreRuns no_run runs → i ≤ length runs → Follows (run_before runs i) run
+    → AreThose (take i runs ++ run ∷ []) (take (run_before runs i).count (sizes_of no_run runs) ++ replicate (run.count - (run_before runs i).count) run.size)
+put_behind runs i run are le follows =
+    let here = cut no_run runs i are le in
+    let before = run_before runs i in
+    let front = sizes_of no_run (take i runs) in
+    record {
+      are = here.more run follows;
+      sizes_are = here.sizes_more run ∙ ap (λ l. l ++ replicate (run.count - before.count) run.size)
+          (sym (ap (take before.count) here.is ∙ take_at front (sizes_of before (drop i runs)) before.count (omega (arith, here.count))));
+    }
+
+-- ---- what an index becomes
+
+-- cut within a run
+pub cut_in : (runs : List Run) (i : ℕ) (run : Run) → AreRuns no_run runs → i < length runs → (run_before runs i).count < run.count
+    → run.count ≤ (run_before runs (i + 1)).count → run.size ≡ (run_before runs (i + 1)).size → run.end ≡ sum (take run.count (sizes_of no_run runs))
+    → AreThose (take i runs ++ run ∷ []) (take run.count (sizes_of no_run runs))
+cut_in runs i run are lt low high size_is end_is =
+    let before = run_before runs i in
+    let size = (run_before runs (i + 1)).size in
+    let sizes = sizes_of no_run runs in
+    let has = has_run runs i are lt in
+    let front = alike-front sizes before.count run.count (run_before runs (i + 1)).count size has.are (omega arith) high in
+    let end : before.end + (run.count - before.count) * size ≡ run.end = omega (arith, has.start, end_is, alike-sum sizes before.count run.count size front (omega arith)) in
+    let as_is = ap (λ n. before.end + (run.count - before.count) * n) size_is ∙ end in
+    let those = put_behind runs i run are (omega arith)
+    (record { some = low; end = as_is; least = rw size_is has.follows.least; most = rw size_is has.follows.most }) in
+    record {
+      are = those.are;
+      sizes_are = those.sizes_are ∙ ap (λ n. take before.count sizes ++ replicate (run.count - before.count) n) size_is
+          ∙ sym (alike-taken sizes before.count run.count size front (omega arith));
+    }
+
+-- grown by a run
+pub grown : (runs : List Run) (run : Run) (many : ℕ) → AreRuns no_run runs → 0 < many → run.count ≡ length (sizes_of no_run runs) + many
+    → run.end ≡ sum (sizes_of no_run runs) + many * run.size → mark_size ≤ run.size → run.size ≤ most_size
+    → AreThose (runs ++ run ∷ []) (sizes_of no_run runs ++ replicate many run.size)
+grown runs run many are some count_is end_is least most =
+    let sizes = sizes_of no_run runs in
+    let all = are_all runs are in
+    let last = run_before runs (length runs) in
+    let own : run.count - last.count ≡ many = omega (arith, all.count) in
+    let end : last.end + (run.count - last.count) * run.size ≡ run.end = ap (λ n. last.end + n * run.size) own ∙ omega (arith, all.end, end_is) in
+    let follows : Follows last run = record { some = omega (arith, all.count); end = end; least = least; most = most } in
+    let whole = take_all (length runs) runs (omega arith) in
+    let taken = take_all last.count sizes (omega (arith, all.count)) in
+    rw (whole, taken, own) at (put_behind runs (length runs) run are (omega arith) follows)
+
+some-runs : (runs : List Run) (size : ℕ) → Joins size (sizes_of no_run runs) → mark_size ≤ size → 0 < length runs
+some-runs [] size joins least = absurd (omega (arith, joins))
+some-runs (run ∷ runs) size joins least = omega arith
+
+-- or in the last
+pub grown_last : (runs : List Run) (i many : ℕ) (run : Run) → AreRuns no_run runs → i ≡ length runs - 1 → Joins run.size (sizes_of no_run runs)
+    → mark_size ≤ run.size → run.count ≡ length (sizes_of no_run runs) + many → run.end ≡ sum (sizes_of no_run runs) + many * run.size
+    → AreThose (take i runs ++ run ∷ []) (sizes_of no_run runs ++ replicate many run.size)
+grown_last runs i many run are i_is joins least count_is end_is =
+    let sizes = sizes_of no_run runs in
+    let before = run_before runs i in
+    let last = run_before runs (length runs) in
+    let long = some-runs runs run.size joins least in
+    let last_is : i + 1 ≡ length runs = omega arith in
+    let has : HasRun sizes before last = rw last_is at (has_run runs i are (omega arith)) in
+    let all = is_last runs last are refl in
+    let size_is : run.size ≡ last.size = sym (all.size ∙ joins) in
+    let own : ℕ = last.count - before.count in
+    let some = has.follows.some in
+    let more : run.count - before.count ≡ own + many = omega (arith, all.count) in
+    let times : (own + many) * run.size ≡ own * run.size + many * run.size = grind arith in
+    let end_last : before.end + own * run.size ≡ last.end = ap (λ n. before.end + own * n) size_is ∙ has.follows.end in
+    let end : before.end + (run.count - before.count) * run.size ≡ run.end =
+    ap (λ n. before.end + n * run.size) more ∙ omega (arith, times, end_last, end_is, all.end) in
+    let those = put_behind runs i run are (omega arith)
+    (record { some = omega (arith, all.count); end = end; least = least; most = rw size_is has.follows.most }) in
+    let taken : sizes ≡ take before.count sizes ++ replicate own run.size =
+    sym (take_all last.count sizes (omega (arith, all.count))) ∙ alike-taken sizes before.count last.count last.size has.are (omega arith)
+    ∙ ap (λ n. take before.count sizes ++ replicate own n) (sym size_is) in
+    record {
+      are = those.are;
+      sizes_are = those.sizes_are
+          ∙ ap (λ n. take before.count sizes ++ replicate n run.size) more
+          ∙ ap (λ l. take before.count sizes ++ l) (sym (replicate-append-replicate own many run.size))
+          ∙ sym (append_assoc (take before.count sizes) (replicate own run.size) (replicate many run.size))
+          ∙ ap (λ l. l ++ replicate many run.size) (sym taken);
+    }

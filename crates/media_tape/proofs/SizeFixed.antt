@@ -1,12 +1,16 @@
 -- Reading blocks goes by the sizes of the items.
-use Rattle.std.proofs.Common.{◌≡◌, ℕ, zero, suc, ◌+◌, ◌-◌, ◌*◌, ◌≤◌, ◌<◌, List, [], ◌∷◌, ◌++◌, length, take, drop, sum, slice_range, get_or, drop-cons}
+use Rattle.std.proofs.Common.{◌≡◌, ℕ, zero, suc, ◌+◌, ◌-◌, ◌*◌, ◌≤◌, ◌<◌, List, [], ◌∷◌, ◌++◌, length, take, drop, sum, slice_range}
 use Rattle.std.proofs.Common.{Bool, true, false, ◌==◌, if◌then◌else◌, refl, ap, sym, ◌∙◌, arith, add_assoc, append_assoc, eq-eqb}
 use Rattle.std.specs.Prelude.{replicate}
+use Rattle.std.proofs.Math.Nat.{add-sub_cancel_left}
 use Rattle.std.proofs.lemmas.Bool.{ne_eqb, eqb-true}
 use Rattle.std.proofs.lemmas.List.{append-nil, drop-drop, drop-take, take-take, length-take-le, length-drop, length-append}
-use Rattle.std.proofs.lemmas.List.{drop_all, drop_at, length-replicate, replicate-append-replicate}
 use Rattle.std.proofs.lemmas.List.Sums.{sum_by-cons}
-use Rattle.media_tape.specs.Index.{mark_size}
+use Rattle.media_tape.specs.Index.{mark_size, AreAlike, AreAhead}
+use Rattle.media_tape.specs.declared.index.Ahead.{Ahead}
+use Rattle.media_tape.specs.declared.outcome.Direction.TheVariants.{Forward}
+use Rattle.media_tape.proofs.Alike.{alike-front}
+use Rattle.media_tape.proofs.Spelled.{slice-is, slice-behind}
 use Rattle.media_tape.specs.Fixed.{fixed_passed}
 use Rattle.media_tape.specs.SizeFixed.{behind, size_fixed, data_in}
 use Rattle.media_tape.specs.declared.outcome.FixedEnd.{FixedEnd}
@@ -37,98 +41,70 @@ fixed_run (suc many) left block_length size sizes some is =
     ∙ ap (behind 1) (fixed_run many left block_length size sizes some is)
     ∙ behind-behind 1 many (size_fixed left block_length sizes) ∙ ap (λ n. behind n (size_fixed left block_length sizes)) one)
 
--- some of a run of items of one size
-alike_part : (number end many size : ℕ) (sizes : List ℕ) → drop number sizes ≡ replicate (end - number) size ++ drop end sizes
-    → many ≤ end - number → drop number sizes ≡ replicate many size ++ drop (number + many) sizes
-alike_part number end many size sizes alike few =
-    let left : ℕ = end - number - many in
-    let whole : end - number ≡ many + left = omega arith in
-    let behind_it : List ℕ = replicate left size ++ drop end sizes in
-    let here : drop number sizes ≡ replicate many size ++ behind_it =
-    alike ∙ ap (λ n. replicate n size ++ drop end sizes) whole
-    ∙ ap (λ (xs : List ℕ). xs ++ drop end sizes) (sym (replicate-append-replicate many left size))
-    ∙ append_assoc (replicate many size) (replicate left size) (drop end sizes) in
-    let rest : drop (number + many) sizes ≡ behind_it =
-    sym (drop-drop many number sizes) ∙ ap (drop many) here ∙ drop_at (replicate many size) behind_it many (length-replicate many size) in
-    here ∙ ap (λ (xs : List ℕ). replicate many size ++ xs) (sym rest)
-
 -- a read has come over so many blocks
 abbrev pub IsGiven : ℕ → ℕ → ℕ → List ℕ → ℕ → Type 0
 IsGiven count block_length from sizes given =
     size_fixed count block_length (drop from sizes) ≡ behind given (size_fixed (count - given) block_length (drop (from + given) sizes))
 
-pub given_none : (count block_length from : ℕ) (sizes : List ℕ) → IsGiven count block_length from sizes 0
-given_none count block_length from sizes =
-    let here : from + 0 ≡ from = omega arith in
-    let left : count - 0 ≡ count = omega arith in
-    rw (here, left) (sym (behind-zero (size_fixed count block_length (drop from sizes))))
-
-pub given_run : (count block_length from given many end : ℕ) (sizes : List ℕ) → IsGiven count block_length from sizes given → 0 < block_length
-    → drop (from + given) sizes ≡ replicate (end - (from + given)) (block_length + 8) ++ drop end sizes
-    → many ≤ end - (from + given) → many ≤ count - given → IsGiven count block_length from sizes (given + many)
-given_run count block_length from given many end sizes is some alike short few =
-    let size : ℕ = block_length + 8 in
+pub given_run : (count block_length from given many : ℕ) (sizes : List ℕ) (ahead : Ahead) → IsGiven count block_length from sizes given
+    → AreAhead Forward (from + given) sizes ahead → 0 < ahead.size - mark_size → ahead.size ≡ block_length + 8 → many ≤ ahead.many → many ≤ count - given
+    → IsGiven count block_length from sizes (given + many)
+given_run count block_length from given many sizes ahead is are some size_is short few =
+    let at : ℕ = from + given in
     let left : ℕ = count - (given + many) in
-    let here = alike_part (from + given) end many size sizes alike short in
-    let all : count - given ≡ many + left = omega arith in
-    let there : from + given + many ≡ from + (given + many) = omega arith in
+    let rest = drop (from + (given + many)) sizes in
+    let next : ℕ = at + ahead.many in
+    let all : AreAlike sizes at next ahead.size = record {
+      is = rw (add-sub_cancel_left at ahead.many) are.is;
+      within = omega (arith, are.many, length-drop at sizes, are.some);
+    } in
+    let gone : from + (given + many) - at ≡ many = omega arith in
+    let front = alike-front sizes at (from + (given + many)) next ahead.size all (omega arith) (omega arith) in
+    let here : drop at sizes ≡ replicate many ahead.size ++ rest = rw gone at front.is in
+    let whole : count - given ≡ many + left = omega arith in
     is ∙ ap (λ (xs : List ℕ). behind given (size_fixed (count - given) block_length xs)) here
-    ∙ ap (λ n. behind given (size_fixed n block_length (replicate many size ++ drop (from + given + many) sizes))) all
-    ∙ ap (behind given) (fixed_run many left block_length size (drop (from + given + many) sizes) some refl)
-    ∙ behind-behind given many (size_fixed left block_length (drop (from + given + many) sizes))
-    ∙ ap (λ n. behind (given + many) (size_fixed left block_length (drop n sizes))) there
+    ∙ ap (λ n. behind given (size_fixed n block_length (replicate many ahead.size ++ rest))) whole
+    ∙ ap (behind given) (fixed_run many left block_length ahead.size rest (omega arith) size_is)
+    ∙ behind-behind given many (size_fixed left block_length rest)
 
 -- what ends it
-given_ended : (given : ℕ) (ended : FixedEnd) (all rest : FixedRead) → all ≡ behind given rest → rest ≡ record { given = 0; ended = ended }
-    → record { given = given; ended = ended } ≡ all
-given_ended given ended all rest is last =
+given_ended : (count block_length from given : ℕ) (sizes : List ℕ) (ended : FixedEnd) → IsGiven count block_length from sizes given
+    → size_fixed (count - given) block_length (drop (from + given) sizes) ≡ record { given = 0; ended = ended }
+    → record { given = given; ended = ended } ≡ size_fixed count block_length (drop from sizes)
+given_ended count block_length from given sizes ended is last =
     let e : given + 0 ≡ given = omega arith in
     ap (λ n. record { given = n; ended = ended }) (sym e) ∙ sym (is ∙ ap (behind given) last)
 
-at_end : (left block_length : ℕ) → 0 < left → size_fixed left block_length [] ≡ record { given = 0; ended = end.EndOfData }
-at_end zero block_length some = absurd (omega arith)
-at_end (suc left) block_length some = refl
+first_ahead : (at : ℕ) (sizes : List ℕ) (ahead : Ahead) → AreAhead Forward at sizes ahead
+    → drop at sizes ≡ ahead.size ∷ (replicate (ahead.many - 1) ahead.size ++ drop (at + ahead.many) sizes)
+first_ahead at sizes ahead are =
+    let some : ahead.many ≡ suc (ahead.many - 1) = omega (arith, are.some) in
+    are.is ∙ ap (λ n. replicate n ahead.size ++ drop (at + ahead.many) sizes) some
 
-at_mark : (left block_length : ℕ) (sizes : List ℕ) → 0 < left
-    → size_fixed left block_length (mark_size ∷ sizes) ≡ record { given = 0; ended = end.Filemark }
-at_mark zero block_length sizes some = absurd (omega arith)
-at_mark (suc left) block_length sizes some = refl
+at_mark : (left block_length size : ℕ) (sizes : List ℕ) → 0 < left → size ≡ mark_size
+    → size_fixed left block_length (size ∷ sizes) ≡ record { given = 0; ended = end.Filemark }
+at_mark zero block_length size sizes some mark = absurd (omega arith)
+at_mark (suc left) block_length size sizes some mark = rw (eq-eqb size mark_size mark) refl
 
 at_other : (left block_length size : ℕ) (sizes : List ℕ) → 0 < left → (size ≡ mark_size → ⊥) → (size ≡ block_length + mark_size → ⊥)
     → size_fixed left block_length (size ∷ sizes) ≡ record { given = 0; ended = end.Length (size - mark_size) }
 at_other zero block_length size sizes some no_mark other = absurd (omega arith)
 at_other (suc left) block_length size sizes some no_mark other = rw (ne_eqb size mark_size no_mark, ne_eqb size (block_length + mark_size) other) refl
 
-pub given_all : (count block_length from given : ℕ) (sizes : List ℕ) → IsGiven count block_length from sizes given → given ≡ count
-    → record { given = given; ended = end.Whole } ≡ size_fixed count block_length (drop from sizes)
-given_all count block_length from given sizes is all =
-    let none : count - given ≡ 0 = omega arith in
-    given_ended given end.Whole _ (size_fixed (count - given) block_length (drop (from + given) sizes)) is (rw none refl)
-
-pub given_to_end : (count block_length from given : ℕ) (sizes : List ℕ) → IsGiven count block_length from sizes given → given < count
-    → from + given ≡ length sizes → record { given = given; ended = end.EndOfData } ≡ size_fixed count block_length (drop from sizes)
-given_to_end count block_length from given sizes is less last =
-    given_ended given end.EndOfData _ (size_fixed (count - given) block_length (drop (from + given) sizes)) is
-    (ap (size_fixed (count - given) block_length) (drop_all (from + given) sizes (omega arith)) ∙ at_end (count - given) block_length (omega arith))
-
-pub given_to_mark : (count block_length from given : ℕ) (sizes : List ℕ) → IsGiven count block_length from sizes given → given < count
-    → from + given < length sizes → get_or sizes (from + given) 0 ≡ mark_size
+pub given_to_mark : (count block_length from given : ℕ) (sizes : List ℕ) (ahead : Ahead) → IsGiven count block_length from sizes given → given < count
+    → AreAhead Forward (from + given) sizes ahead → ahead.size ≡ mark_size
     → record { given = given; ended = end.Filemark } ≡ size_fixed count block_length (drop from sizes)
-given_to_mark count block_length from given sizes is less within mark =
-    let rest = drop (suc (from + given)) sizes in
-    given_ended given end.Filemark _ (size_fixed (count - given) block_length (drop (from + given) sizes)) is
-    (ap (size_fixed (count - given) block_length) (drop-cons sizes (from + given) 0 within ∙ ap (λ n. n ∷ rest) mark)
-    ∙ at_mark (count - given) block_length rest (omega arith))
+given_to_mark count block_length from given sizes ahead is less are mark =
+    given_ended count block_length from given sizes end.Filemark is (rw (first_ahead (from + given) sizes ahead are)
+    (at_mark (count - given) block_length ahead.size (replicate (ahead.many - 1) ahead.size ++ drop (from + given + ahead.many) sizes) (omega arith) mark))
 
-pub given_to_other : (count block_length from given : ℕ) (sizes : List ℕ) → IsGiven count block_length from sizes given → given < count
-    → from + given < length sizes → mark_size < get_or sizes (from + given) 0 → (get_or sizes (from + given) 0 - mark_size ≡ block_length → ⊥)
-    → record { given = given; ended = end.Length (get_or sizes (from + given) 0 - mark_size) } ≡ size_fixed count block_length (drop from sizes)
-given_to_other count block_length from given sizes is less within some other =
-    let size = get_or sizes (from + given) 0 in
-    let rest = drop (suc (from + given)) sizes in
-    given_ended given (end.Length (size - mark_size)) _ (size_fixed (count - given) block_length (drop (from + given) sizes)) is
-    (ap (size_fixed (count - given) block_length) (drop-cons sizes (from + given) 0 within)
-    ∙ at_other (count - given) block_length size rest (omega arith) (λ e. omega arith) (λ e. other (omega arith)))
+pub given_to_other : (count block_length from given : ℕ) (sizes : List ℕ) (ahead : Ahead) → IsGiven count block_length from sizes given → given < count
+    → AreAhead Forward (from + given) sizes ahead → mark_size < ahead.size → (ahead.size - mark_size ≡ block_length → ⊥)
+    → record { given = given; ended = end.Length (ahead.size - mark_size) } ≡ size_fixed count block_length (drop from sizes)
+given_to_other count block_length from given sizes ahead is less are some other =
+    given_ended count block_length from given sizes (end.Length (ahead.size - mark_size)) is (rw (first_ahead (from + given) sizes ahead are)
+    (at_other (count - given) block_length ahead.size (replicate (ahead.many - 1) ahead.size ++ drop (from + given + ahead.many) sizes) (omega arith)
+    (λ e. omega arith) (λ e. other (omega arith))))
 
 -- what holds where a block is next, and where none is
 pub by_size : (P : FixedRead → Type 0) (is_mark is_block : Bool) (mark block other : FixedRead) → P mark → (is_block ≡ true → P block)
@@ -178,19 +154,15 @@ pub data-more : (count block_length from : ℕ) (bytes : List ℕ) → from ≡ 
     → data_in count block_length bytes ++ slice_range bytes from (from + block_length) ≡ data_in (count + 1) block_length bytes
 data-more zero block_length from bytes is =
     let at : from ≡ 4 = omega arith in
-    let long : from + block_length - from ≡ block_length = omega arith in
-    ap (λ n. take n (drop from bytes)) long ∙ ap (λ n. take block_length (drop n bytes)) at ∙ sym (append-nil (take block_length (drop 4 bytes)))
+    slice-is from block_length bytes ∙ ap (λ n. take block_length (drop n bytes)) at ∙ sym (append-nil (take block_length (drop 4 bytes)))
 data-more (suc count) block_length from bytes is =
     let rest = drop (block_length + 8) bytes in
     let head = take block_length (drop 4 bytes) in
     let inner : ℕ = count * (block_length + 8) + 4 in
     let more : suc count * (block_length + 8) ≡ (block_length + 8) + count * (block_length + 8) = grind arith in
     let at : block_length + 8 + inner ≡ from = omega (arith, more, is) in
-    let long : from + block_length - from ≡ block_length = omega arith in
-    let long_in : inner + block_length - inner ≡ block_length = omega arith in
     let here : slice_range bytes from (from + block_length) ≡ slice_range rest inner (inner + block_length) =
-    ap (λ n. take n (drop from bytes)) long ∙ ap (λ n. take block_length (drop n bytes)) (sym at)
-    ∙ sym (ap (take block_length) (drop-drop inner (block_length + 8) bytes)) ∙ ap (λ n. take n (drop inner rest)) (sym long_in) in
+    ap (λ n. slice_range bytes n (n + block_length)) (sym at) ∙ slice-behind (block_length + 8) inner block_length bytes in
     let e : suc count + 1 ≡ suc (count + 1) = omega arith in
     append_assoc head (data_in count block_length rest) (slice_range bytes from (from + block_length))
     ∙ ap (λ (xs : List ℕ). head ++ (data_in count block_length rest ++ xs)) here
@@ -220,13 +192,11 @@ data-take (suc count) block_length many bytes long =
 pub data-one : (count block_length place : ℕ) (content : List ℕ) → count ≡ 1
     → slice_range content (place + 4) (place + 4 + block_length) ≡ data_in count block_length (drop place content)
 data-one count block_length place content one =
-    let long : place + 4 + block_length - (place + 4) ≡ block_length = omega arith in
-    ap (λ n. take n (drop (place + 4) content)) long ∙ sym (ap (take block_length) (drop-drop 4 place content))
+    slice-is (place + 4) block_length content ∙ sym (ap (take block_length) (drop-drop 4 place content))
     ∙ sym (append-nil (take block_length (drop 4 (drop place content)))) ∙ ap (λ n. data_in n block_length (drop place content)) (sym one)
 
 pub data-slice : (count block_length place : ℕ) (content : List ℕ)
     → data_in count block_length (slice_range content place (place + count * (block_length + 8))) ≡ data_in count block_length (drop place content)
 data-slice count block_length place content =
     let size : ℕ = count * (block_length + 8) in
-    let long : place + size - place ≡ size = omega arith in
-    ap (λ n. data_in count block_length (take n (drop place content))) long ∙ data-take count block_length size (drop place content) (omega arith)
+    ap (data_in count block_length) (slice-is place size content) ∙ data-take count block_length size (drop place content) (omega arith)

@@ -1,6 +1,7 @@
 -- The items of what is written: records of one length, and filemarks.
 use Rattle.std.proofs.Common.{◌≡◌, ℕ, ◌+◌, ◌-◌, ◌*◌, zero, suc, ◌^◌, ◌≤◌, ◌<◌, List, [], ◌∷◌, ◌++◌, length, take, drop, map, replicate, slice_range, append_assoc}
 use Rattle.std.proofs.Common.{Some, refl, ap, sym, ◌∙◌, arith}
+use Rattle.std.proofs.Math.Nat.{add-sub_cancel_left}
 use Rattle.std.proofs.lemmas.List.{append-nil, take_all, drop-drop, take_at, drop_at, length-append, length-drop, length-take-le}
 use Rattle.std.proofs.lemmas.List.Concat.{flat_map-cons}
 use Rattle.byteorder.specs.Endian.{big_bytes, big_number}
@@ -8,6 +9,12 @@ use Rattle.byteorder.specs.Numbers.{big_number-reads_back, length-bytes_high_fir
 use Rattle.media_tape.specs.Items.{most_bytes, Item, Record, Filemark, size, spelled, spelling, front, items_in, items_of}
 use Rattle.media_tape.specs.Fixed.{blocks_of}
 use Rattle.media_tape.proofs.Items.{is-front, items_of-next, items_of-front, item_of-data_of}
+
+pub slice-is : (at n : ℕ) (xs : List ℕ) → slice_range xs at (at + n) ≡ take n (drop at xs)
+slice-is at n xs = ap (λ k. take k (drop at xs)) (add-sub_cancel_left at n)
+
+pub slice-behind : (front at n : ℕ) (xs : List ℕ) → slice_range xs (front + at) (front + at + n) ≡ slice_range (drop front xs) at (at + n)
+slice-behind front at n xs = slice-is (front + at) n xs ∙ ap (take n) (sym (drop-drop at front xs)) ∙ sym (slice-is at n (drop front xs))
 
 length-spelled : (bytes : List ℕ) → length (spelled (Record bytes)) ≡ length bytes + 8
 length-spelled bytes =
@@ -72,8 +79,7 @@ pub spelling-more : (count block_length from : ℕ) (bytes : List ℕ) → from 
     ≡ spelling (blocks_of (count + 1) block_length bytes)
 spelling-more zero block_length from bytes is =
     let none : from ≡ 0 = omega arith in
-    let long : from + block_length - from ≡ block_length = omega arith in
-    ap (λ n. spelled (Record (take n (drop from bytes)))) long ∙ ap (λ n. spelled (Record (take block_length (drop n bytes)))) none
+    ap (λ (xs : List ℕ). spelled (Record xs)) (slice-is from block_length bytes ∙ ap (λ n. take block_length (drop n bytes)) none)
     ∙ sym (flat_map-cons spelled (Record (take block_length bytes)) [] ∙ append-nil (spelled (Record (take block_length bytes))))
 spelling-more (suc count) block_length from bytes is =
     let rest = drop block_length bytes in
@@ -81,11 +87,8 @@ spelling-more (suc count) block_length from bytes is =
     let inner : ℕ = count * block_length in
     let more : suc count * block_length ≡ block_length + count * block_length = grind arith in
     let at : block_length + inner ≡ from = omega (arith, more, is) in
-    let long : from + block_length - from ≡ block_length = omega arith in
-    let long_in : inner + block_length - inner ≡ block_length = omega arith in
     let here : slice_range bytes from (from + block_length) ≡ slice_range rest inner (inner + block_length) =
-    ap (λ n. take n (drop from bytes)) long ∙ ap (λ n. take block_length (drop n bytes)) (sym at)
-    ∙ sym (ap (take block_length) (drop-drop inner block_length bytes)) ∙ ap (λ n. take n (drop inner rest)) (sym long_in) in
+    ap (λ n. slice_range bytes n (n + block_length)) (sym at) ∙ slice-behind block_length inner block_length bytes in
     let last = spelled (Record (slice_range bytes from (from + block_length))) in
     let e : suc count + 1 ≡ suc (count + 1) = omega arith in
     ap (λ (xs : List ℕ). xs ++ last) (flat_map-cons spelled block (blocks_of count block_length rest))

@@ -1,54 +1,35 @@
--- Runs: each says the number and the offset of its first item, and the size of all its items. How many they are is said
--- by the next run, or by the count of all items.
-use Rattle.std.specs.Prelude.{◌≡◌, ℕ, zero, suc, ◌+◌, ◌-◌, ◌*◌, ◌^◌, ◌≤◌, ◌<◌, List, [], ◌∷◌, ◌++◌, replicate, sum, take, slice_index, vec_len, vec_capacity}
+-- Runs: each says how many items there are up to its last, where that ends, and the size of its own. They follow those of
+-- the run before.
+use Rattle.std.specs.Prelude.{◌≡◌, ℕ, ◌+◌, ◌-◌, ◌*◌, ◌≤◌, ◌<◌, List, [], ◌∷◌, ◌++◌, replicate, get_or, vec_len, vec_capacity}
 use Rattle.media_tape.specs.Index.{Items, mark_size, most_size}
 use Rattle.media_tape.specs.declared.run.Run.{Run}
 use Rattle.media_tape.specs.declared.index.Index.TheInside.{Inside}
 
--- the number of the first item of a run, and behind the last run the count of all items
-abbrev pub first_at : ℕ → List Run → ℕ → ℕ
-first_at count [] i = count
-first_at count (run ∷ runs) zero = run.first
-first_at count (run ∷ runs) (suc i) = first_at count runs i
+abbrev pub no_run : Run
+no_run = record { count = 0; end = 0; size = 0 }
 
--- the sizes of their items
-abbrev pub sizes_of : ℕ → List Run → List ℕ
-sizes_of count [] = []
-sizes_of count (run ∷ runs) = replicate (first_at count runs 0 - run.first) run.size ++ sizes_of count runs
+-- the run before this one, or the last where there are so many
+abbrev pub run_before : List Run → ℕ → Run
+run_before runs i = get_or (no_run ∷ runs) i no_run
 
--- a run with its first item at this number and offset, and with an item at least before the next
-pub record IsRun (run : Run) (number place next : ℕ) : Type 0 where
-  pub first : run.first ≡ number
-  pub offset : run.offset ≡ place
-  pub some : number < next
+-- the sizes of their items, where this run is before them
+abbrev pub sizes_of : Run → List Run → List ℕ
+sizes_of before [] = []
+sizes_of before (run ∷ runs) = replicate (run.count - before.count) run.size ++ sizes_of run runs
+
+-- the items of a run follow those of another, and there is one at least
+pub record Follows (before run : Run) : Type 0 where
+  pub some : before.count < run.count
+  pub end : before.end + (run.count - before.count) * run.size ≡ run.end
   pub least : mark_size ≤ run.size
   pub most : run.size ≤ most_size
 
--- runs from a number and an offset on, up to the count and the end of all items
-abbrev pub AreRuns : ℕ → ℕ → ℕ → ℕ → List Run → Type 0
-AreRuns count end number place [] = (number ≡ count) × (place ≡ end)
-AreRuns count end number place (run ∷ runs) =
-    IsRun run number place (first_at count runs 0)
-    × AreRuns count end (first_at count runs 0) (place + (first_at count runs 0 - number) * run.size) runs
-
--- from the first item on, up to some offset
-abbrev pub AreAllRuns : ℕ → List Run → Type 0
-AreAllRuns count runs = (end : ℕ) × AreRuns count end 0 0 runs
+abbrev pub AreRuns : Run → List Run → Type 0
+AreRuns before [] = Unit {0}
+AreRuns before (run ∷ runs) = Follows before run × AreRuns run runs
 
 abbrev pub items_of : Inside → Items
-items_of index =
-    record { sizes = sizes_of index.count index.runs.items; room = vec_capacity index.runs - vec_len index.runs }
+items_of index = record { sizes = sizes_of no_run index.runs.items; room = vec_capacity index.runs - vec_len index.runs }
 
-pub record IsIndex (index : Inside) : Type 0 where
-  pub runs : AreRuns index.count index.end 0 0 index.runs.items
-  -- so no number and no offset of an item overflows
-  pub fits : index.end < 2 ^ 64
-
--- a run has the item of this number, of these sizes
-pub record IsHere (sizes : List ℕ) (run : Run) (number : ℕ) : Type 0 where
-  pub first : run.first ≤ number
-  pub place : run.offset + (number - run.first) * run.size ≡ sum (take number sizes)
-  pub below : sum (take number sizes) < 2 ^ 64
-  pub size : slice_index sizes number ≡ run.size
-  pub least : mark_size ≤ run.size
-  pub most : run.size ≤ most_size
+abbrev pub IsIndex : Inside → Type 0
+IsIndex index = AreRuns no_run index.runs.items

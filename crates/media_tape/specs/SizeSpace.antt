@@ -1,12 +1,12 @@
 -- SPACE (6) (SSC-4): from item to item, over records or over filemarks, behind the position or before it.
-use Rattle.std.specs.Prelude.{ℕ, zero, suc, ◌+◌, ◌≤◌, ◌<◌, ◌==◌, List, [], ◌∷◌, take, drop, reverse, if◌then◌else◌}
-use Rattle.media_tape.specs.Index.{mark_size}
-use Rattle.media_tape.specs.Space.{Way, edge}
+use Rattle.std.specs.Prelude.{◌≡◌, ℕ, zero, suc, ◌+◌, ◌≤◌, ◌<◌, ◌==◌, List, [], ◌∷◌, length, if◌then◌else◌}
+use Rattle.media_tape.specs.Index.{mark_size, sizes_ahead}
+use Rattle.media_tape.specs.Space.{Way, edge, spaced_to}
 use Rattle.media_tape.specs.declared.outcome.Over.{Over}
 use Rattle.media_tape.specs.declared.outcome.Over.TheVariants.{Records, Filemarks}
 use Rattle.media_tape.specs.declared.outcome.Direction.{Direction}
-use Rattle.media_tape.specs.declared.outcome.Direction.TheVariants.{Forward, Backward}
 use Rattle.media_tape.specs.declared.outcome.Spaced.TheVariants as spaced
+use Rattle.media_tape.specs.declared.space.Ended.{Ended}
 use Rattle.media_tape.specs.declared.space.Within.{Within}
 use Rattle.media_tape.specs.declared.space.Within.TheVariants as within
 
@@ -24,11 +24,6 @@ size_way direction Filemarks (suc left) (size ∷ sizes) =
     if size == mark_size then further 1 (size_way direction Filemarks left sizes)
     else further 1 (size_way direction Filemarks (suc left) sizes)
 
--- the items on the size_way from a number, the nearest first
-abbrev pub sizes_ahead : Direction → ℕ → List ℕ → List ℕ
-sizes_ahead Forward from sizes = drop from sizes
-sizes_ahead Backward from sizes = reverse (take from sizes)
-
 abbrev pub size_way_from : Direction → Over → ℕ → ℕ → List ℕ → Way
 size_way_from direction over count from sizes = size_way direction over count (sizes_ahead direction from sizes)
 
@@ -41,3 +36,9 @@ through (within.Part passed told) direction over many sizes = record { passed = 
 abbrev pub IsWithin : ℕ → Within → Type 0
 IsWithin many (within.All left) = 0 < left
 IsWithin many (within.Part passed told) = passed ≤ many
+
+-- own: spacing ends there and so
+pub record HasEnded (toward : Direction) (over : Over) (count from : ℕ) (sizes : List ℕ) (ended : Ended) : Type 0 where
+  pub within : ended.number ≤ length sizes
+  pub number : ended.number ≡ spaced_to toward from (size_way_from toward over count from sizes).passed
+  pub told : ended.told ≡ (size_way_from toward over count from sizes).told

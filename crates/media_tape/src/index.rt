@@ -1,16 +1,10 @@
 //! The index.
 
-ghost use Rattle.std.specs.Prelude.{◌≡◌, ◌+◌, ◌-◌, ◌*◌, ◌^◌, ◌≤◌, ◌<◌, ◌++◌, ◌↔◌, [], length, sum, take, drop, replicate, slice_index, IsTrue, IsOk, OnOk, OnErr};
-ghost use Rattle.media_tape.specs.Index.{mark_size, most_size, Joins, HasRoom};
-ghost use Rattle.media_tape.specs.Runs.{IsHere};
-ghost use Rattle.media_tape.specs.Fixed.{fixed_passed};
-ghost use Rattle.media_tape.specs.SizeFixed.{size_fixed};
-ghost use Rattle.media_tape.specs.SizeSpace.{size_way_from};
-ghost use Rattle.media_tape.specs.Space.{spaced_to};
+ghost use Rattle.std.specs.Prelude.{◌≡◌, ◌+◌, ◌*◌, ◌^◌, ◌≤◌, ◌<◌, ◌++◌, [], length, sum, take, replicate, slice_index, IsOk, OnOk, OnErr, MatchOption};
+ghost use Rattle.media_tape.specs.Index.{mark_size, most_size, Joins, HasRoom, IsLast, AreAround, AreAhead, sizes_ahead};
 
-use crate::outcome::{Direction, FixedEnd, FixedRead, Over};
-use crate::run::{MARK_SIZE, Run, first_of, run_of};
-use crate::space::{Ended, space_back, space_on};
+use crate::outcome::Direction;
+use crate::run::{Run, run_before, run_of};
 use std::alloc::{AllocError, Global};
 use std::marker::Model;
 
@@ -18,8 +12,6 @@ use std::marker::Model;
 #[derive(Drop)]
 pub(crate) struct Index {
     runs: Vec<Run>,
-    count: u64,
-    end: u64,
 }
 
 impl Model for Index {
@@ -34,6 +26,31 @@ impl Model for Index {
     ghost invariant = { IsIndex };
 }
 
+/// Items of one size, one behind the other.
+#[derive(Clone, Copy, Debug)]
+pub(crate) struct Alike {
+    /// The number of the first.
+    pub first: u64,
+    /// The number behind the last.
+    pub next: u64,
+    /// Where the last ends.
+    pub end: u64,
+    /// The size of each.
+    pub size: u32,
+    /// Which run they are.
+    pub run: usize,
+}
+
+/// Items of one size on the way from a position.
+#[derive(Clone, Copy, Debug)]
+pub(crate) struct Ahead {
+    pub many: u64,
+    /// The size of each.
+    pub size: u32,
+    /// Which run they are of.
+    pub run: usize,
+}
+
 impl Index {
     /// Of no items.
     pub fn new(alloc: Global) -> Index
@@ -41,16 +58,21 @@ impl Index {
     {
         Index {
             runs: Vec::new(alloc),
-            count: 0,
-            end: 0,
         }
+    }
+
+    /// The last run, or one of no items.
+    fn last(&self) -> Run
+        ensures { IsLast self.now.sizes result }
+    {
+        run_before(&self.runs, self.runs.len())
     }
 
     /// How many items there are.
     pub fn count(&self) -> u64
         ensures { result ≡ length self.now.sizes }
     {
-        self.count
+        self.last().count
     }
 
     /// Where the last item ends.
@@ -58,15 +80,23 @@ impl Index {
         ensures end { result ≡ sum self.now.sizes }
         ensures few { length self.now.sizes * mark_size ≤ result }
     {
-        self.end
+        self.last().end
     }
 
-    /// The run with the item of this number.
-    fn run_at(&self, number: u64) -> Run
+    /// The run with the item of this number, which may be near this one.
+    fn run_at(&self, number: u64, near: usize) -> Alike
         requires { number < length self.now.sizes }
-        ensures { IsHere self.now.sizes result number }
+        ensures { AreAround self.now.sizes result number }
     {
-        self.runs[run_of(&self.runs, self.count, number)]
+        let i = run_of(&self.runs, number, near);
+        let run = run_before(&self.runs, i + 1);
+        Alike {
+            first: run_before(&self.runs, i).count,
+            next: run.count,
+            end: run.end,
+            size: run.size,
+            run: i,
+        }
     }
 
     /// Where the item of this number begins, or where the last ends, by bisection over the runs.
@@ -74,11 +104,11 @@ impl Index {
         requires { number ≤ length self.now.sizes }
         ensures { result ≡ sum (take number self.now.sizes) }
     {
-        if number == self.count {
-            return self.end;
+        if number == self.count() {
+            return self.end();
         }
-        let run = self.run_at(number);
-        run.offset + (number - run.first) * u64::from(run.size)
+        let run = self.run_at(number, 0);
+        run.end - (run.next - number) * u64::from(run.size)
     }
 
     /// The size of the item of this number, by bisection over the runs.
@@ -88,7 +118,42 @@ impl Index {
         ensures least { mark_size ≤ result }
         ensures most { result ≤ most_size }
     {
-        self.run_at(number).size
+        self.run_at(number, 0).size
+    }
+
+    /// The items of one size next to a position, in the run near this one or in another.
+    pub fn ahead(&self, toward: Direction, at: u64, near: usize) -> Option<Ahead>
+        requires { at ≤ length self.now.sizes }
+        ensures { MatchOption result (sizes_ahead toward at self.now.sizes ≡ []) (λ ahead. AreAhead toward at self.now.sizes ahead) }
+    {
+        match toward {
+            Direction::Forward => {
+                if at == self.count() {
+                    return None;
+                }
+                let Alike {
+                    next,
+                    size,
+                    run,
+                    ..
+                } = self.run_at(at, near);
+                let many = next - at;
+                Some(Ahead { many, size, run })
+            }
+            Direction::Backward => {
+                if at == 0 {
+                    return None;
+                }
+                let Alike {
+                    first,
+                    size,
+                    run,
+                    ..
+                } = self.run_at(at - 1, near);
+                let many = at - first;
+                Some(Ahead { many, size, run })
+            }
+        }
     }
 
     /// Makes room for one run more. Where that fails nothing changed.
@@ -102,14 +167,6 @@ impl Index {
         self.runs.reserve(1)
     }
 
-    /// Whether the last item has this size.
-    pub fn joins(&self, size: u32) -> bool
-        requires { mark_size ≤ size }
-        ensures { IsTrue result ↔ Joins size self.now.sizes }
-    {
-        self.count > 0 && self.size_at(self.count - 1) == size
-    }
-
     /// So many items of a size more, where there is room for a run or the last item has this size.
     pub fn push_reserved(&mut self, size: u32, many: u64)
         requires least { mark_size ≤ size }
@@ -121,17 +178,15 @@ impl Index {
         ensures joined { Joins size self.old.sizes → self.new.room ≡ self.old.room }
         ensures room { self.old.room ≤ self.new.room + 1 }
     {
-        let count = self.count + many;
-        let end = self.end + many * u64::from(size);
-        if !self.joins(size) {
-            self.runs.push_reserved(Run {
-                first: self.count,
-                offset: self.end,
-                size,
-            });
+        let last = self.last();
+        if last.size == size {
+            self.runs.pop();
         }
-        self.count = count;
-        self.end = end;
+        self.runs.push_reserved(Run {
+            count: last.count + many,
+            end: last.end + many * u64::from(size),
+            size,
+        });
     }
 
     /// So many items of a size more. It takes no memory where the last item has this size, and where it
@@ -145,7 +200,7 @@ impl Index {
         ensures succeeds { HasRoom size self.old → IsOk result }
         ensures err { OnErr result (self.new ≡ self.old) }
     {
-        if !self.joins(size) {
+        if self.last().size != size {
             self.reserve_one()?;
         }
         self.push_reserved(size, many);
@@ -157,73 +212,17 @@ impl Index {
         ensures sizes { self.new.sizes ≡ take count self.old.sizes }
         ensures room { self.old.room ≤ self.new.room }
     {
-        if count >= self.count {
+        if count >= self.count() {
+            return;
+        }
+        if count == 0 {
+            self.runs.clear();
             return;
         }
         let end = self.place_of(count);
-        let last = run_of(&self.runs, self.count, count);
-        if self.runs[last].first == count {
-            self.runs.truncate(last);
-        } else {
-            self.runs.truncate(last + 1);
-        }
-        self.count = count;
-        self.end = end;
-    }
-
-    /// Spaces over so many records or filemarks from a position, or to where spacing ends before that
-    /// (SSC-4 "SPACE (6)").
-    pub fn space(&self, toward: Direction, over: Over, from: u64, count: u32) -> Ended
-        requires { from ≤ length self.now.sizes }
-        ensures within { result.number ≤ length self.now.sizes }
-        ensures number { result.number ≡ spaced_to toward from (size_way_from toward over count from self.now.sizes).passed }
-        ensures told { result.told ≡ (size_way_from toward over count from self.now.sizes).told }
-    {
-        match toward {
-            Direction::Forward => space_on(&self.runs, self.count, over, from, count),
-            Direction::Backward => space_back(&self.runs, self.count, over, from, count),
-        }
-    }
-
-    /// The number behind the run of this item: all items up to there have its size.
-    fn run_end(&self, number: u64) -> u64
-        requires { number < length self.now.sizes }
-        ensures past { number < result }
-        ensures within { result ≤ length self.now.sizes }
-        ensures alike { drop number self.now.sizes
-            ≡ replicate (result - number) (slice_index self.now.sizes number) ++ drop result self.now.sizes }
-    {
-        let run = run_of(&self.runs, self.count, number);
-        first_of(&self.runs, self.count, run + 1)
-    }
-
-    /// What a read of so many blocks of a length from this number on gives, run by run, and what ends it
-    /// (SSC-4 "READ (6)").
-    pub fn blocks(&self, from: u64, count: u32, block_length: u32) -> FixedRead
-        requires { from ≤ length self.now.sizes }
-        ensures read { result ≡ size_fixed count block_length (drop from self.now.sizes) }
-        ensures passed { from + fixed_passed result < 2 ^ 64 }
-    {
-        let mut given = 0;
-        while given < count {
-            let number = from + u64::from(given);
-            if number == self.count() {
-                let ended = FixedEnd::EndOfData;
-                return FixedRead { given, ended };
-            }
-            let length = self.size_at(number) - MARK_SIZE;
-            if length == 0 {
-                let ended = FixedEnd::Filemark;
-                return FixedRead { given, ended };
-            }
-            if length != block_length {
-                let ended = FixedEnd::Length(length);
-                return FixedRead { given, ended };
-            }
-            let alike = self.run_end(number) - number;
-            given += alike.min(u64::from(count - given)) as u32;
-        }
-        let ended = FixedEnd::Whole;
-        FixedRead { given, ended }
+        let i = run_of(&self.runs, count - 1, 0);
+        let size = run_before(&self.runs, i + 1).size;
+        self.runs.truncate(i);
+        self.runs.push_reserved(Run { count, end, size });
     }
 }

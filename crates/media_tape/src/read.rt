@@ -24,6 +24,7 @@ pub(crate) fn read_behind<S: Store>(
     ensures read { OnOk result (IsTrue (S.Store.honest store.new) → at + count ≤ length (S.Store.content store.old)
         → buffer.new.items ≡ buffer.old.items ++ slice_range (S.Store.content store.old) at (at + count)) }
     ensures length { length buffer.new.items ≡ length buffer.old.items + count }
+    ensures spare { buffer.new.spare + count ≡ buffer.old.spare }
     ensures back { IsTrue (S.Store.honest store.new) → IsTrue (S.Store.honest store.old) }
     ensures content { S.Store.content store.new ≡ S.Store.content store.old }
     ensures synced { S.Store.synced store.new ≡ S.Store.synced store.old }
@@ -46,7 +47,8 @@ pub(crate) fn read_behind<S: Store>(
 fn put_data(items: &[u8], count: usize, block_length: usize, buffer: &mut BytesMut)
     requires long { count * (block_length + 8) ≤ length items.now }
     requires room { count * block_length ≤ buffer.old.spare }
-    ensures { buffer.new.items ≡ buffer.old.items ++ data_in count block_length items.now }
+    ensures items { buffer.new.items ≡ buffer.old.items ++ data_in count block_length items.now }
+    ensures spare { buffer.new.spare + count * block_length ≡ buffer.old.spare }
 {
     for i in 0..count {
         let from = i * (block_length + LENGTHS as usize) + LENGTH as usize;
@@ -71,6 +73,7 @@ pub(crate) fn read_blocks<S: Store>(
         → place + count * (block_length + 8) ≤ length (S.Store.content store.old)
         → buffer.new.items ≡ buffer.old.items ++ data_in count block_length (drop place (S.Store.content store.old)))) }
     ensures length { IfOk result (λ done. OnOk done (length buffer.new.items ≡ length buffer.old.items + count * block_length)) }
+    ensures spare { IfOk result (λ _. behind ≤ buffer.new.spare) }
     ensures back { IsTrue (S.Store.honest store.new) → IsTrue (S.Store.honest store.old) }
     ensures content { S.Store.content store.new ≡ S.Store.content store.old }
     ensures synced { S.Store.synced store.new ≡ S.Store.synced store.old }

@@ -1,6 +1,6 @@
 //! READ of a tape.
 
-ghost use Rattle.std.specs.Prelude.{◌≡◌, ◌+◌, ◌*◌, ◌≤◌, ◌<◌, ◌++◌, length, take, drop, min, IsTrue, IsOk, IfOk, OnOk, OnErr};
+ghost use Rattle.std.specs.Prelude.{◌≡◌, ◌+◌, ◌*◌, ◌≤◌, ◌<◌, ℕ, ◌++◌, length, take, drop, min, IsTrue, IsOk, IfOk, OnOk, OnErr};
 ghost use Rattle.media_store.specs.Failures.{counted, risen};
 ghost use Rattle.media_tape.specs.Items.{most_bytes};
 ghost use Rattle.media_tape.specs.Tape.{read_told, passed_length, first_data, tape_read};
@@ -32,6 +32,7 @@ impl<S: Store> Tape<S> {
             → buffer.new.items ≡ buffer.old.items ++ take asked (first_data self.old.after))) }
         ensures length { IfOk result (λ done. IfOk done (λ passed. length buffer.new.items
             ≡ length buffer.old.items + min asked (passed_length passed))) }
+        ensures spare { IfOk result (λ done. IfOk done (λ told. (n : ℕ) → told ≡ passed.Record n → behind ≤ buffer.new.spare)) }
         ensures tape { IfOk result (λ done. OnOk done (IsTrue self.new.honest → self.new ≡ tape_read asked self.old)) }
         ensures failed { IfOk result (λ done. OnErr done (self.new
             ≡ record self.old { failures = risen self.old.failures; honest = self.new.honest })) }
@@ -83,6 +84,7 @@ impl<S: Store> Tape<S> {
             → buffer.new.items ≡ buffer.old.items ++ fixed_data count block_length self.old)) }
         ensures length { IfOk result (λ done. IfOk done (λ read. length buffer.new.items
             ≡ length buffer.old.items + read.given * block_length)) }
+        ensures spare { IfOk result (λ _. behind ≤ buffer.new.spare) }
         ensures shown { IfOk result (λ done. IfOk done (λ read. 0 < block_length
             → Gives count block_length read (drop (length buffer.old.items) buffer.new.items))) }
         ensures tape { IfOk result (λ done. OnOk done (IsTrue self.new.honest → self.new ≡ tape_read_fixed count block_length self.old)) }

@@ -1,13 +1,16 @@
-//! From item to item, over records or over filemarks (SSC-4 "SPACE (6)").
+//! From item to item, over records or over filemarks (SSC-4 "SPACE (6)"), and over blocks (SSC-4 "READ (6)").
 
-ghost use Rattle.std.specs.Prelude.{◌≡◌, ℕ, ◌+◌, ◌-◌, ◌≤◌, ◌<◌, List, ◌++◌, replicate, take, drop, reverse};
-ghost use Rattle.media_tape.specs.Runs.{AreAllRuns, sizes_of};
-ghost use Rattle.media_tape.specs.SizeSpace.{size_way, through, IsWithin};
+ghost use Rattle.std.specs.Prelude.{◌≡◌, ℕ, ◌+◌, ◌≤◌, ◌<◌, ◌^◌, List, ◌++◌, length, drop, replicate};
+ghost use Rattle.media_tape.specs.Fixed.{fixed_passed};
+ghost use Rattle.media_tape.specs.Index.{CanMove};
+ghost use Rattle.media_tape.specs.SizeFixed.{size_fixed};
+ghost use Rattle.media_tape.specs.SizeSpace.{size_way, through, IsWithin, HasEnded};
+ghost use Rattle.media_tape.specs.Space.{edge, spaced_to};
 ghost use Rattle.media_tape.specs.declared.outcome.Direction.{Direction as Toward};
-ghost use Rattle.media_tape.specs.declared.outcome.Direction.TheVariants.{Forward, Backward};
 
-use crate::outcome::{Direction, Over, Spaced};
-use crate::run::{MARK_SIZE, Run, first_of, run_of};
+use crate::index::Index;
+use crate::outcome::{Direction, FixedEnd, FixedRead, Over, Spaced};
+use crate::run::MARK_SIZE;
 
 /// Where spacing ended, and why.
 #[derive(Clone, Copy, Debug, PartialEq, Eq)]
@@ -41,73 +44,86 @@ fn within_run(over: Over, left: u32, size: u32, many: u64) -> Within
     }
 }
 
-/// Spaces over the items behind a position.
-pub(crate) fn space_on(runs: &[Run], all: u64, over: Over, from: u64, count: u32) -> Ended
-    requires runs { AreAllRuns all runs.now }
-    requires within { from ≤ all }
-    ensures from { from ≤ result.number }
-    ensures within { result.number ≤ all }
-    ensures way { size_way Forward over count (drop from (sizes_of all runs.now)) ≡ record { passed = result.number - from; told = result.told } }
+/// A position so many items on.
+fn moved(toward: Direction, at: u64, many: u64) -> u64
+    requires { CanMove toward at many }
+    ensures { result ≡ spaced_to toward at many }
 {
-    let mut at = from;
-    let mut left = count;
-    if count == 0 {
-        let told = Spaced::Whole;
-        return Ended { number: at, told };
+    match toward {
+        Direction::Forward => at + many,
+        Direction::Backward => at - many,
     }
-    if from == all {
-        let told = Spaced::EndOfData(left);
-        return Ended { number: at, told };
-    }
-    for i in run_of(runs, all, from)..runs.len() {
-        let next = first_of(runs, all, i + 1);
-        match within_run(over, left, runs[i].size, next - at) {
-            Within::All(rest) => {
-                at = next;
-                left = rest;
-            }
-            Within::Part(passed, told) => {
-                let number = at + passed;
-                return Ended { number, told };
-            }
-        }
-    }
-    let told = Spaced::EndOfData(left);
-    Ended { number: at, told }
 }
 
-/// Spaces over the items before a position, the last first.
-pub(crate) fn space_back(runs: &[Run], all: u64, over: Over, from: u64, count: u32) -> Ended
-    requires runs { AreAllRuns all runs.now }
-    requires within { from ≤ all }
-    ensures within { result.number ≤ from }
-    ensures way { size_way Backward over count (reverse (take from (sizes_of all runs.now))) ≡ record { passed = from - result.number; told = result.told } }
+/// What is told where no item is left.
+fn at_edge(toward: Direction, left: u32) -> Spaced
+    ensures { result ≡ edge toward left }
 {
-    let mut at = from;
-    let mut left = count;
-    if count == 0 {
-        let told = Spaced::Whole;
-        return Ended { number: at, told };
+    match toward {
+        Direction::Forward => Spaced::EndOfData(left),
+        Direction::Backward => Spaced::Beginning(left),
     }
-    if from == 0 {
-        let told = Spaced::Beginning(left);
-        return Ended { number: at, told };
-    }
-    let mut behind = run_of(runs, all, from - 1) + 1;
-    while behind > 0 {
-        let run = runs[behind - 1];
-        match within_run(over, left, run.size, at - run.first) {
-            Within::All(rest) => {
-                at = run.first;
-                left = rest;
-            }
-            Within::Part(passed, told) => {
-                let number = at - passed;
-                return Ended { number, told };
+}
+
+impl Index {
+    /// Spaces over so many records or filemarks from a position, or to where spacing ends before that, run by run
+    /// (SSC-4 "SPACE (6)").
+    pub fn space(&self, toward: Direction, over: Over, from: u64, count: u32) -> Ended
+        requires { from ≤ length self.now.sizes }
+        ensures { HasEnded toward over count from self.now.sizes result }
+    {
+        let mut at = from;
+        let mut left = count;
+        let mut near = 0;
+        while left > 0 {
+            let Some(ahead) = self.ahead(toward, at, near) else {
+                let told = at_edge(toward, left);
+                return Ended { number: at, told };
+            };
+            match within_run(over, left, ahead.size, ahead.many) {
+                Within::All(rest) => {
+                    at = moved(toward, at, ahead.many);
+                    left = rest;
+                    near = ahead.run;
+                }
+                Within::Part(passed, told) => {
+                    let number = moved(toward, at, passed);
+                    return Ended { number, told };
+                }
             }
         }
-        behind -= 1;
+        let told = Spaced::Whole;
+        Ended { number: at, told }
     }
-    let told = Spaced::Beginning(left);
-    Ended { number: at, told }
+
+    /// What a read of so many blocks of a length from this number on gives, run by run, and what ends it
+    /// (SSC-4 "READ (6)").
+    pub fn blocks(&self, from: u64, count: u32, block_length: u32) -> FixedRead
+        requires { from ≤ length self.now.sizes }
+        ensures read { result ≡ size_fixed count block_length (drop from self.now.sizes) }
+        ensures passed { from + fixed_passed result < 2 ^ 64 }
+    {
+        let mut given = 0;
+        let mut near = 0;
+        while given < count {
+            let number = from + u64::from(given);
+            let Some(ahead) = self.ahead(Direction::Forward, number, near) else {
+                let ended = FixedEnd::EndOfData;
+                return FixedRead { given, ended };
+            };
+            let length = ahead.size - MARK_SIZE;
+            if length == 0 {
+                let ended = FixedEnd::Filemark;
+                return FixedRead { given, ended };
+            }
+            if length != block_length {
+                let ended = FixedEnd::Length(length);
+                return FixedRead { given, ended };
+            }
+            given += ahead.many.min(u64::from(count - given)) as u32;
+            near = ahead.run;
+        }
+        let ended = FixedEnd::Whole;
+        FixedRead { given, ended }
+    }
 }

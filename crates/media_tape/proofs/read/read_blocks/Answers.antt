@@ -22,7 +22,7 @@ returns-in-Ok-clause-read g c honest within =
     let n = c.args.block_length in
     let old = c.args.buffer.now.items in
     let items = c.as_slice.ensures ∙ rw c.in_ok-items.ensures.items at (c.in-Ok.ensures.read honest within) in
-    c.put_data.ensures ∙ ap (λ (xs : List ℕ). xs ++ data_in c.args.count n c.as_slice.result.now) c.in_ok-reserve.ensures.items
+    c.put_data.ensures.items ∙ ap (λ (xs : List ℕ). xs ++ data_in c.args.count n c.as_slice.result.now) c.in_ok-reserve.ensures.items
     ∙ ap (λ (xs : List ℕ). old ++ data_in c.args.count n xs) items
     ∙ ap (λ (xs : List ℕ). old ++ xs) (data-slice c.args.count n c.args.place content)
 
@@ -33,5 +33,5 @@ returns-in-Ok-clause-length g c =
     let many : length raw ≡ c.args.count * (n + 8) =
     ap length c.as_slice.ensures ∙ omega (arith, c.in-Ok.ensures.length, ap length c.in_ok-items.ensures.items) in
     let given = length-data c.args.count n raw (omega (arith, many)) in
-    ap length c.put_data.ensures ∙ length-append c.reserve.new.self.items (data_in c.args.count n raw)
+    ap length c.put_data.ensures.items ∙ length-append c.reserve.new.self.items (data_in c.args.count n raw)
     ∙ omega (arith, ap length c.in_ok-reserve.ensures.items, given)

@@ -1,7 +1,7 @@
 use Rattle.std.proofs.Common.{◌+◌, take, sum, ap, ◌∙◌, arith}
 use Rattle.std.specs.Prelude.{replicate}
 use Rattle.media_tape.specs.Items.{items_of}
-use Rattle.media_tape.proofs.Runs.{sum-append, sum-replicate}
+use Rattle.media_tape.proofs.Alike.{sum-append, sum-replicate}
 use Rattle.media_tape.proofs.Sizes.{sum-sizes}
 use Rattle.media_tape.proofs.Walks.{walked-next, walked-last}
 use Rattle.media_tape.proofs.walk.walk.Goals as goal
@@ -43,9 +43,4 @@ returns-clause-sizes g c honest long =
 
 pub returns-clause-place : goal.returns-clause-place
 returns-clause-place g c honest long =
-    let kept = c.loop-window.invariant in
-    let told = c.in_ok-length.ensures in
-    let none = rw (c.in_default.is, kept.content, c.end.ensures.end) at told.found in
-    ap sum (walked-last (take c.args.end (g.S.Store.content c.args.store.now)) c.loop-window.index.sizes (kept.is (told.back honest) long)
-    (none honest (kept.shows (told.back honest) long) long))
-    ∙ sum-sizes (items_of (take c.args.end (g.S.Store.content c.args.store.now)))
+    ap sum (returns-clause-sizes g c honest long) ∙ sum-sizes (items_of (take c.args.end (g.S.Store.content c.args.store.now)))

@@ -1,18 +1,15 @@
-use Rattle.std.proofs.Common.{sym, ap, ◌∙◌, sum, arith}
-use Rattle.std.proofs.lemmas.List.{take_all}
-use Rattle.media_tape.specs.Runs.{sizes_of}
-use Rattle.media_tape.proofs.Indexes.{count_is, end_is}
+use Rattle.std.proofs.Common.{◌-◌, ◌*◌, ap, arith}
+use Rattle.media_tape.proofs.Runs.{around-place}
 use Rattle.media_tape.proofs.index.Index.place_of.Goals as goal
 
-pub returns-then-number-self : goal.returns-then-number-self
-returns-then-number-self c =
-    let index = c.self.inside in
-    let sizes = sizes_of index.count index.runs.items in
-    let all = take_all c.args.number sizes (omega (arith, count_is index c.self.invariant, c.if-number-self.true)) in
-    rw (← c.self.view_is) (sym (ap sum all ∙ end_is index c.self.invariant))
+pub overflow_sub-result-2 : goal.overflow_sub-result-2
+overflow_sub-result-2 c =
+    omega (arith, around-place _ _ _ c.run_at-run.ensures, ap (λ n. (c.run_at-run.result.next - c.args.number) * n) c.from.ensures)
 
-pub run_at-run-requires : goal.run_at-run-requires
-run_at-run-requires c =
-    let index = c.self.inside in
-    let some = rw (← c.self.view_is) at c.requires in
-    rw (← c.self.view_is) (omega (arith, count_is index c.self.invariant, c.if-number-self.false))
+pub overflow_mul-result : goal.overflow_mul-result
+overflow_mul-result c =
+    omega (arith, around-place _ _ _ c.run_at-run.ensures, ap (λ n. (c.run_at-run.result.next - c.args.number) * n) c.from.ensures, c.run_at-run.type_inv)
+
+pub returns : goal.returns
+returns c =
+    omega (arith, around-place _ _ _ c.run_at-run.ensures, ap (λ n. (c.run_at-run.result.next - c.args.number) * n) c.from.ensures)

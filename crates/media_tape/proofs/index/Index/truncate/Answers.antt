@@ -1,55 +1,30 @@
-use Rattle.std.proofs.Common.{◌≡◌, take, sum, sym, ap, arith}
-use Rattle.std.proofs.lemmas.List.{take_all}
-use Rattle.std.proofs.lemmas.List.Sums.{sum_by-take-le}
-use Rattle.media_tape.specs.Runs.{sizes_of}
+use Rattle.std.proofs.Common.{take, ap, arith}
+use Rattle.media_tape.specs.Runs.{no_run, sizes_of}
 use Rattle.media_tape.specs.declared.run.Run.{Run}
-use Rattle.media_tape.proofs.Runs.{first_at-run, first_at-zero}
-use Rattle.media_tape.proofs.Indexes.{all_runs, count_is, end_is, IsCut, cut_in, cut_before}
+use Rattle.media_tape.proofs.Runs.{AreThose, are_all, cut_in}
 use Rattle.media_tape.proofs.index.Index.truncate.Goals as goal
-use Rattle.media_tape.proofs.index.Index.truncate.Goals.{then-index-count, else-index-count}
-
-pub returns-then-count-self-clause-sizes : goal.returns-then-count-self-clause-sizes
-returns-then-count-self-clause-sizes c =
-    let index = c.self.inside in
-    rw (← c.self.view_is) (sym (take_all c.args.count (sizes_of index.count index.runs.items) (omega
-    (arith, count_is index c.self.invariant, c.if-count-self.true))))
 
 pub place_of-end-requires : goal.place_of-end-requires
-place_of-end-requires c =
-    let index = c.self.inside in
-    rw (← c.self.view_is) (omega (arith, count_is index c.self.invariant, c.if-count-self.false))
+place_of-end-requires c = omega (arith, c.count.ensures, c.if-count.false)
 
-pub run_of-last-requires-clause-first : goal.run_of-last-requires-clause-first
-run_of-last-requires-clause-first c =
-    rw c.deref.ensures.value (omega (arith, first_at-zero c.self.inside.count c.self.inside.runs.items (all_runs c.self.inside c.self.invariant)))
+pub run_of-i-requires : goal.run_of-i-requires
+run_of-i-requires c =
+    let less = rw (← c.self.view_is) at c.count.ensures in
+    rw c.deref.ensures.value (omega (arith, less, (are_all c.self.inside.runs.items c.self.invariant).count))
 
-is_cut : (c : goal.After-self-2-1) → IsCut c.self.inside c.if-index-count.self-inside.runs.items c.args.count
+is_cut : (c : goal.After-push_reserved) → AreThose c.push_reserved.new.self.items (take c.args.count (sizes_of no_run c.self.inside.runs.items))
 is_cut c =
-    let index = c.self.inside in
-    let runs = index.runs.items in
-    let run = c.index.result.now in
-    let found = rw c.deref.ensures.value at c.run_of-last.ensures in
-    let first = first_at-run index.count runs c.run_of-last.result run found.within in
-    let same = ap (λ (r : Run). r.first) c.index.ensures in
-    elim c.if-index-count.branch [
-      | then-index-count w ↦
-          rw (w.self-inside-is, w.truncate.ensures.items, ← w.if-index-count.true)
-          (cut_before index c.run_of-last.result run c.self.invariant found.within c.index.ensures)
-      | else-index-count w ↦
-          rw (w.self-inside-is, w.truncate-else-index-count.ensures.items)
-          (cut_in index c.run_of-last.result c.args.count run c.self.invariant found.within c.index.ensures
-          (omega (arith, first, same, found.from, w.if-index-count.false)) (omega (arith, found.to)))
-    ]
+    let runs = c.self.inside.runs.items in
+    let found = rw c.deref.ensures.value at c.run_of-i.ensures in
+    let run = rw c.deref-2.ensures.value at c.run_before-size.ensures in
+    let end = rw (← c.self.view_is) at c.place_of-end.ensures in
+    let new : Run = record { count = c.args.count; end = c.place_of-end.result; size = c.run_before-size.result.size } in
+    rw (c.push_reserved.ensures.items, c.truncate.ensures.items)
+    (cut_in runs c.run_of-i.result new c.self.invariant found.within (omega (arith, found.from)) (omega (arith, found.to))
+    (ap (λ (r : Run). r.size) run) end)
 
-pub invariant_of-self : goal.invariant_of-self
-invariant_of-self c =
-    let index = c.self.inside in
-    let sizes = sizes_of index.count index.runs.items in
-    let end : c.place_of-end.result ≡ sum (take c.args.count sizes) = rw (← c.self.view_is) at c.place_of-end.ensures in
-    record {
-      runs = rw end (is_cut c).are;
-      fits = omega (arith, end, sum_by-take-le (λ n. n) sizes c.args.count, end_is index c.self.invariant, c.self.invariant.fits);
-    }
+pub invariant_of-self-2 : goal.invariant_of-self-2
+invariant_of-self-2 c = (is_cut c).are
 
 pub returns-clause-sizes : goal.returns-clause-sizes
 returns-clause-sizes c = rw (← c.self.view_is) (is_cut c).sizes_are

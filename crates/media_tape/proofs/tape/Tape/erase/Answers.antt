@@ -2,7 +2,7 @@ use Rattle.std.proofs.Common.{◌≡◌, ◌≤◌, length, take, sum, ap, refl,
 use Rattle.std.proofs.lemmas.List.{append-nil, length-take-le}
 use Rattle.std.proofs.lemmas.List.Sums.{sum_by-take-le}
 use Rattle.media_tape.proofs.Indexed.{cut_left, cut_indexed}
-use Rattle.media_tape.proofs.Results.{on_err_always}
+use Rattle.media_store.proofs.Outcomes.{OnErr-always}
 use Rattle.media_tape.proofs.tape.Tape.erase.Given as given
 use Rattle.media_tape.proofs.tape.Tape.erase.Goals as goal
 
@@ -18,20 +18,12 @@ pub returns-in_err-cut_at-clause-failed : goal.returns-in_err-cut_at-clause-fail
 returns-in_err-cut_at-clause-failed g c =
     let old = c.self.inside in
     let keeps = rw c.place_of-place.ensures at c.cut_at.ensures.keeps in
-    rw (← c.self.view_is) (on_err_always c.from_residual.result (λ honest.
+    rw (← c.self.view_is) (OnErr-always c.from_residual.result (λ honest.
     let are = cut_left (g.S.Store.content old.store) old.index.sizes (g.S.Store.content c.cut_at.new.store) old.is_torn true old.position
     (c.self.invariant.are_in honest) c.self.invariant.within keeps (λ none. absurd cc) in
-    rw (
-      c.truncate.ensures.sizes,
-      are.before,
-      append-nil (take old.position _),
-      are.after,
-      c.in_err-cut_at.ensures.unsynced,
-      c.in_err-cut_at.ensures.failures,
-      c.cut_at.ensures.honest,
-      c.cut_at.ensures.steady,
-      c.cut_at.ensures.reach,
-    ) refl))
+    let kept = c.cut_at.ensures in
+    rw (c.truncate.ensures.sizes, are.before, append-nil (take old.position _), are.after, c.in_err-cut_at.ensures.unsynced)
+    (rw (c.in_err-cut_at.ensures.failures, kept.honest, kept.steady, kept.reach) refl)))
 
 whole : (g : given.Over) (c : goal.After-self-2-1 g) → IsTrue (g.S.Store.honest c.self.inside.store)
     → length (g.S.Store.content c.cut_at.new.store) ≡ sum (take c.self.inside.position c.self.inside.index.sizes)
@@ -58,14 +50,6 @@ returns-clause-tape g c honest =
     let keeps = rw c.place_of-place.ensures at c.cut_at.ensures.keeps in
     let are = cut_left (g.S.Store.content old.store) old.index.sizes (g.S.Store.content c.cut_at.new.store) old.is_torn false old.position
     (c.self.invariant.are_in was) c.self.invariant.within keeps (λ none. whole g c was) in
-    rw (← c.self.view_is) (rw (
-      c.truncate.ensures.sizes,
-      are.before,
-      are.after,
-      are.tail refl,
-      c.in_ok-cut_at.ensures.synced refl,
-      c.in_ok-cut_at.ensures.failures,
-      c.cut_at.ensures.honest,
-      c.cut_at.ensures.steady,
-      c.cut_at.ensures.reach,
-    ) refl)
+    let kept = c.cut_at.ensures in
+    rw (← c.self.view_is, c.truncate.ensures.sizes, are.before, are.after, are.tail refl, c.in_ok-cut_at.ensures.synced refl)
+    (rw (c.in_ok-cut_at.ensures.failures, kept.honest, kept.steady, kept.reach) refl)

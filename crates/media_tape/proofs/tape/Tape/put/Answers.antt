@@ -7,10 +7,10 @@ use Rattle.media_tape.specs.Tape.{size_told}
 use Rattle.media_tape.specs.declared.outcome.Written.{Written}
 use Rattle.media_tape.specs.declared.outcome.Written.TheVariants as written
 use Rattle.media_tape.specs.declared.write.Objects.{Objects}
-use Rattle.media_tape.proofs.Runs.{sum-replicate}
+use Rattle.media_tape.proofs.Alike.{sum-replicate}
 use Rattle.media_tape.proofs.Sizes.{sum-sizes}
 use Rattle.media_tape.proofs.Indexed.{placed, HasEnd, written_there, left, left_indexed, cut_left, cut_indexed}
-use Rattle.media_tape.proofs.Commands.{refused_told, put_refused, fitting_told, put_fitting, synced_refused, synced_fitting}
+use Rattle.media_tape.proofs.Commands.{refused_told, put_refused, fitting_told, put_fitting}
 use Rattle.media_tape.proofs.tape.Tape.put.Given as given
 use Rattle.media_tape.proofs.tape.Tape.put.Goals as goal
 
@@ -32,10 +32,10 @@ returns-then-self-place-clause-told g c honest = sym (over g c honest)
 
 pub returns-then-self-place-clause-tape : goal.returns-then-self-place-clause-tape
 returns-then-self-place-clause-tape g c honest =
-    sym (ap (λ (t : Written). put_if_told c.args.objects.now t c.args.self.now) (over g c honest) ∙ put_refused c.args.objects.now c.args.self.now)
+    sym (ap (λ (t : Written). put_if_told c.args.objects.now t c.args.self.now) (over g c honest) ∙ (put_refused c.args.objects.now c.args.self.now.synced c.args.self.now).0)
 
 pub returns-then-self-place-clause-synced : goal.returns-then-self-place-clause-synced
-returns-then-self-place-clause-synced g c = sym (synced_refused c.args.objects.now c.args.self.now.synced)
+returns-then-self-place-clause-synced g c = sym (put_refused c.args.objects.now c.args.self.now.synced c.args.self.now).1
 
 pub push_reserved-requires-clause-fits : goal.push_reserved-requires-clause-fits
 push_reserved-requires-clause-fits g c =
@@ -51,16 +51,9 @@ fits : (g : given.Over) (c : goal.After-told g) → IsTrue c.args.self.now.hones
 fits g c honest =
     let old = c.self.inside in
     let here = placed (g.S.Store.content old.store) old.index.sizes old.is_torn old.position (c.self.invariant.are_in (rw (← c.self.view_is) at honest)) in
-    rw (← c.self.view_is) (omega (
-      arith,
-      here,
-      c.place_of-place.ensures,
-      c.size-size.ensures,
-      c.if-self-place.false,
-      c.self.invariant.fits,
-      sum_by-take-le
-          (λ n. n) old.index.sizes old.position,
-    ))
+    let below = sum_by-take-le (λ n. n) old.index.sizes old.position in
+    rw (← c.self.view_is)
+    (omega (arith, here, c.place_of-place.ensures, c.size-size.ensures, c.if-self-place.false, c.self.invariant.fits, below))
 
 ends : (g : given.Over) (c : goal.After-told g) → IsTrue (g.S.Store.honest c.self.inside.store)
     → HasEnd (sum (take c.self.inside.position c.self.inside.index.sizes)) (g.S.Store.content c.write_objects.new.store)
@@ -74,13 +67,9 @@ ends g c honest =
 
 sizes_are : (g : given.Over) (c : goal.After-told g) → c.push_reserved.new.self.sizes
     ≡ take c.self.inside.position c.self.inside.index.sizes ++ map size (items_of (bytes_of c.args.objects.now))
-sizes_are g c = rw (
-  c.truncate.ensures.sizes,
-  c.in_ok-reserve_one.ensures.sizes,
-  c.many.ensures,
-  c.each_size.ensures,
-  ← c.requires.sized,
-) at c.push_reserved.ensures.sizes
+sizes_are g c =
+    rw (c.truncate.ensures.sizes, c.in_ok-reserve_one.ensures.sizes, c.many.ensures, c.each_size.ensures, ← c.requires.sized) at
+    c.push_reserved.ensures.sizes
 
 position_is : (g : given.Over) (c : goal.After-told g) → c.count-self-inside.result
     ≡ c.self.inside.position + length (items_of (bytes_of c.args.objects.now))
@@ -97,17 +86,10 @@ invariant_of-self-in-Ok g c =
     let items = items_of (bytes_of c.args.objects.now) in
     let front = take old.position old.index.sizes in
     let keeps = rw c.place_of-place.ensures at c.in-Ok.ensures.keeps in
+    let below = sum_by-take-le (λ n. n) old.index.sizes old.position in
+    let long = sized c.args.objects.now c.requires in
     let room : sum front + size_of items ≤ old.capacity =
-    omega (
-      arith,
-      sized c.args.objects.now c.requires,
-      c.place_of-place.ensures,
-      c.size-size.ensures,
-      c.if-self-place.false,
-      c.self.invariant.fits,
-      sum_by-take-le
-          (λ n. n) old.index.sizes old.position,
-    ) in
+    omega (arith, long, c.place_of-place.ensures, c.size-size.ensures, c.if-self-place.false, c.self.invariant.fits, below) in
     rw (c.in-Ok.ensures.honest, sizes_are g c)
     (left_indexed (g.S.Store.honest old.store) old.is_torn false (g.S.Store.content old.store) old.index.sizes (g.S.Store.content c.write_objects.new.store)
     (front ++ map size items) old.position c.count-self-inside.result old.capacity items c.self.invariant keeps (ends g c) refl (position_is g c) room)
@@ -123,7 +105,7 @@ pub returns-in-Ok-clause-synced : goal.returns-in-Ok-clause-synced
 returns-in-Ok-clause-synced g c =
     let before = c.args.self.now.synced in
     c.in-Ok.ensures.synced
-    ∙ sym (ap (λ (t : Written). put_synced c.args.objects.now t before) c.told.ensures ∙ synced_fitting c.args.objects.now _ before)
+    ∙ sym (ap (λ (t : Written). put_synced c.args.objects.now t before) c.told.ensures ∙ (put_fitting c.args.objects.now _ before c.args.self.now).1)
 
 pub returns-in-Ok-clause-tape : goal.returns-in-Ok-clause-tape
 returns-in-Ok-clause-tape g c honest =
@@ -136,21 +118,10 @@ returns-in-Ok-clause-tape g c honest =
     let done = left (g.S.Store.content old.store) old.index.sizes (g.S.Store.content c.write_objects.new.store)
     (take old.position old.index.sizes ++ map size items) old.is_torn false old.position c.count-self-inside.result items (c.self.invariant.are_in was)
     c.self.invariant.within keeps (ends g c was) refl (position_is g c) in
-    rw (
-      fitting_told (length (bytes_of objects)) tape (fits g c honest),
-      put_fitting objects (nat_lt tape.early_mark (size_of tape.before + length (bytes_of objects))) tape,
-    ) (rw (
-      ← c.self.view_is,
-      sizes_are g c,
-      done.before,
-      done.after,
-      done.tail refl,
-      c.in-Ok.ensures.synced,
-      c.in-Ok.ensures.failures,
-      c.in-Ok.ensures.honest,
-      c.in-Ok.ensures.steady,
-      c.in-Ok.ensures.reach,
-    ) refl)
+    let told = fitting_told (length (bytes_of objects)) tape (fits g c honest) in
+    let kept = c.in-Ok.ensures in
+    rw (told, (put_fitting objects (nat_lt tape.early_mark (size_of tape.before + length (bytes_of objects))) tape.synced tape).0)
+    (rw (← c.self.view_is, sizes_are g c, done.before, done.after, done.tail refl, kept.synced, kept.failures, kept.honest, kept.steady, kept.reach) refl)
 
 pub invariant_of-self-in-Err : goal.invariant_of-self-in-Err
 invariant_of-self-in-Err g c =
@@ -166,31 +137,14 @@ returns-in-Err-clause-failed g c honest =
     let keeps = rw c.place_of-place.ensures at c.in-Err.ensures.keeps in
     let are = cut_left (g.S.Store.content old.store) old.index.sizes (g.S.Store.content c.write_objects.new.store) old.is_torn true old.position
     (c.self.invariant.are_in (rw (← c.self.view_is) at honest)) c.self.invariant.within keeps (λ none. absurd cc) in
-    rw (
-      ← c.self.view_is,
-      c.truncate.ensures.sizes,
-      c.in_ok-reserve_one.ensures.sizes,
-      are.before,
-      append-nil (take old.position _),
-      are.after,
-      c.in-Err.ensures.unsynced,
-      c.in-Err.ensures.failures,
-      c.in-Err.ensures.honest,
-      c.in-Err.ensures.steady,
-      c.in-Err.ensures.reach,
-    ) refl
+    let kept = c.in-Err.ensures in
+    rw (← c.self.view_is, c.truncate.ensures.sizes, c.in_ok-reserve_one.ensures.sizes, are.before, append-nil (take old.position _), are.after)
+    (rw (kept.unsynced, kept.failures, kept.honest, kept.steady, kept.reach) refl)
 
 pub returns-in-Err-clause-fits : goal.returns-in-Err-clause-fits
 returns-in-Err-clause-fits g c honest =
     let old = c.self.inside in
     let here = placed (g.S.Store.content old.store) old.index.sizes old.is_torn old.position (c.self.invariant.are_in (rw (← c.self.view_is) at honest)) in
-    rw (← c.self.view_is) (omega (
-      arith,
-      here,
-      c.place_of-place.ensures,
-      c.size-size.ensures,
-      c.if-self-place.false,
-      c.self.invariant.fits,
-      sum_by-take-le
-          (λ n. n) old.index.sizes old.position,
-    ))
+    let below = sum_by-take-le (λ n. n) old.index.sizes old.position in
+    rw (← c.self.view_is)
+    (omega (arith, here, c.place_of-place.ensures, c.size-size.ensures, c.if-self-place.false, c.self.invariant.fits, below))

@@ -3,6 +3,7 @@ use Rattle.std.proofs.Common.{drop, sum, slice_range, IsTrue, List, ℕ, refl, s
 use Rattle.std.proofs.Math.Seq.{take-add}
 use Rattle.std.proofs.lemmas.List.{drop-drop, take-take, take_min, length-take}
 use Rattle.media_tape.specs.Items.{items_of}
+use Rattle.media_tape.proofs.Spelled.{slice-is}
 use Rattle.media_tape.proofs.Indexed.{IsNext, is_next, next-within}
 use Rattle.media_tape.proofs.tape.Tape.read.Given as given
 use Rattle.media_tape.proofs.tape.Tape.read.Goals as goal
@@ -10,16 +11,10 @@ use Rattle.media_tape.proofs.tape.Tape.read.Goals as goal
 shorter : (content : List ℕ) (from asked n given : ℕ) → given ≡ min asked n
     → slice_range content from (from + given) ≡ take asked (slice_range content from (from + n))
 shorter content from asked n given is =
-    let one : from + given - from ≡ min asked n = omega arith in
-    let all : from + n - from ≡ n = omega arith in
-    let rest = drop from content in
-    ap (λ (k : ℕ). take k rest) one ∙ sym (take-take (min asked n) n rest (omega arith))
-    ∙ cut asked n (take n rest) (omega (arith, length-take n rest)) ∙ ap (λ (k : ℕ). take asked (take k rest)) (sym all)
-  where
-    cut : (asked n : ℕ) (xs : List ℕ) → length xs ≤ n → take (min asked n) xs ≡ take asked xs
-    cut asked n xs long =
-        let least : min (min asked n) (length xs) ≡ min asked (length xs) = omega arith in
-        sym (take_min (min asked n) xs) ∙ ap (λ (k : ℕ). take k xs) least ∙ take_min asked xs
+    let rest = take n (drop from content) in
+    let many : min given (length rest) ≡ min asked (length rest) = omega (arith, length-take n (drop from content)) in
+    slice-is from given content ∙ sym (take-take given n (drop from content) (omega arith))
+    ∙ sym (take_min given rest) ∙ ap (λ k. take k rest) many ∙ take_min asked rest ∙ ap (take asked) (sym (slice-is from n content))
 
 pub overflow_add-place : goal.overflow_add-place
 overflow_add-place g c =
@@ -58,19 +53,9 @@ returns-in-Ok-clause-tape g c honest =
     let old = c.self.inside in
     let items = items_of (take (sum old.index.sizes) (g.S.Store.content old.store)) in
     let some : (c.args.asked == 0) ≡ false = search rules in
-    rw (
-      ← c.self.view_is,
-      some,
-      c.in-Ok.ensures.content,
-      take-add old.position 1 items,
-      ← drop-drop 1 old.position items,
-      c.in-Ok.ensures.synced,
-      c.in-Ok.ensures.failures,
-      honest,
-      c.in-Ok.ensures.back honest,
-      c.in-Ok.ensures.steady,
-      c.in-Ok.ensures.reach,
-    ) refl
+    let kept = c.in-Ok.ensures in
+    rw (← c.self.view_is, some, kept.content, take-add old.position 1 items, ← drop-drop 1 old.position items)
+    (rw (kept.synced, kept.failures, honest, kept.back honest, kept.steady, kept.reach) refl)
 
 pub returns-in-Ok-clause-succeeds : goal.returns-in-Ok-clause-succeeds
 returns-in-Ok-clause-succeeds g c steady honest =

@@ -6,7 +6,7 @@ use Rattle.media_tape.specs.Items.{items_of}
 use Rattle.media_tape.specs.Fixed.{fixed, fixed_passed}
 use Rattle.media_tape.specs.SizeFixed.{data_in}
 use Rattle.media_tape.specs.declared.outcome.FixedRead.{FixedRead}
-use Rattle.media_tape.proofs.Runs.{sum-append}
+use Rattle.media_tape.proofs.Alike.{sum-append}
 use Rattle.media_tape.proofs.SizeFixed.{fixed-within}
 use Rattle.media_tape.proofs.Fixed.{IsRead, is_read, gives}
 use Rattle.media_tape.proofs.tape.Tape.read_fixed.Given as given
@@ -24,15 +24,9 @@ pub read_blocks-requires-clause-within : goal.read_blocks-requires-clause-within
 read_blocks-requires-clause-within g c =
     let old = c.self.inside in
     let within = rw (← c.blocks-read.ensures.read) at (fixed-within c.args.count c.args.block_length (drop old.position old.index.sizes)) in
-    omega (
-      arith,
-      within.bytes,
-      ap sum (take-append-drop old.position old.index.sizes),
-      sum-append (take old.position old.index.sizes) (drop old.position old.index.sizes),
-      c.place_of-place.ensures,
-      c.self.invariant.fits,
-      c.self.ranges,
-    )
+    let all = ap sum (take-append-drop old.position old.index.sizes) in
+    let parts = sum-append (take old.position old.index.sizes) (drop old.position old.index.sizes) in
+    omega (arith, within.bytes, all, parts, c.place_of-place.ensures, c.self.invariant.fits, c.self.ranges)
 
 -- what is read by the index is read of the items, and their bytes stand in the store
 of_items : (g : given.Over) (c : goal.After-self-1 g) → IsTrue (g.S.Store.honest c.self.inside.store)
@@ -79,20 +73,10 @@ returns-in-Ok-clause-tape g c honest =
     let items = items_of (take (sum old.index.sizes) (g.S.Store.content old.store)) in
     let of = fixed c.args.count c.args.block_length (drop old.position items) in
     let passed : ℕ = fixed_passed (record { given = of.given; ended = of.ended }) in
-    rw (
-      ← c.self.view_is,
-      c.in_ok-done.ensures.content,
-      c.passed_blocks.ensures,
-      is.told,
-      take-add old.position passed items,
-      ← drop-drop passed old.position items,
-      c.in_ok-done.ensures.synced,
-      rw c.in-Ok.is at c.in_ok-done.ensures.failures,
-      honest,
-      back,
-      c.in_ok-done.ensures.steady,
-      c.in_ok-done.ensures.reach,
-    ) refl
+    let kept = c.in_ok-done.ensures in
+    let failures = rw c.in-Ok.is at kept.failures in
+    rw (← c.self.view_is, kept.content, c.passed_blocks.ensures, is.told, take-add old.position passed items, ← drop-drop passed old.position items)
+    (rw (kept.synced, failures, honest, back, kept.steady, kept.reach) refl)
 
 pub returns-in-Ok-clause-succeeds : goal.returns-in-Ok-clause-succeeds
 returns-in-Ok-clause-succeeds g c steady honest =

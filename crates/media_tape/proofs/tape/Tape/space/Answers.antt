@@ -2,7 +2,7 @@ use Rattle.std.proofs.Common.{take, drop, map, sum, sym, ap, ◌∙◌, arith}
 use Rattle.media_tape.specs.Items.{items_of}
 use Rattle.media_tape.specs.Tape.{TapeState}
 use Rattle.media_tape.specs.Space.{Way}
-use Rattle.media_tape.specs.SizeSpace.{sizes_ahead}
+use Rattle.media_tape.specs.Index.{sizes_ahead}
 use Rattle.media_tape.proofs.Items.{items_of-have}
 use Rattle.media_tape.proofs.Indexed.{many_shown}
 use Rattle.media_tape.proofs.Sizes.{ways_ahead, spaced_is, ways_sized, item_sized}

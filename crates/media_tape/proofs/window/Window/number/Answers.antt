@@ -1,23 +1,16 @@
 use Rattle.std.proofs.Common.{◌≡◌, ℕ, ◌+◌, ◌-◌, ◌≤◌, List, length, take, drop, slice_range, ap, sym, ◌∙◌, arith}
-use Rattle.std.proofs.lemmas.List.{take-take, drop-take, drop-drop}
+use Rattle.std.proofs.Math.Nat.{add-sub_cancel_left}
 use Rattle.byteorder.specs.Endian.{big_number}
+use Rattle.bytes.proofs.Ranges.{slice_range_within}
 use Rattle.media_tape.proofs.window.Window.number.Goals as goal
 
 -- four bytes within those of a content from an offset on
 four : (bytes content : List ℕ) (from at : ℕ) → bytes ≡ slice_range content from (from + length bytes) → from ≤ at → at + 4 ≤ from + length bytes
     → slice_range bytes (at - from) (at - from + 4) ≡ slice_range content at (at + 4)
 four bytes content from at is low high =
-    let p : ℕ = at - from in
-    let rest : ℕ = length bytes - p in
-    let count : p + 4 - p ≡ 4 = omega arith in
-    let count_there : at + 4 - at ≡ 4 = omega arith in
-    let all : from + length bytes - from ≡ p + rest = omega arith in
-    let there : from + p ≡ at = omega arith in
-    let held : drop p bytes ≡ take rest (drop at content) =
-    ap (drop p) is ∙ ap (λ (n : ℕ). drop p (take n (drop from content))) all ∙ drop-take p rest (drop from content)
-    ∙ ap (take rest) (drop-drop p from content ∙ ap (λ (n : ℕ). drop n content) there) in
-    ap (λ (n : ℕ). take n (drop p bytes)) count ∙ ap (take 4) held
-    ∙ take-take 4 rest (drop at content) (omega arith) ∙ ap (λ (n : ℕ). take n (drop at content)) (sym count_there)
+    let held : take (length bytes) (drop from content) ≡ bytes = ap (λ n. take n (drop from content)) (sym (add-sub_cancel_left from (length bytes))) ∙ sym is in
+    let end : at + 4 - from ≡ at - from + 4 = omega arith in
+    ap (slice_range bytes (at - from)) (sym end) ∙ sym (slice_range_within content bytes from at (at + 4) held low (omega arith) high)
 
 pub returns : goal.returns
 returns c content shows =
