@@ -3,6 +3,7 @@
 ghost use Rattle.std.specs.Prelude.{◌≡◌, ◌+◌, ◌^◌, ◌<◌, ◌≤◌, [], ◌++◌, length, take, drop, IfOk, IfErr, OnOk, OnErr};
 
 use crate::fault::PduFault;
+use data_parts::SpareBuffers;
 use std::alloc::Global;
 use std::marker::Model;
 use std::mem;
@@ -51,6 +52,11 @@ impl ByteQueue {
         }
     }
 
+    /// No spare buffers. They take no memory.
+    pub(crate) fn no_spares(&self) -> SpareBuffers {
+        SpareBuffers::new(self.alloc)
+    }
+
     /// How many bytes there are.
     pub(crate) fn len(&self) -> usize
         ensures value { result ≡ length self.now }
@@ -66,15 +72,24 @@ impl ByteQueue {
         &self.bytes.as_slice()[self.taken..]
     }
 
-    /// Appends a piece. So much room is made where that is more.
-    pub(crate) fn append(&mut self, piece: &[u8], room: usize) -> Result<(), PduFault>
+    /// Appends a piece. So much room is made where that is more, in a spare buffer where there is no byte yet.
+    pub(crate) fn append(
+        &mut self,
+        piece: &[u8],
+        room: usize,
+        spares: &mut SpareBuffers,
+    ) -> Result<(), PduFault>
         ensures ok { OnOk result (self.new ≡ self.old ++ piece.now) }
         ensures memory { IfErr result (λ fault. fault ≡ PduFault.Memory) }
         ensures err { OnErr result (self.new ≡ self.old) }
     {
         cut_front(&mut self.bytes, self.taken);
         self.taken = 0;
-        self.bytes.reserve(room.max(piece.len()))?;
+        let room = room.max(piece.len());
+        if self.bytes.is_empty() && self.bytes.capacity() < room {
+            self.bytes = spares.take(room)?;
+        }
+        self.bytes.reserve(room)?;
         self.bytes.extend_from_slice(piece)?;
         Ok(())
     }

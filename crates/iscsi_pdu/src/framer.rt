@@ -9,6 +9,7 @@ use crate::frame::Frame;
 use crate::header::{HEADER_LENGTH, Header};
 use crate::segment::{MOST_DATA, padded};
 use arrayvec::ArrayVec;
+use data_parts::SpareBuffers;
 use std::alloc::Global;
 use std::marker::Model;
 
@@ -66,6 +67,17 @@ impl Framer {
         ensures memory { IfErr result (λ fault. fault ≡ PduFault.Memory) }
         ensures err { OnErr result (self.new ≡ self.old) }
     {
+        let mut spares = self.behind.no_spares();
+        self.feed_with(piece, &mut spares)
+    }
+
+    /// The same. The data of a frame is put into a spare buffer.
+    pub fn feed_with(&mut self, piece: &[u8], spares: &mut SpareBuffers) -> Result<(), PduFault>
+        ensures ok { OnOk result (self.new ≡ self.old ++ piece.now) }
+        ensures empty { piece.now ≡ [] → IsOk result }
+        ensures memory { IfErr result (λ fault. fault ≡ PduFault.Memory) }
+        ensures err { OnErr result (self.new ≡ self.old) }
+    {
         let had = self.header.len();
         let (front, more) = piece.split_at(piece.len().min(HEADER_LENGTH - had));
         put(&mut self.header, front);
@@ -73,7 +85,7 @@ impl Framer {
             return Ok(());
         }
         let room = self.want().min(MOST_DATA);
-        if let Err(fault) = self.behind.append(more, room) {
+        if let Err(fault) = self.behind.append(more, room, spares) {
             self.header.truncate(had);
             return Err(fault);
         }

@@ -1,5 +1,6 @@
 pub mod Blocks
 pub mod Writes
+pub mod Slices
 pub mod Same
 pub mod Differences
 pub mod Results

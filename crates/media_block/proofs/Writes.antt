@@ -7,7 +7,7 @@ use Rattle.media_block.specs.Blocks.{block_length, blocks_of, data_of, replaced,
 use Rattle.media_block.proofs.Blocks.{data_of-blocks_of, blocks_of-replaced, KeepsOthers-blocks_of}
 
 -- a write within the content
-written-within : (at : ℕ) (bytes content : List ℕ) → at + length bytes ≤ length content
+pub written-within : (at : ℕ) (bytes content : List ℕ) → at + length bytes ≤ length content
     → written at bytes content ≡ take at content ++ (bytes ++ drop (at + length bytes) content)
 written-within at [] content within =
     let here : at + 0 ≡ at = omega arith in
@@ -17,7 +17,7 @@ written-within at (byte ∷ bytes) content within =
     let none : at - length content ≡ 0 = omega arith in
     rw (some, none, append-nil (take at content)) refl
 
-length-written : (at : ℕ) (bytes content : List ℕ) → at + length bytes ≤ length content → length (written at bytes content) ≡ length content
+pub length-written : (at : ℕ) (bytes content : List ℕ) → at + length bytes ≤ length content → length (written at bytes content) ≡ length content
 length-written at bytes content within =
     rw (written-within at bytes content within) (simp (length-append, length-take, length-drop) (omega arith))
 
@@ -25,10 +25,10 @@ length-torn : (at n : ℕ) (old new : List ℕ) → at + n ≤ length old → Ke
 length-torn at n old new within kept = omega (arith, kept.no_shorter, kept.no_longer)
 
 -- a write within the content keeps its length, also where it failed
-pub length-kept : {E : Type 0} (result : Result (Unit {0}) E) (at : ℕ) (bytes old new : List ℕ) → at + length bytes ≤ length old
-    → OnOk result (new ≡ written at bytes old) → OnErr result (KeepsOutside at (length bytes) old new) → length new ≡ length old
-length-kept (Ok value) at bytes old new within said torn = ap length said ∙ length-written at bytes old within
-length-kept (Err fault) at bytes old new within said torn = length-torn at (length bytes) old new within torn
+pub length-kept : {E : Type 0} (result : Result (Unit {0}) E) (at n : ℕ) (bytes old new : List ℕ) → length bytes ≡ n → at + n ≤ length old
+    → OnOk result (at + n ≤ length old → new ≡ written at bytes old) → OnErr result (at + n ≤ length old → KeepsOutside at n old new) → length new ≡ length old
+length-kept (Ok value) at n bytes old new long within said torn = ap length (said within) ∙ length-written at bytes old (omega arith)
+length-kept (Err fault) at n bytes old new long within said torn = length-torn at n old new within (torn within)
 
 -- the bytes that are read
 pub read-blocks : (first count n long : ℕ) (content : List ℕ) → first + count ≤ n → long ≡ block_length * count

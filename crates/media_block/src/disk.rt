@@ -1,13 +1,15 @@
 //! The calls on a disk.
 
-ghost use Rattle.std.specs.Prelude.{◌≡◌, ◌+◌, ◌*◌, ◌<◌, ◌≤◌, ◌==◌, length, replicate, true, false, is_ok, if◌then◌else◌, IsTrue, IsOk, IfOk, IfSome, IfErr, OnOk, OnErr};
+ghost use Rattle.std.specs.Prelude.{◌≡◌, ◌+◌, ◌*◌, ◌<◌, ◌≤◌, ◌==◌, length, take, replicate, true, false, is_ok, if◌then◌else◌, IsTrue, IsOk, IfOk, IfSome, IfErr, OnOk, OnErr};
 ghost use Rattle.media_store.specs.Failures.{counted};
 ghost use Rattle.media_block.specs.Fault.{failures_after};
 ghost use Rattle.media_block.specs.Blocks.{block_length, blocks_of, is_disk, disk_of, data_of, replaced, first_difference, AreWhole, KeepsOthers};
 
+use crate::data::write_data;
 use crate::difference::difference;
 use crate::fault::{DiskOpenFault, NotOpened};
 use crate::part::{PART, PART_LENGTH, repeated};
+use data_parts::Data;
 use media_store::{Store, StoreFault};
 use std::marker::Model;
 
@@ -118,10 +120,34 @@ impl<S: Store> Disk<S> {
         ensures steady { self.new.steady ≡ self.old.steady }
         ensures succeeds { IsTrue self.old.steady → IsTrue self.old.honest → IsOk result }
     {
+        self.write_parts(first, count, &Data::whole(bytes))
+    }
+
+    /// Writes blocks, with their bytes in front of the data as it lies. Where it fails, any bytes may stand in these
+    /// blocks.
+    pub fn write_parts(&mut self, first: u64, count: u64, data: &Data) -> Result<(), StoreFault>
+        requires range { first + count ≤ length self.old.blocks }
+        requires enough { block_length * count ≤ length «data».now }
+        ensures written { OnOk result (IsTrue self.old.honest
+            → self.new.blocks ≡ replaced first (blocks_of count (take (block_length * count) «data».now)) self.old.blocks) }
+        ensures torn { OnErr result (IsTrue self.old.honest → KeepsOthers first count self.old.blocks self.new.blocks) }
+        ensures none { count ≡ 0 → IsOk result × (self.new ≡ self.old) }
+        ensures length { length self.new.blocks ≡ length self.old.blocks }
+        ensures synced { self.new.synced ≡ (if count == 0 then self.old.synced else false) }
+        ensures failures { self.new.failures ≡ counted result self.old.failures }
+        ensures honest { self.new.honest ≡ self.old.honest }
+        ensures steady { self.new.steady ≡ self.old.steady }
+        ensures succeeds { IsTrue self.old.steady → IsTrue self.old.honest → IsOk result }
+    {
         if count == 0 {
             return Ok(());
         }
-        self.store.write_at(BLOCK_LENGTH as u64 * first, bytes)
+        write_data(
+            &mut self.store,
+            BLOCK_LENGTH as u64 * first,
+            BLOCK_LENGTH as u64 * count,
+            data,
+        )
     }
 
     /// The least index at which bytes differ from those of a few blocks, which are read into a buffer.

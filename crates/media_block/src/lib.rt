@@ -16,6 +16,7 @@
 //! The blocks joined are the content of the store ([`laws::blocks_are_the_content`]).
 #![tactic(auto)]
 
+mod data;
 mod difference;
 mod disk;
 mod fault;

@@ -1,0 +1,151 @@
+//! The data of a command, in the buffers in which it came.
+
+ghost use Rattle.std.specs.Prelude.{◌≡◌, ◌<◌, ◌^◌, ◌++◌, [], length, IsOk, IfSome, IfNone, OnOk, OnErr, vec_len};
+ghost use Rattle.data_parts.specs.Joined.{joined, AreSome};
+
+use crate::data::Data;
+use std::alloc::{AllocError, Global};
+use std::marker::Model;
+use std::mem;
+
+/// The most bytes that there may be.
+const MOST: usize = usize::MAX / 2;
+
+/// A piece of so many bytes is moved in its buffer.
+const MOVED: usize = 4_096;
+
+/// The data of a command, in the buffers in which it came. Clauses see the bytes, joined.
+#[derive(Drop)]
+pub struct Parts {
+    /// None of them is empty.
+    buffers: Vec<Vec<u8>>,
+    /// What came behind them in small pieces.
+    tail: Vec<u8>,
+    len: usize,
+    alloc: Global,
+}
+
+impl Model for Parts {
+    ghost use Rattle.std.specs.Prelude.{◌≡◌, ◌<◌, ◌^◌, ◌++◌, List, ℕ, length};
+    ghost use Rattle.data_parts.specs.Joined.{joined, AreSome};
+
+    ghost Value = { List ℕ };
+
+    ghost view = { λ p. joined p.buffers.items ++ p.tail.items };
+
+    ghost invariant = { λ p. (p.len ≡ length (joined p.buffers.items ++ p.tail.items)) × (p.len < 2 ^ 63) × AreSome p.buffers.items };
+}
+
+/// Adds a small piece, to those that came before it.
+fn push_few(tail: &mut Vec<u8>, bytes: Vec<u8>) -> Result<(), AllocError>
+    ensures ok { OnOk result (tail.new.items ≡ tail.old.items ++ bytes.items) }
+    ensures err { OnErr result (tail.new.items ≡ tail.old.items) }
+{
+    if tail.is_empty() {
+        *tail = bytes;
+        return Ok(());
+    }
+    tail.extend_from_slice(bytes.as_slice())
+}
+
+/// Adds a piece in its buffer.
+fn push_many(
+    buffers: &mut Vec<Vec<u8>>,
+    tail: &mut Vec<u8>,
+    alloc: Global,
+    bytes: Vec<u8>,
+) -> Result<(), AllocError>
+    requires some { 0 < length bytes.items }
+    requires all { AreSome buffers.old.items }
+    ensures ok { OnOk result (joined buffers.new.items ++ tail.new.items ≡ joined buffers.old.items ++ tail.old.items ++ bytes.items) }
+    ensures err { OnErr result (joined buffers.new.items ++ tail.new.items ≡ joined buffers.old.items ++ tail.old.items) }
+    ensures all { AreSome buffers.new.items }
+{
+    buffers.reserve(2)?;
+    if !tail.is_empty() {
+        buffers.push_reserved(mem::replace(tail, Vec::new(alloc)));
+    }
+    buffers.push_reserved(bytes);
+    Ok(())
+}
+
+/// Adds a piece.
+fn push_piece(
+    buffers: &mut Vec<Vec<u8>>,
+    tail: &mut Vec<u8>,
+    alloc: Global,
+    bytes: Vec<u8>,
+) -> Result<(), AllocError>
+    requires all { AreSome buffers.old.items }
+    ensures ok { OnOk result (joined buffers.new.items ++ tail.new.items ≡ joined buffers.old.items ++ tail.old.items ++ bytes.items) }
+    ensures err { OnErr result (joined buffers.new.items ++ tail.new.items ≡ joined buffers.old.items ++ tail.old.items) }
+    ensures all { AreSome buffers.new.items }
+{
+    if bytes.len() < MOVED {
+        return push_few(tail, bytes);
+    }
+    push_many(buffers, tail, alloc, bytes)
+}
+
+impl Parts {
+    /// No data. It takes no memory.
+    pub fn new(alloc: Global) -> Parts
+        ensures { result ≡ [] }
+    {
+        Parts {
+            buffers: Vec::new(alloc),
+            tail: Vec::new(alloc),
+            len: 0,
+            alloc,
+        }
+    }
+
+    /// How many bytes there are.
+    pub fn len(&self) -> usize
+        ensures value { result ≡ length self.now }
+        ensures bound { result < 2 ^ 63 }
+    {
+        self.len
+    }
+
+    /// A piece comes behind all others. Where an allocation fails nothing changes. An empty one takes no memory.
+    pub fn push(&mut self, bytes: Vec<u8>) -> Result<(), AllocError>
+        ensures ok { OnOk result (self.new ≡ self.old ++ bytes.items) }
+        ensures err { OnErr result (self.new ≡ self.old) }
+        ensures empty { bytes.items ≡ [] → IsOk result }
+    {
+        let len = bytes.len();
+        if len == 0 {
+            return Ok(());
+        }
+        if len > MOST - self.len {
+            return Err(AllocError);
+        }
+        push_piece(&mut self.buffers, &mut self.tail, self.alloc, bytes)?;
+        self.len += len;
+        Ok(())
+    }
+
+    /// The data, as it lies.
+    pub fn data(&self) -> Data<'_>
+        ensures { result ≡ self.now }
+    {
+        Data::new(self.buffers.as_slice(), self.tail.as_slice(), self.len)
+    }
+
+    /// Takes the last bytes away, and gives their buffer, to be used again.
+    pub fn pop_buffer(&mut self) -> Option<Vec<u8>>
+        ensures cleared { IfSome result (λ buffer. buffer.items ≡ []) }
+        ensures shorter { IfSome result (λ _. length self.new < length self.old) }
+        ensures none { IfNone result (self.old ≡ []) }
+    {
+        let mut buffer = if self.tail.is_empty() {
+            self.buffers.pop()?
+        } else {
+            mem::replace(&mut self.tail, Vec::new(self.alloc))
+        };
+        self.len -= buffer.len();
+        buffer.clear();
+        Some(buffer)
+    }
+}
