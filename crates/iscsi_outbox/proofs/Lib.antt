@@ -2,3 +2,4 @@ pub mod Cuts
 pub mod Moves
 pub mod Starts
 pub mod Runs
+pub mod Copies

@@ -9,18 +9,14 @@ use Rattle.scsi_sense.specs.Given.{headroom}
 use Rattle.iscsi_pdu.specs.DataIn.{data_in_header}
 use Rattle.iscsi_login.proofs.Lists as lists
 use Rattle.iscsi_transfer.specs.declared.data_in.Piece.{Piece}
-use Rattle.iscsi_transfer.specs.DataIn.{pieces_of, part_of}
+use Rattle.iscsi_transfer.specs.DataIn.{part_of}
 use Rattle.iscsi_outbox.specs.declared.shared.SharedFields.{SharedFields}
 use Rattle.iscsi_outbox.specs.declared.cursor.Cursor.{Cursor}
 use Rattle.iscsi_outbox.specs.Answer.{fields_of, unpadded}
 use Rattle.iscsi_outbox.specs.Cut.{IsCut, AreCut}
-use Rattle.iscsi_outbox.specs.Cursor.{pieces_left, left, IsPlaced, IsReady}
+use Rattle.iscsi_outbox.specs.Cursor.{all_pieces, pieces_left, left, IsPlaced, IsReady}
 
 -- ---- pieces
-
--- all pieces of the data
-abbrev pub all_pieces : Cursor → List Piece
-all_pieces c = pieces_of c.length c.limits.burst c.limits.segment
 
 -- the bytes of pieces are those from where the first begins
 pub same_pieces : (size burst from : ℕ) (pieces : List Piece) (number : ℕ) (shared : SharedFields) (d e : List ℕ)

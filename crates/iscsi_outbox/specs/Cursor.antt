@@ -9,9 +9,13 @@ use Rattle.iscsi_outbox.specs.declared.cursor.Cursor.{Cursor}
 use Rattle.iscsi_outbox.specs.Answer.{AreAligned, unpadded}
 use Rattle.iscsi_outbox.specs.Cut.{AreCut}
 
+-- all pieces of the data
+abbrev pub all_pieces : Cursor → List Piece
+all_pieces c = pieces_of c.length c.limits.burst c.limits.segment
+
 -- the pieces from this number on
 unfoldable pub pieces_left : Cursor → List Piece
-pieces_left c = drop c.number (pieces_of c.length c.limits.burst c.limits.segment)
+pieces_left c = drop c.number (all_pieces c)
 
 -- what is left: of the piece that is being sent, of the pieces behind it, and of what ends the answer
 unfoldable pub left : Cursor → List ℕ

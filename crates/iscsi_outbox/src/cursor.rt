@@ -1,22 +1,24 @@
 //! Where the sending of a command's data stands.
 
-ghost use Rattle.std.specs.Prelude.{◌≡◌, ◌<◌, ◌≤◌, ◌+◌, ◌-◌, ◌^◌, ◌++◌, Some, length, take, drop, slice_get};
+ghost use Rattle.std.specs.Prelude.{◌≡◌, ◌<◌, ◌≤◌, ◌+◌, ◌-◌, ◌^◌, ◌++◌, Some, length, take, drop, slice_get, flat_map, OnOk};
+ghost use Rattle.std.specs.List.{enumerate_from};
 ghost use Rattle.scsi_sense.specs.Given.{headroom};
 ghost use Rattle.iscsi_pdu.specs.Answer.{spelling};
 ghost use Rattle.iscsi_pdu.specs.DataIn.{data_in_header};
 ghost use Rattle.iscsi_pdu.specs.Segment.{most_data};
-ghost use Rattle.iscsi_transfer.specs.DataIn.{pieces_of};
-ghost use Rattle.iscsi_outbox.specs.Answer.{AreAligned, answered, fields_of};
+ghost use Rattle.iscsi_transfer.specs.DataIn.{pieces_of, piece_count};
+ghost use Rattle.iscsi_outbox.specs.Answer.{AreAligned, answered, fields_of, unpadded};
 ghost use Rattle.iscsi_outbox.specs.Cut.{IsCut};
-ghost use Rattle.iscsi_outbox.specs.Cursor.{left, IsPlaced, IsReady};
+ghost use Rattle.iscsi_outbox.specs.Cursor.{pieces_left, left, IsPlaced, IsReady};
 
 use crate::limits::Limits;
 use crate::put::{padding, put};
 use crate::shared::SharedFields;
 use bytes::BytesMut;
 use iscsi_pdu::{Answer, DataIn};
-use iscsi_transfer::{Piece, piece_at};
+use iscsi_transfer::{Piece, piece_at, piece_count};
 use scsi_sense::HEADROOM;
+use std::alloc::AllocError;
 
 /// The data of a command lies behind room for a header, and behind it what ends the answer. No byte of it is moved:
 /// the header of the next piece is written over bytes that were sent.
@@ -86,13 +88,13 @@ impl Cursor {
         )
     }
 
-    /// The header of the next piece.
-    fn header(&self, piece: Piece) -> [u8; HEADROOM]
-        requires number { self.now.number < 2 ^ 32 }
+    /// The header of a piece, which has this number.
+    fn header(&self, number: usize, piece: Piece) -> [u8; HEADROOM]
+        requires number { number < 2 ^ 32 }
         requires offset { piece.offset < 2 ^ 32 }
         requires short { piece.length ≤ most_data }
         requires within { headroom + (piece.offset + piece.length) ≤ length self.now.buffer.items }
-        ensures { result ≡ data_in_header (fields_of self.now.shared (drop headroom self.now.buffer.items) (self.now.number, piece)) }
+        ensures { result ≡ data_in_header (fields_of self.now.shared (drop headroom self.now.buffer.items) (number, piece)) }
     {
         let data = &self.buffer.as_slice()[HEADROOM..];
         DataIn {
@@ -100,7 +102,7 @@ impl Cursor {
             initiator_task_tag: self.shared.initiator_task_tag,
             exp_cmd_sn: self.shared.exp_cmd_sn,
             max_cmd_sn: self.shared.max_cmd_sn,
-            data_sn: self.number as u32,
+            data_sn: number as u32,
             buffer_offset: piece.offset as u32,
             body: &data[piece.offset..piece.offset + piece.length],
         }
@@ -115,7 +117,7 @@ impl Cursor {
     {
         if self.offset < self.length && self.at == HEADROOM + self.offset {
             let piece = self.piece();
-            let header = self.header(piece);
+            let header = self.header(self.number, piece);
             put_over(&mut self.buffer, self.offset, &header);
             self.at = self.offset;
             self.number += 1;
@@ -158,5 +160,48 @@ impl Cursor {
         self.at += step;
         self.settle();
         step
+    }
+
+    /// Appends a piece, which has this number, behind its header.
+    fn copy_piece(&self, number: usize, piece: Piece, bytes: &mut Vec<u8>) -> Result<(), AllocError>
+        requires number { number < 2 ^ 32 }
+        requires offset { piece.offset < 2 ^ 32 }
+        requires short { piece.length ≤ most_data }
+        requires within { headroom + (piece.offset + piece.length) ≤ length self.now.buffer.items }
+        ensures { OnOk result (bytes.new.items ≡ bytes.old.items ++ unpadded self.now.shared (drop headroom self.now.buffer.items) (number, piece)) }
+    {
+        let header = self.header(number, piece);
+        let data = &self.buffer.as_slice()[HEADROOM..];
+        bytes.extend_from_slice(&header)?;
+        bytes.extend_from_slice(&data[piece.offset..piece.offset + piece.length])?;
+        Ok(())
+    }
+
+    /// Appends the pieces that are still to come, each behind its header.
+    fn copy_pieces(&self, bytes: &mut Vec<u8>) -> Result<(), AllocError>
+        requires { IsPlaced self.now }
+        ensures { OnOk result (bytes.new.items ≡ bytes.old.items
+            ++ flat_map (unpadded self.now.shared (drop headroom self.now.buffer.items)) (enumerate_from self.now.number (pieces_left self.now))) }
+    {
+        let count = piece_count(self.length, self.limits.burst, self.limits.segment);
+        for number in self.number..count {
+            let piece = piece_at(self.length, self.limits.burst, self.limits.segment, number);
+            self.copy_piece(number, piece, bytes)?;
+        }
+        Ok(())
+    }
+
+    /// Appends what is left.
+    pub fn copy_to(&self, bytes: &mut Vec<u8>) -> Result<(), AllocError>
+        requires { IsPlaced self.now }
+        ensures { OnOk result (bytes.new.items ≡ bytes.old.items ++ left self.now) }
+    {
+        let items = self.buffer.as_slice();
+        let end = self.at.max(HEADROOM + self.offset);
+        let last = self.at.max(HEADROOM + self.length);
+        bytes.extend_from_slice(&items[self.at..end])?;
+        self.copy_pieces(bytes)?;
+        bytes.extend_from_slice(&items[last..])?;
+        Ok(())
     }
 }

@@ -1,6 +1,6 @@
 //! The data of a command that is cut as it is sent.
 
-ghost use Rattle.std.specs.Prelude.{◌≡◌, ◌<◌, ◌≤◌, ◌+◌, ◌^◌, [], length, take, drop};
+ghost use Rattle.std.specs.Prelude.{◌≡◌, ◌<◌, ◌≤◌, ◌+◌, ◌^◌, ◌++◌, [], length, take, drop, OnOk};
 ghost use Rattle.scsi_sense.specs.Given.{headroom};
 ghost use Rattle.iscsi_pdu.specs.Answer.{spelling};
 ghost use Rattle.iscsi_outbox.specs.Answer.{AreAligned, answered};
@@ -13,6 +13,7 @@ use bytes::BytesMut;
 use iscsi_pdu::Answer;
 use iscsi_transfer::piece_count;
 use scsi_sense::HEADROOM;
+use std::alloc::AllocError;
 use std::marker::Model;
 
 /// What is left to be sent of the answer of a command that gave data: its SCSI Data-Ins (RFC 7143 §11.7) and the PDU
@@ -80,6 +81,13 @@ impl DataIns {
         let step = self.cursor.skip_some(n);
         self.rest -= step;
         step
+    }
+
+    /// Appends what is left.
+    pub fn copy_to(&self, bytes: &mut Vec<u8>) -> Result<(), AllocError>
+        ensures { OnOk result (bytes.new.items ≡ bytes.old.items ++ self.now) }
+    {
+        self.cursor.copy_to(bytes)
     }
 
     /// The buffer, to be used again. None of its bytes is left in it.

@@ -5,12 +5,13 @@ ghost use Rattle.iscsi_pdu.specs.Answer.{spelling};
 
 use crate::data_ins::DataIns;
 use crate::put::put;
-use crate::run::{Run, front_of, left_behind, push_run, skip_in};
+use crate::run::{Run, copy_runs, front_of, left_behind, push_run, skip_in};
 use bytes::BytesMut;
 use iscsi_pdu::Answer;
 use std::alloc::{AllocError, Global};
 use std::collections::VecDeque;
 use std::marker::Model;
+use std::mem;
 
 /// What waits to be sent: runs of data, each with the small answers in front of it, and the small answers behind
 /// them. Clauses see the bytes, joined, and the room that was reserved.
@@ -72,6 +73,20 @@ impl Outbox {
         put(&mut self.tail, answer);
     }
 
+    /// Where nothing waits, the bytes of a buffer wait from here on, and the room behind them is its own. The buffer that
+    /// was there comes back, to be used again. It takes no memory.
+    #[tactic(auto, using(crate::proofs::Runs::none_before))]
+    pub fn begin_with(&mut self, buffer: BytesMut) -> BytesMut
+        requires { self.old.items ≡ [] }
+        ensures items { self.new.items ≡ buffer.items }
+        ensures spare { self.new.spare ≡ buffer.spare }
+        ensures runs { self.new.runs ≡ self.old.runs }
+        ensures slots { self.new.slots ≡ self.old.slots }
+        ensures given { result.items ≡ [] }
+    {
+        mem::replace(&mut self.tail, buffer)
+    }
+
     /// The data of a command, which is cut as it is sent, waits behind all others. It takes no memory.
     pub fn put_data(&mut self, alloc: Global, data_ins: DataIns)
         requires slot { 1 ≤ self.old.slots }
@@ -131,5 +146,23 @@ impl Outbox {
             self.tail.clear();
         }
         (step, None)
+    }
+
+    /// Appends all that waits.
+    pub fn copy_to(&self, bytes: &mut Vec<u8>) -> Result<(), AllocError>
+        ensures { OnOk result (bytes.new.items ≡ bytes.old.items ++ self.now.items) }
+    {
+        copy_runs(&self.runs, bytes)?;
+        bytes.extend_from_slice(self.tail.as_slice())
+    }
+
+    /// Where nothing waits, and there is room for more bytes than this, the room goes back to the system.
+    pub fn rest(&mut self, alloc: Global, most: usize)
+        ensures items { self.new.items ≡ self.old.items }
+        ensures runs { self.new.runs ≡ self.old.runs }
+    {
+        if self.is_empty() && self.tail.capacity() > most {
+            self.tail = BytesMut::new(alloc);
+        }
     }
 }

@@ -1,12 +1,12 @@
 //! The data of a command among small answers.
 
-ghost use Rattle.std.specs.Prelude.{◌≡◌, ◌<◌, ◌≤◌, ◌+◌, ◌++◌, [], length, take, drop, flat_map, IfSome, IfNone};
+ghost use Rattle.std.specs.Prelude.{◌≡◌, ◌<◌, ◌≤◌, ◌+◌, ◌++◌, [], length, take, drop, flat_map, IfSome, IfNone, OnOk};
 ghost use Rattle.std.specs.VecDeque.{deque_len, deque_capacity};
 ghost use Rattle.iscsi_outbox.specs.Outbox.{run_bytes, AreRunning};
 
 use crate::data_ins::DataIns;
 use bytes::BytesMut;
-use std::alloc::Global;
+use std::alloc::{AllocError, Global};
 use std::collections::VecDeque;
 use std::mem;
 
@@ -43,6 +43,14 @@ impl Run {
         let step = n.min(self.before.len());
         self.before.advance(step);
         step
+    }
+
+    /// Appends what is left.
+    fn copy_to(&self, bytes: &mut Vec<u8>) -> Result<(), AllocError>
+        ensures { OnOk result (bytes.new.items ≡ bytes.old.items ++ run_bytes self.now) }
+    {
+        bytes.extend_from_slice(self.before.as_slice())?;
+        self.data_ins.copy_to(bytes)
     }
 }
 
@@ -119,4 +127,15 @@ pub(crate) fn left_behind(runs: &VecDeque<Run>, n: usize) -> Option<usize>
             .checked_sub(run.data_ins.rest())?;
     }
     Some(left)
+}
+
+/// Appends what is left of all runs.
+#[tactic(auto, using(crate::proofs::Runs::runs_copied, crate::proofs::Runs::runs_more))]
+pub(crate) fn copy_runs(runs: &VecDeque<Run>, bytes: &mut Vec<u8>) -> Result<(), AllocError>
+    ensures { OnOk result (bytes.new.items ≡ bytes.old.items ++ flat_map run_bytes runs.now.items) }
+{
+    for place in 0..runs.len() {
+        runs[place].copy_to(bytes)?;
+    }
+    Ok(())
 }
