@@ -15,6 +15,7 @@ use Rattle.iscsi_serve.specs.Served.{IsFed}
 use Rattle.iscsi_serve.specs.Turn.{Moment, moment, changed, told, IfElse, opened, free_number, HasAccepted, is_read, room_for, HasFed, HasRead, Reads, piece_in, is_written, after_write, HasWritten, Writes, is_end, ends, is_closed, Closes}
 use Rattle.iscsi_serve.specs.Progress.{AreEnded, none_ended, IsDue, Goes}
 use Rattle.iscsi_ports.specs.declared.results.Named.{Named}
+use Rattle.iscsi_serve.proofs.Fronts.{offered_front, offered_within}
 use Rattle.iscsi_serve.proofs.Moments.{none_more, one_more}
 
 where_due : (b : Bool) (A B : Type 0) → b ≡ true → A → IfElse b A B
@@ -136,43 +137,45 @@ silent_write log target ended c e = let link = link_at target c in
     none_waits [] e = refl
     none_waits (byte ∷ bytes) e = absurd (omega (arith, eqb-true (length (byte ∷ bytes)) 0 e))
 
--- all that waits was offered, and this is what came of it
+-- a front of what waits was offered, and this is what came of it
 written : (m n : Moment) (c : ℕ) (offered unwritten : List ℕ) (carried : Carried) → is_open_at m.target c ≡ true
-    → (link_at m.target c).waiting ≡ offered → 0 < length offered → offered ≡ piece_in carried ++ unwritten
+    → offered ≡ take (length offered) (link_at m.target c).waiting → 0 < length offered → offered ≡ piece_in carried ++ unwritten
     → n ≡ changed (Wrote c (length offered) carried) (after_write c carried m.target) m → Writes c m n
-written m n c offered unwritten carried open_ waiting some front e =
+written m n c offered unwritten carried open_ front some all e =
+    let waiting = (link_at m.target c).waiting in
     let due : is_written (link_at m.target c) ≡ true =
-    ap (λ (b : Bool). b && nat_lt 0 (length (link_at m.target c).waiting)) open_ ∙ ap (λ (waiting : List ℕ). nat_lt 0 (length waiting)) waiting ∙
-    lt-ltb 0 (length offered) some in
-    where_due (is_written (link_at m.target c)) (HasWritten c (link_at m.target c).waiting m n) (n ≡ m) due
-    (subst (λ (bytes : List ℕ). HasWritten c bytes m n) (sym waiting) (carried, unwritten, front, e))
+    ap (λ (b : Bool). b && nat_lt 0 (length waiting)) open_
+    ∙ lt-ltb 0 (length waiting) (omega (arith, some, offered_within offered waiting front)) in
+    where_due (is_written (link_at m.target c)) (HasWritten c waiting m n) (n ≡ m) due
+    (offered, drop (length offered) waiting, offered_front offered waiting front, some, (carried, unwritten, all, e))
 
 -- bytes were written
 pub write_some : (log log_then : List Entry) (target after : Machine) (ended : List Bool) (c n : ℕ) (offered : List ℕ) → is_open_at target c ≡ true
-    → (link_at target c).waiting ≡ offered → 0 < length offered → n ≤ length offered
+    → offered ≡ take (length offered) (link_at target c).waiting → 0 < length offered → n ≤ length offered
     → log_then ≡ log ++ Wrote c (length offered) (Bytes (take n offered)) ∷ [] → after ≡ with_link target c (sent_link (link_at target c) n) → Goes
     (Writes c) log log_then target after ended ended
-write_some log log_then target after ended c n offered open_ waiting some le e now =
+write_some log log_then target after ended c n offered open_ front some le e now =
     let piece = take n offered in
     let entry : Entry = Wrote c (length offered) (Bytes piece) in
     let all : after ≡ after_write c (Bytes piece) target = now ∙ ap (λ (n : ℕ). with_link target c (sent_link (link_at target c) n))
     (sym (length-take-le n offered le)) in
     one_more (Writes c) log log_then target after ended ended entry (ended_same ended entry (λ d. and_false (eqb c d))) e
     (λ before turn are.
-    written (moment target before turn) (moment after before (turn ++ entry ∷ [])) c offered (drop n offered) (Bytes piece) open_ waiting some
+    written (moment target before turn) (moment after before (turn ++ entry ∷ [])) c offered (drop n offered) (Bytes piece) open_ front some
     (sym (take-append-drop n offered))
     (ap (λ (after : Machine). moment after before (turn ++ entry ∷ [])) all))
 
 -- the write told an end or a fault
 pub write_ended : (log log_then : List Entry) (target : Machine) (ended : List Bool) (c : ℕ) (carried : Carried) (offered : List ℕ)
     → c < connection_limit → length ended ≡ 64 → is_open_at target c ≡ true
-    → (link_at target c).waiting ≡ offered → 0 < length offered → is_end carried ≡ true → log_then ≡ log ++ Wrote c (length offered) carried ∷ [] →
+    → offered ≡ take (length offered) (link_at target c).waiting → 0 < length offered → is_end carried ≡ true
+    → log_then ≡ log ++ Wrote c (length offered) carried ∷ [] →
     Goes (Writes c) log log_then target target ended (set ended c true)
-write_ended log log_then target ended c (Bytes piece) offered lt len open_ waiting some over e = absurd cc
-write_ended log log_then target ended c carried offered lt len open_ waiting some over e =
+write_ended log log_then target ended c (Bytes piece) offered lt len open_ front some over e = absurd cc
+write_ended log log_then target ended c carried offered lt len open_ front some over e =
     let entry : Entry = Wrote c (length offered) carried in
     one_more (Writes c) log log_then target target ended (set ended c true) entry (ended_now ended entry c len lt (λ d. refl)) e
-    (λ before turn are. let m = moment target before turn in written m (told entry m) c offered offered carried open_ waiting some refl refl)
+    (λ before turn are. let m = moment target before turn in written m (told entry m) c offered offered carried open_ front some refl refl)
 
 -- ---- closes
 

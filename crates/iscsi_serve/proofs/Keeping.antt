@@ -1,5 +1,5 @@
 -- What each step keeps: a target stays served, by what may happen to it.
-use Rattle.std.proofs.Common.{◌≡◌, ℕ, ◌+◌, ◌<◌, ◌≤◌, List, [], ◌∷◌, ◌++◌, length, take, drop, Bool, true, false, refl, sym, ◌∙◌, subst, inl, inr, arith, append_assoc, append-nil}
+use Rattle.std.proofs.Common.{◌≡◌, ℕ, ◌+◌, ◌<◌, ◌≤◌, List, [], ◌∷◌, ◌++◌, length, take, drop, Bool, true, false, refl, sym, ap, ◌∙◌, subst, inl, inr, arith, append_assoc, append-nil}
 use Rattle.std.proofs.lemmas.Bool.{lt-ltb}
 use Rattle.std.proofs.lemmas.Bool.Decides.{eqb_tells}
 use Rattle.std.proofs.lemmas.List.{length-take-le, take-append-drop}
@@ -15,6 +15,7 @@ use Rattle.iscsi_serve.specs.Events.{event_of, events}
 use Rattle.iscsi_serve.specs.Served.{IsServed, IsFed, MayFollow, MayHappen, MayComeOut, Stays, ComesOutServed, HasBeenServed}
 use Rattle.iscsi_serve.specs.Turn.{Moment, Along}
 use Rattle.iscsi_serve.specs.Progress.{StandsFed, Keeps, Does}
+use Rattle.iscsi_serve.proofs.Fronts.{offered_front}
 use Rattle.iscsi_serve.proofs.Moments.{along_next}
 use Rattle.iscsi_serve.proofs.Steps.{sent_by, new_served, told_served, open_served, read_served, wrote_served, close_served}
 
@@ -106,25 +107,29 @@ module _ (May : Setting → World → Happening → Type 0) where
 
   -- a front of what waits was written
   pub write_stays : (log log_then : List Entry) (target after : Machine) (c n : ℕ) (offered : List ℕ) → c < connection_limit
-      → is_open_at target c ≡ true → (link_at target c).waiting ≡ offered → n ≤ length offered
+      → is_open_at target c ≡ true → offered ≡ take (length offered) (link_at target c).waiting → n ≤ length offered
       → log_then ≡ log ++ Wrote c (length offered) (Bytes (take n offered)) ∷ []
       → ((s : Setting) (sent : ℕ → ℕ) (h : History) → Stands s sent target h → Stands s (with_sent sent c (sent c + n)) after h)
       → Stays May log log_then target after
-  write_stays log log_then target after c n offered lt is_open_ waiting le e stands = λ s h v.
+  write_stays log log_then target after c n offered lt is_open_ front le e stands = λ s h v.
       (let piece = take n offered in
+      let rest = drop (length offered) (link_at target c).waiting in
+      let waiting : (link_at target c).waiting ≡ piece ++ (drop n offered ++ rest) =
+      offered_front offered (link_at target c).waiting front ∙ ap (λ (xs : List ℕ). xs ++ rest) (sym (take-append-drop n offered))
+      ∙ append_assoc piece (drop n offered) rest in
       let there = is_open_there s (sent_by log) (world s h) target c lt v.stands is_open_ in
       let count : n ≡ length piece = sym (length-take-le n offered le) in
       let now : IsServed s h (log ++ Wrote c (length offered) (Bytes piece) ∷ []) after =
-      wrote_served s h log target after c (length offered) piece (drop n offered) there.0 lt there.1 (waiting ∙ sym (take-append-drop n offered)) v
+      wrote_served s h log target after c (length offered) piece (drop n offered ++ rest) there.0 lt there.1 waiting v
       (subst (λ (n : ℕ). Stands s (with_sent (sent_by log) c (sent_by log c + n)) after h) count (stands s (sent_by log) h v.stands)) in
       nothing_more s h log_then after (subst (λ (log : List Entry). IsServed s h log after) (sym e) now))
 
   -- the write would have waited
   pub nothing_stays : (log log_then : List Entry) (target : Machine) (c : ℕ) (offered : List ℕ) → c < connection_limit
-      → is_open_at target c ≡ true → (link_at target c).waiting ≡ offered → log_then ≡ log ++ Wrote c (length offered) (Bytes []) ∷ []
+      → is_open_at target c ≡ true → offered ≡ take (length offered) (link_at target c).waiting → log_then ≡ log ++ Wrote c (length offered) (Bytes []) ∷ []
       → Stays May log log_then target target
-  nothing_stays log log_then target c offered lt is_open_ waiting e =
-      write_stays log log_then target target c 0 offered lt is_open_ waiting (omega arith) e
+  nothing_stays log log_then target c offered lt is_open_ front e =
+      write_stays log log_then target target c 0 offered lt is_open_ front (omega arith) e
       (λ s sent h stands. stands_sent s sent (with_sent sent c (sent c + 0)) target h (λ d below. same_sent sent c d) stands)
 
   -- a connection ended

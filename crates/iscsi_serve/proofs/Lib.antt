@@ -1,7 +1,9 @@
 pub mod Rows
 pub mod Steps
 pub mod Moments
+pub mod Fronts
 pub mod Goings
 pub mod Keeping
 pub mod Turning
 pub mod Closing
+pub mod Passing

@@ -92,11 +92,12 @@ abbrev pub after_write : ℕ → Carried → Machine → Machine
 after_write c (Bytes piece) target = with_link target c (sent_link (link_at target c) (length piece))
 after_write c _ target = target
 
--- all that waits was offered, and a front of it was written
+-- a front of what waits was offered, which is not empty, and a front of that was written
 abbrev pub HasWritten : ℕ → List ℕ → Moment → Moment → Type 0
 HasWritten c waiting m n =
-    (carried : Carried) × (unwritten : List ℕ) × (waiting ≡ piece_in carried ++ unwritten)
-    × (n ≡ changed (Wrote c (length waiting) carried) (after_write c carried m.target) m)
+    (offered : List ℕ) × (unoffered : List ℕ) × (waiting ≡ offered ++ unoffered) × (0 < length offered)
+    × ((carried : Carried) × (unwritten : List ℕ) × (offered ≡ piece_in carried ++ unwritten)
+    × (n ≡ changed (Wrote c (length offered) carried) (after_write c carried m.target) m))
 
 -- one write where it is due, and otherwise none
 abbrev pub Writes : ℕ → Moment → Moment → Type 0

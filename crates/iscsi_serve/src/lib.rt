@@ -15,6 +15,7 @@
 //!   sound target (`served`), and of every one by how its commands came out (`came`).
 #![tactic(auto)]
 
+mod ending;
 mod fault;
 pub mod laws;
 mod serving;

@@ -10,6 +10,7 @@ ghost use Rattle.iscsi_serve.specs.Turn.{Moment, moment, log_of, beginning, free
 ghost use Rattle.iscsi_serve.specs.Progress.{AreEnded, none_ended, is_to_close, NoneToClose, KeepsOthers, IsDue, StandsFed, Goes, Keeps, Does};
 ghost use Rattle.iscsi_ports.specs.declared.results.Named.{Named};
 
+use crate::ending::{any_ended, either, has_ended, is_done};
 use crate::fault::ServeFault;
 use connection_numbers::CONNECTIONS;
 use iscsi_ports::{Accepted, IoResult, Named, PortFault, Ports};
@@ -140,7 +141,7 @@ fn read_one<P: Ports, S: Store>(
     }
 }
 
-/// Writes what waits on a connection that is open, as far as it is taken.
+/// Offers what is to be sent next on a connection that is open, which is written as far as it is taken.
 fn write_open<P: Ports, S: Store>(
     ports: &mut P,
     target: &mut Target<S>,
@@ -162,23 +163,6 @@ fn write_open<P: Ports, S: Store>(
         IoResult::Bytes(count) => target.sent(c, count),
         IoResult::End | IoResult::Fault => ended[c] = true,
     }
-}
-
-/// The connection has ended, or the target has closed it and nothing waits on it.
-fn is_done<S: Store>(target: &Target<S>, ended: &[bool; CONNECTIONS], c: usize) -> bool
-    requires in_range { c < 64 }
-    requires open { is_open_at target.now c ≡ true }
-    ensures { result ≡ (slice_index_or ended.now c false || is_closing (link_at target.now c).phase && length (link_at target.now c).waiting == 0) }
-{
-    ended[c] || target.closing(c) && target.out(c).is_empty()
-}
-
-/// The connection has ended in this turn.
-fn has_ended<S: Store>(target: &Target<S>, ended: &[bool; CONNECTIONS], c: usize) -> bool
-    requires { c < 64 }
-    ensures { result ≡ (slice_index_or ended.now c false && is_open_at target.now c) }
-{
-    ended[c] && target.is_open(c)
 }
 
 /// Writes what waits on a connection, as far as it is taken. Whether a close of it is due then.
@@ -238,13 +222,7 @@ fn read_all<P: Ports, S: Store>(
     }
 }
 
-fn either(one: bool, other: bool) -> bool
-    ensures { result ≡ (one || other) }
-{
-    one || other
-}
-
-/// All writes that are due. Whether a close is due then.
+/// All writes that are due, where some may be. Whether a close may be due then.
 fn write_all<P: Ports, S: Store>(
     ports: &mut P,
     target: &mut Target<S>,
@@ -254,10 +232,12 @@ fn write_all<P: Ports, S: Store>(
         (P.log ports.old) (P.log ports.new) target.old target.new ended.old ended.new }
     ensures due { result ≡ false → NoneToClose 64 ended.new target.new }
 {
-    let mut has_closes = false;
-    for c in 0..CONNECTIONS {
+    let mut has_closes = any_ended(ended);
+    let mut from = 0;
+    while let Some(c) = target.next_busy(from) {
         let closes = write_one(ports, target, ended, c);
         has_closes = either(has_closes, closes);
+        from = c + 1;
     }
     has_closes
 }

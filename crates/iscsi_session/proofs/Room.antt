@@ -28,8 +28,11 @@ use Rattle.scsi_sense.specs.Done.{Outcome}
 use Rattle.scsi_unit.specs.DiskCommands.{most_given}
 use Rattle.iscsi_login.specs.Values.{AreInRange}
 use Rattle.iscsi_login.specs.declared.values.Values.{Values}
-use Rattle.iscsi_session.specs.Answers.{data_sent, sent_pieces, data_in, data_answers, scsi_answer, command_answers}
-use Rattle.iscsi_session.specs.Room.{most_sent, most_pieces, room_for}
+use Rattle.iscsi_outbox.specs.Answer as outbox
+use Rattle.iscsi_outbox.specs.declared.shared.SharedFields.{SharedFields}
+use Rattle.iscsi_outbox.specs.declared.limits.Limits.{Limits}
+use Rattle.iscsi_session.specs.Answers.{data_sent, sent_pieces, data_in, shared_fields, data_answers, scsi_answer, command_answers}
+use Rattle.iscsi_session.specs.Room.{most_sent, most_copied, most_pieces, room_for}
 use Rattle.std.specs.Int.{div_ceil}
 use Rattle.std.proofs.lemmas.Nat.{div-add-mod'}
 use Rattle.std.proofs.Math.Nat.{suc-mul, mul-le-mul_left, lt_of_mul-lt-mul_right}
@@ -95,19 +98,17 @@ answers_long numbers values frame sent range = grind (arith, pieces_are_joined, 
 pub sent_short : (frame : Frame) (done : Outcome) → length done.given ≤ most_given → length (data_sent frame done) ≤ most_sent frame
 sent_short frame done le = grind (arith, length-take)
 
-pub pieces_within : (values : Values) (frame : Frame) (done : Outcome) → AreInRange values → length done.given ≤ most_given
-    → piece_count (length (data_sent frame done)) values.max_burst_length values.max_recv_data_segment_length ≤ most_pieces values frame
-pieces_within values frame done range le =
-    less_has_fewer (length (data_sent frame done)) (most_sent frame) values.max_burst_length values.max_recv_data_segment_length (let some = range.burst
-    in omega arith) (let some = range.segment in omega arith) (sent_short frame done le)
-
--- room for all Data-Ins, and for the SCSI Response behind them
-pub data_fits : (numbers : Stamp) (values : Values) (frame : Frame) (done : Outcome) → AreInRange values → length done.given ≤ most_given
-    → length (flat_map spelling (data_answers numbers values frame (data_sent frame done))) + 68 ≤ room_for values frame
-data_fits numbers values frame done range le = grind (arith, answers_long, pieces_counted, pieces_within, sent_short)
+-- room for all Data-Ins of data that is copied, and for the SCSI Response behind them
+pub data_fits : (numbers : Stamp) (values : Values) (frame : Frame) (sent : List ℕ) (n : ℕ) → AreInRange values → n ≡ length sent
+    → n ≤ most_copied values frame → length (flat_map spelling (data_answers numbers values frame sent)) + 68 ≤ room_for values frame
+data_fits numbers values frame sent n range is le =
+    let few = subst (λ (k : ℕ). k ≤ most_copied values frame) is le in
+    let fewer = less_has_fewer (length sent) (most_copied values frame) values.max_burst_length values.max_recv_data_segment_length (let some = range.burst
+    in omega arith) (let some = range.segment in omega arith) few in
+    omega (arith, answers_long numbers values frame sent range, pieces_counted values sent range, fewer, few)
 
 -- no more pieces than bytes
-pub most_pieces_fit : (values : Values) (frame : Frame) → AreInRange values → most_sent frame ≤ most_given → most_pieces values frame ≤ most_given
+pub most_pieces_fit : (values : Values) (frame : Frame) → AreInRange values → most_copied values frame ≤ most_given → most_pieces values frame ≤ most_given
 most_pieces_fit values frame range le = grind (arith, count_fits)
 
 -- ---- one piece
@@ -270,7 +271,7 @@ most_sent_fits frame = grind arith
 pub command_long : (numbers : Stamp) (values : Values) (frame : Frame) (done : Outcome) → AreInRange values → length done.given ≤ most_given
     → length (flat_map spelling (command_answers numbers values frame done)) ≤ request_weight
 command_long numbers values frame done range given =
-    grind (arith, flat_map-append, few_pieces, length-append, one_spelled, response_long, data_fits, most_sent_fits)
+    grind (arith, flat_map-append, few_pieces, length-append, one_spelled, response_long, answers_long, pieces_counted, sent_short, most_sent_fits)
 
 -- ---- R2Ts
 
@@ -368,12 +369,36 @@ one_answer numbers values frame sent piece fields items range is one made writte
 
 -- ---- all that a command is answered
 
+-- in so many pieces its data is sent
+pub count_is : (values : Values) (frame : Frame) (done : Outcome) (sent count : ℕ) → AreInRange values → sent ≡ length (data_sent frame done)
+    → count ≡ piece_count sent values.max_burst_length values.max_recv_data_segment_length → count ≡ length (sent_pieces values (data_sent frame done))
+count_is values frame done sent count range is counted =
+    counted ∙ ap (λ (n : ℕ). piece_count n values.max_burst_length values.max_recv_data_segment_length) is
+    ∙ sym (pieces_counted values (data_sent frame done) range)
+
 -- its data in pieces, and how it ended behind them
-pub all_spelled : (numbers : Stamp) (values : Values) (frame : Frame) (done : Outcome) (count : ℕ) (response : Answer) (before now written : List ℕ)
-    → now ≡ before ++ flat_map spelling (data_answers numbers values frame (data_sent frame done)) → written ≡ now ++ spelling response
+pub all_spelled : (numbers : Stamp) (values : Values) (frame : Frame) (done : Outcome) (count : ℕ) (response : Answer)
     → response ≡ scsi_answer numbers frame done count → count ≡ length (sent_pieces values (data_sent frame done))
-    → written ≡ before ++ flat_map spelling (command_answers numbers values frame done)
-all_spelled numbers values frame done count response before now written is put told counted = grind (arith, append_assoc, append-nil, flat_map-append)
+    → flat_map spelling (data_answers numbers values frame (data_sent frame done)) ++ spelling response
+    ≡ flat_map spelling (command_answers numbers values frame done)
+all_spelled numbers values frame done count response told counted = grind (arith, append-nil, flat_map-append)
+
+-- the same, as it is cut from where the data lies
+same_data_ins : (numbers : Stamp) (frame : Frame) (sent : List ℕ) (k : ℕ) (pieces : List Piece)
+    → map (outbox.data_in (shared_fields numbers frame) sent) (enumerate_from k pieces) ≡ map (data_in numbers frame sent) (enumerate_from k pieces)
+same_data_ins numbers frame sent k [] = refl
+same_data_ins numbers frame sent k (piece ∷ pieces) =
+    ap (λ (rest : List Answer). data_in numbers frame sent (k, piece) ∷ rest) (same_data_ins numbers frame sent (k + 1) pieces)
+
+pub cut_as_sent : (numbers : Stamp) (values : Values) (frame : Frame) (sent bytes last : List ℕ) (shared : SharedFields) (limits : Limits)
+    → shared ≡ shared_fields numbers frame → limits ≡ outbox.limits_of values → bytes ≡ sent
+    → outbox.answered shared limits bytes last ≡ flat_map spelling (data_answers numbers values frame sent) ++ last
+unfolding data_answers
+cut_as_sent numbers values frame sent bytes last shared limits shares cuts is =
+    ap (λ (s : SharedFields). outbox.answered s limits bytes last) shares
+    ∙ ap (λ (l : Limits). outbox.answered (shared_fields numbers frame) l bytes last) cuts
+    ∙ ap (λ (xs : List ℕ). outbox.answered (shared_fields numbers frame) (outbox.limits_of values) xs last) is
+    ∙ ap (λ (answers : List Answer). flat_map spelling answers ++ last) (same_data_ins numbers frame sent 0 (sent_pieces values sent))
 
 -- behind the room stands what is sent
 pub sent_behind : (items given : List ℕ) (sent : ℕ) → drop 48 items ≡ given → drop 48 (take (48 + sent) items) ≡ take sent given

@@ -15,6 +15,7 @@ use Rattle.iscsi_pdu.specs.declared.scsi_response.Residual.TheVariants as residu
 use Rattle.iscsi_login.specs.declared.values.Values.{Values}
 use Rattle.iscsi_transfer.specs.DataIn.{pieces_of, part_of}
 use Rattle.iscsi_transfer.specs.declared.data_in.Piece.{Piece}
+use Rattle.iscsi_outbox.specs.declared.shared.SharedFields.{SharedFields}
 
 -- RFC 7143 §11.3.4: how many bytes the initiator expects. Own: where data is given, none unless the command reads and does not write.
 abbrev pub expected_length : Frame → Outcome → ℕ
@@ -44,6 +45,11 @@ data_in stamp frame sent piece = answers.DataIn (record {
   buffer_offset = piece.1.offset;
   body = part_of sent piece.1;
 })
+
+-- what all of a command have in common
+abbrev pub shared_fields : Stamp → Frame → SharedFields
+shared_fields stamp frame =
+    record { initiator_task_tag = initiator_task_tag frame.header; exp_cmd_sn = stamp.exp_cmd_sn; max_cmd_sn = stamp.max_cmd_sn }
 
 -- one for each piece of the data, in order
 unfoldable pub data_answers : Stamp → Values → Frame → List ℕ → List Answer

@@ -32,3 +32,4 @@ pub mod Weight
 pub mod Laws
 pub mod Examples
 pub mod ExamplesAsking
+pub mod ExamplesRoom

@@ -14,11 +14,11 @@ ghost use Rattle.iscsi_session.specs.Runs.{Runs, ActsAs, ActsFirst, output};
 ghost use Rattle.iscsi_session.specs.Texts.{is_text as is_text_in};
 
 use crate::act::Act;
-use crate::answers::{put, rejected};
+use crate::answers::rejected;
 use crate::functions::is_function;
 use crate::session::{RESERVED_TAG, Session};
 use crate::texts::is_text;
-use bytes::BytesMut;
+use iscsi_outbox::Outbox;
 use iscsi_pdu::{
     Answer, Frame, Header, LogoutResponse, LogoutResult, MOST_DATA, NopIn, Opcode, RejectReason,
     Stamp,
@@ -41,7 +41,7 @@ impl Session {
     pub(crate) fn act_all(
         &mut self,
         luns: &[u8],
-        out: &mut BytesMut,
+        out: &mut Outbox,
         orders: &mut Vec<Header>,
     ) -> Result<bool, Memory>
         ensures ok { IfOk result (λ goes_on. (units : TargetUnits) → luns.now ≡ numbers_of units.states → Runs act_all None goes_on self.old self.new
@@ -68,7 +68,7 @@ impl Session {
     fn act(
         &mut self,
         luns: &[u8],
-        out: &mut BytesMut,
+        out: &mut Outbox,
         orders: &mut Vec<Header>,
     ) -> Result<Act, Memory>
         ensures acts { IfOk result (λ a. (past : Past) → Stands past self.old → ActsFirst luns.now (due past) past a self.old self.new
@@ -99,7 +99,7 @@ impl Session {
 
     /// The first request that is due, a NOP-Out, a Logout or one that was removed, is finished; the first two are
     /// answered. There must be room for the answer, so it takes no memory.
-    fn answer(&mut self, out: &mut BytesMut) -> Act
+    fn answer(&mut self, out: &mut Outbox) -> Act
         requires { (frame : pdu.Frame) (others : List pdu.Frame) → self.old.tasks.due ≡ frame ∷ others → room_to_act frame ≤ out.old.spare }
         ensures acts { (luns : List ℕ) (past : Past) (k : ℕ) (others : List ℕ) → Stands past self.old → due past ≡ k ∷ others
             → is_command (frame_of (standing past) k) ≡ false → is_text_in (frame_of past.came k) ≡ false → is_function_in (frame_of past.came k) ≡ false
@@ -130,7 +130,7 @@ impl Session {
     }
 
     /// A NOP-In returns the ping data of a NOP-Out (RFC 7143 §11.19), where it asks for an answer.
-    fn return_ping(&mut self, frame: &Frame, out: &mut BytesMut)
+    fn return_ping(&mut self, frame: &Frame, out: &mut Outbox)
         requires { room_to_act frame.now ≤ out.old.spare }
         ensures stands { (past : Past) → Stands past self.old → Stands (answering (ping_answers (stamp past) past.params.values frame.now) past) self.new }
         ensures out { (past : Past) → Stands past self.old
@@ -150,7 +150,7 @@ impl Session {
             stamp: self.next_stamp(),
             body: &frame.body[..length],
         });
-        put(out, &answer);
+        out.put(&answer);
     }
 
     /// The session, or its one connection by its CID, is closed by this Logout (RFC 7143 §11.14.1).
@@ -165,7 +165,7 @@ impl Session {
     }
 
     /// A Logout is answered (RFC 7143 §11.15).
-    fn log_out(&mut self, frame: &Frame, out: &mut BytesMut) -> Act
+    fn log_out(&mut self, frame: &Frame, out: &mut Outbox) -> Act
         requires { room_to_act frame.now ≤ out.old.spare }
         ensures act { result ≡ (if closes self.old.params frame.now then Act.Ended else Act.Taken) }
         ensures stands { (past : Past) → Stands past self.old → Stands (answering (logout_answer (stamp past) past.params frame.now ∷ []) past) self.new }
@@ -175,7 +175,7 @@ impl Session {
         ensures params { self.new.params ≡ self.old.params }
     {
         let stamp = self.next_stamp();
-        put(out, &self.logout_answer(stamp, frame));
+        out.put(&self.logout_answer(stamp, frame));
         self.act_of(&frame.header)
     }
 

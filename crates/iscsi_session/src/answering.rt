@@ -13,17 +13,27 @@ ghost use Rattle.iscsi_session.specs.Runs.{AnswersAs};
 use crate::answers::put_answers;
 use crate::session::Session;
 use bytes::BytesMut;
+use data_parts::Parts;
+use iscsi_outbox::Outbox;
 use scsi_sense::Done;
+use std::alloc::Global;
 
 impl Session {
     /// The first command of the queue is done: it is finished, and answered behind what waits to be sent.
-    /// There must be room for its answers ([`make_room`](crate::answers::make_room)), so it takes no memory.
-    /// A buffer comes back that is used no more.
-    pub(crate) fn answer_command(&mut self, out: &mut BytesMut, done: Done) -> BytesMut
+    /// There must be room for its answers ([`make_room`](crate::making_room::make_room)), so it takes no memory.
+    /// A buffer comes back that is used no more, where there is one, and the data that the command took, with its
+    /// buffers.
+    pub(crate) fn answer_command(
+        &mut self,
+        alloc: Global,
+        out: &mut Outbox,
+        done: Done,
+    ) -> (Option<BytesMut>, Option<Parts>)
         requires values { AreInRange self.old.params.values }
         requires given { length done.given ≤ most_given }
         requires room { (frame : pdu.Frame) (others : List pdu.Frame) → self.old.tasks.queue ≡ frame ∷ others
             → room_for self.old.params.values frame ≤ out.old.spare }
+        requires slot { 1 ≤ out.old.slots }
         ensures answers { (past : Past) (k : ℕ) (others : List ℕ) → Stands past self.old → queue past ≡ k ∷ others
             → AnswersAs done k past self.new out.old.items out.new.items }
         ensures grows { (more : List ℕ) × (out.new.items ≡ out.old.items ++ more) }
@@ -31,10 +41,13 @@ impl Session {
         ensures params { self.new.params ≡ self.old.params }
     {
         let Some(frame) = self.tasks.finish() else {
-            return done.given.into_buffer();
+            return (Some(done.given.into_buffer()), None);
         };
-        self.transfers.finish(frame.header.initiator_task_tag());
+        let parts = self.transfers.finish(frame.header.initiator_task_tag());
         let stamp = self.next_stamp();
-        put_answers(out, stamp, &self.params.values, &frame, done)
+        (
+            put_answers(alloc, out, stamp, &self.params.values, &frame, done),
+            parts,
+        )
     }
 }

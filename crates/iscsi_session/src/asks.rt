@@ -8,7 +8,7 @@ ghost use Rattle.iscsi_session.specs.State.{transfer_at, asking_place, r2ts_at, 
 
 use crate::answers::put_r2t;
 use crate::transfers::Transfers;
-use bytes::BytesMut;
+use iscsi_outbox::Outbox;
 use iscsi_pdu::{HEADER_LENGTH, Header, R2t, Stamp};
 use iscsi_transfer::{Ask, MOST_OPEN, NO_TRANSFER_TAG};
 
@@ -28,7 +28,7 @@ impl Transfers {
 
     /// The R2Ts that are due of the command at this place are sent, with these numbers, and stand at the end of the
     /// buffer, one behind the other.
-    pub(crate) fn ask(&mut self, place: usize, stamp: Stamp, out: &mut BytesMut)
+    pub(crate) fn ask(&mut self, place: usize, stamp: Stamp, out: &mut Outbox)
         requires there { place < length self.old.list }
         requires room { ROOM_TO_ASK ≤ out.old.spare }
         ensures written { out.new.items ≡ out.old.items ++ flat_map spelling (r2t_answers (r2ts_at self.old stamp place)) }

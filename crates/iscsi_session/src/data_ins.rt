@@ -1,17 +1,17 @@
 //! The data of a command in SCSI Data-Ins (RFC 7143 §11.7).
 
-ghost use Rattle.std.specs.Prelude.{◌≡◌, ◌≤◌, ◌<◌, ◌+◌, ◌++◌, Some, length, drop, flat_map, slice_get};
+ghost use Rattle.std.specs.Prelude.{◌≡◌, ◌≤◌, ◌<◌, ◌+◌, ◌++◌, Some, [], length, drop, flat_map, slice_get};
 ghost use Rattle.scsi_sense.specs.Given.{headroom};
 ghost use Rattle.iscsi_pdu.specs.Answer.{spelling};
 ghost use Rattle.iscsi_pdu.specs.Segment.{most_data, segment};
 ghost use Rattle.iscsi_login.specs.Values.{AreInRange};
 ghost use Rattle.iscsi_transfer.specs.DataIn.{pieces_of, piece_count};
-ghost use Rattle.iscsi_session.specs.Answers.{sent_pieces, data_in as data_in_answer, data_answers};
+ghost use Rattle.iscsi_session.specs.Answers.{sent_pieces, data_in as data_in_answer, data_answers, shared_fields};
 ghost use Rattle.scsi_unit.specs.DiskCommands.{most_given};
 
-use crate::answers::put;
 use bytes::BytesMut;
 use iscsi_login::Values;
+use iscsi_outbox::{Outbox, SharedFields};
 use iscsi_pdu::{Answer, DataIn, Frame, Stamp};
 use iscsi_transfer::{Piece, piece_at, piece_count};
 use scsi_sense::HEADROOM;
@@ -67,10 +67,21 @@ fn data_in<'a>(
     }
 }
 
+/// What all SCSI Data-Ins of a command have in common.
+pub(crate) fn shared_fields(numbers: Stamp, frame: &Frame) -> SharedFields
+    ensures { result ≡ shared_fields numbers frame.now }
+{
+    SharedFields {
+        initiator_task_tag: frame.header.initiator_task_tag(),
+        exp_cmd_sn: numbers.exp_cmd_sn,
+        max_cmd_sn: numbers.max_cmd_sn,
+    }
+}
+
 /// Writes the Data-Ins of a command where there is room for them.
 #[tactic(auto, unfolding(crate::specs::Answers::data_answers))]
 pub(crate) fn put_data(
-    out: &mut BytesMut,
+    out: &mut Outbox,
     numbers: Stamp,
     values: &Values,
     frame: &Frame,
@@ -86,7 +97,7 @@ pub(crate) fn put_data(
     for data_sn in 0..count_of(values, length) {
         let piece = piece_of(values, length, data_sn);
         let answer = Answer::DataIn(data_in(numbers, frame, sent, data_sn, piece));
-        put(out, &answer);
+        out.put(&answer);
     }
 }
 
@@ -115,7 +126,7 @@ fn put_header(buffer: &mut BytesMut, header: &[u8; HEADROOM])
 
 /// Makes the Data-In of a command around its data, where that is one piece and lies behind room for a header.
 /// No byte of it is copied.
-pub(crate) fn put_around(buffer: &mut BytesMut, numbers: Stamp, values: &Values, frame: &Frame)
+fn put_around(buffer: &mut BytesMut, numbers: Stamp, values: &Values, frame: &Frame)
     requires values { AreInRange values.now }
     requires room { headroom ≤ length buffer.old.items }
     requires spare { 3 ≤ buffer.old.spare }
@@ -130,4 +141,28 @@ pub(crate) fn put_around(buffer: &mut BytesMut, numbers: Stamp, values: &Values,
         data_in(numbers, frame, sent, 0, piece).header()
     };
     put_header(buffer, &header);
+}
+
+/// The data of a command is one piece, and lies in this buffer behind room for a header: with what ends the command
+/// it becomes what waits, where nothing does. No byte of it is copied. The buffer comes back that was there.
+pub(crate) fn put_alone(
+    out: &mut Outbox,
+    numbers: Stamp,
+    values: &Values,
+    frame: &Frame,
+    mut buffer: BytesMut,
+    last: &Answer,
+) -> BytesMut
+    requires values { AreInRange values.now }
+    requires none { out.old.items ≡ [] }
+    requires room { headroom ≤ length buffer.items }
+    requires spare { length (spelling last.now) + 3 ≤ buffer.spare }
+    requires short { length (drop headroom buffer.items) ≤ most_given }
+    requires one { length (sent_pieces values.now (drop headroom buffer.items)) ≡ 1 }
+    ensures { out.new.items ≡ flat_map spelling (data_answers numbers values.now frame.now (drop headroom buffer.items)) ++ spelling last.now }
+{
+    put_around(&mut buffer, numbers, values, frame);
+    // There is room for it, so this does not fail.
+    let _ = last.write(&mut buffer);
+    out.begin_with(buffer)
 }

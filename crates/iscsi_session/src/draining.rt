@@ -11,11 +11,10 @@ ghost use Rattle.iscsi_session.specs.Comings.{TargetUnits};
 ghost use Rattle.iscsi_session.specs.Steps.{Answering, tell_due};
 ghost use Rattle.iscsi_session.specs.Runs.{Runs, output};
 
-use crate::answers::put;
 use crate::functions::answer_to;
 use crate::reach::Reach;
 use crate::session::Session;
-use bytes::BytesMut;
+use iscsi_outbox::Outbox;
 use iscsi_pdu::{HEADER_LENGTH, TaskResult};
 use out_of_memory::Memory;
 
@@ -39,7 +38,7 @@ impl Session {
 
     /// The function whose data has come is finished, and answered at the end of the buffer. Where an allocation fails
     /// nothing changes.
-    pub(crate) fn answer_drained(&mut self, out: &mut BytesMut) -> Result<(), Memory>
+    pub(crate) fn answer_drained(&mut self, out: &mut Outbox) -> Result<(), Memory>
         ensures ok { OnOk result ((orders : List (List ℕ)) (units : TargetUnits) → Runs tell_due None true self.old self.new
             (output out.old.items orders) (output out.new.items orders) units units) }
         ensures stops { OnErr result ((orders : List (List ℕ)) (units : TargetUnits) → Runs tell_due (Some (λ place. Answering place)) false self.old self.new
@@ -57,7 +56,7 @@ impl Session {
         self.functions.finish(tag);
         self.tasks.finish_function(&function);
         let stamp = self.next_stamp();
-        put(out, &answer_to(&function, stamp, TaskResult::Complete));
+        out.put(&answer_to(&function, stamp, TaskResult::Complete));
         Ok(())
     }
 }

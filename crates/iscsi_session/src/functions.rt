@@ -13,13 +13,12 @@ ghost use Rattle.iscsi_session.specs.State.{Stands, function_place, immediate_fu
 
 use crate::aborted::Aborted;
 use crate::act::Act;
-use crate::answers::put;
 use crate::reach::Reach;
 use crate::scope::Scope;
 use crate::session::Session;
 use crate::voids::PLUGGED;
-use bytes::BytesMut;
 use iscsi_order::{CommandNumbers, is_before};
+use iscsi_outbox::Outbox;
 use iscsi_pdu::{
     Answer, Frame, HEADER_LENGTH, Header, Opcode, Stamp, TaskFunction, TaskManagementResponse,
     TaskResult,
@@ -157,7 +156,7 @@ impl Session {
     pub(crate) fn answer_function(
         &mut self,
         luns: &[u8],
-        out: &mut BytesMut,
+        out: &mut Outbox,
         orders: &mut Vec<Header>,
     ) -> Result<Act, Memory>
         ensures taken { IfOk result (λ a. 0 < length self.old.tasks.due → a ≡ Act.Taken) }
@@ -195,7 +194,7 @@ impl Session {
             exp_cmd_sn: numbers.exp_cmd_sn,
             max_cmd_sn: numbers.max_cmd_sn,
         };
-        put(out, &answer_to(&function, stamp, response));
+        out.put(&answer_to(&function, stamp, response));
         orders.push_reserved(function);
         Ok(Act::Taken)
     }

@@ -12,11 +12,11 @@ ghost use Rattle.iscsi_session.specs.Draining.{judged_in, is_live_in};
 ghost use Rattle.iscsi_session.specs.State.{Stands, is_vacant_for, function_place, IsAcceptable, IsLawfulTask};
 
 use crate::acting::is_command;
-use crate::answers::{put, rejected};
+use crate::answers::rejected;
 use crate::functions::is_function;
 use crate::session::{RESERVED_TAG, Session};
 use crate::verdict::Verdict;
-use bytes::BytesMut;
+use iscsi_outbox::Outbox;
 use iscsi_pdu::{Frame, Header, Opcode, RejectReason};
 use iscsi_transfer::command_fault;
 use out_of_memory::Memory;
@@ -31,7 +31,7 @@ impl Session {
     /// A frame is judged: its opcode, its number, the limit of commands for immediate delivery, its tag
     /// and its data, in this order. One that is accepted is kept until it acts, and one that is rejected
     /// is answered at the end of the buffer. Where an allocation fails nothing changes.
-    pub(crate) fn receive(&mut self, frame: Frame, out: &mut BytesMut) -> Result<Verdict, Memory>
+    pub(crate) fn receive(&mut self, frame: Frame, out: &mut Outbox) -> Result<Verdict, Memory>
         requires { AreInRange self.old.params.values }
         ensures verdict { IfOk result (λ v. (past : Past) → Stands past self.old → v ≡ verdict past frame) }
         ensures stands { OnOk result ((past : Past) → Stands past self.old → Stands (judged (verdict past frame) frame past) self.new) }
@@ -45,7 +45,7 @@ impl Session {
         let verdict = self.judge(&frame);
         match verdict {
             Verdict::Accepted => self.accept(frame)?,
-            Verdict::Feeding => self.feed(&frame),
+            Verdict::Feeding => self.feed(frame)?,
             Verdict::Rejected(reason) => self.reject(reason, frame.header, out)?,
             Verdict::Ignored | Verdict::Dropped | Verdict::Violating => {}
         }
@@ -233,13 +233,15 @@ impl Session {
         Ok(())
     }
 
-    /// The data of a Data-Out that is lawful is taken.
-    fn feed(&mut self, frame: &Frame)
-        requires { judged_in self.old.transfers frame.now ≡ Verdict.Feeding }
-        ensures stands { (past : Past) → Stands past self.old → Stands (fed (command_with past (initiator_task_tag frame.now.header)) frame.now past) self.new }
+    /// The data of a Data-Out that is lawful is taken. Where an allocation fails nothing changes.
+    fn feed(&mut self, frame: Frame) -> Result<(), Memory>
+        requires { judged_in self.old.transfers frame ≡ Verdict.Feeding }
+        ensures stands { OnOk result ((past : Past) → Stands past self.old
+            → Stands (fed (command_with past (initiator_task_tag frame.header)) frame past) self.new) }
         ensures params { self.new.params ≡ self.old.params }
+        ensures err { OnErr result (self.new ≡ self.old) }
     {
-        self.transfers.feed(frame);
+        self.transfers.feed(frame)
     }
 
     /// A frame is answered by a Reject. Where an allocation fails nothing changes.
@@ -247,7 +249,7 @@ impl Session {
         &mut self,
         reason: RejectReason,
         header: Header,
-        out: &mut BytesMut,
+        out: &mut Outbox,
     ) -> Result<(), Memory>
         ensures stands { OnOk result ((past : Past) (frame : pdu.Frame) → Stands past self.old → frame.header ≡ header
             → Stands (answering (reject reason (stamp past) frame ∷ []) past) self.new) }
@@ -260,7 +262,7 @@ impl Session {
     {
         out.reserve(LONGEST_REJECT)?;
         let stamp = self.next_stamp();
-        put(out, &rejected(reason, stamp, header));
+        out.put(&rejected(reason, stamp, header));
         Ok(())
     }
 }

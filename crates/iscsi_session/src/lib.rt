@@ -30,6 +30,7 @@ mod draining;
 mod functions;
 mod judging;
 pub mod laws;
+mod making_room;
 mod reach;
 mod scope;
 mod serving;

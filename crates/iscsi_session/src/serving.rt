@@ -12,11 +12,13 @@ ghost use Rattle.iscsi_session.specs.Steps.{Work, Asking, is_doing, is_serving, 
 ghost use Rattle.iscsi_session.specs.Weight.{IsAtRest, Eases};
 ghost use Rattle.iscsi_session.specs.Runs.{output, Starts, Runs, Stops, StepsFirst, IsSettled};
 
-use crate::answers::make_room;
 use crate::asks::ROOM_TO_ASK;
+use crate::making_room::make_room;
 use crate::session::Session;
 use crate::verdict::Verdict;
 use bytes::BytesMut;
+use data_parts::{Data, Parts};
+use iscsi_outbox::Outbox;
 use iscsi_pdu::{Frame, Header};
 use media_store::Store;
 use out_of_memory::Memory;
@@ -32,7 +34,7 @@ fn carry_out<S: Store>(
     units: &mut Units<S>,
     nexus: &Nexus,
     frame: &Frame,
-    payload: &[u8],
+    payload: &Data,
 ) -> Result<Done, Memory>
     ensures came { IfOk result (λ done. (came : CameOut) × ((units.new, done) ≡ carried_out came units.old nexus.now frame.now payload.now)
         × (AreSound units.new → came ≡ AsDefined)) }
@@ -50,6 +52,27 @@ fn carry_out<S: Store>(
     Ok(done)
 }
 
+/// A buffer that is used no more goes back to the units.
+fn give_back<S: Store>(units: &mut Units<S>, buffer: Option<BytesMut>)
+    ensures { units.new ≡ units.old }
+{
+    if let Some(buffer) = buffer {
+        units.give_back(buffer);
+    }
+}
+
+/// The buffers in which the data of a command came are kept by the units, to be used again.
+fn keep_buffers<S: Store>(units: &mut Units<S>, parts: Option<Parts>)
+    ensures { units.new ≡ units.old }
+{
+    let Some(mut parts) = parts else {
+        return;
+    };
+    while let Some(buffer) = parts.pop_buffer() {
+        units.keep_buffer(buffer);
+    }
+}
+
 impl Session {
     /// A frame is judged, the requests that it lets be taken act, the R2Ts that it makes due are sent, and the function is
     /// answered that waited for its data; all of that is added at the end of the buffer. The header of each Task Management Function Request that acts is
@@ -61,7 +84,7 @@ impl Session {
         &mut self,
         frame: Frame,
         luns: &[u8],
-        out: &mut BytesMut,
+        out: &mut Outbox,
         orders: &mut Vec<Header>,
     ) -> Result<bool, Memory>
         requires { AreInRange self.old.params.values }
@@ -88,7 +111,7 @@ impl Session {
 
     /// The R2Ts that are due are added at the end of the buffer. Room is made for all before the first is sent, so that
     /// where an allocation fails nothing changes.
-    fn ask_due(&mut self, out: &mut BytesMut) -> Result<(), Memory>
+    fn ask_due(&mut self, out: &mut Outbox) -> Result<(), Memory>
         ensures ok { OnOk result ((orders : List (List ℕ)) (units : TargetUnits) → Runs ask_due None true self.old self.new
             (output out.old.items orders) (output out.new.items orders) units units) }
         ensures stops { OnErr result ((orders : List (List ℕ)) (units : TargetUnits) → Runs ask_due (Some (λ place. Asking place)) false self.old self.new
@@ -125,7 +148,7 @@ impl Session {
     pub fn settle<S: Store>(
         &mut self,
         alloc: Global,
-        out: &mut BytesMut,
+        out: &mut Outbox,
         units: &mut Units<S>,
     ) -> Result<(), Memory>
         requires { AreInRange self.old.params.values }
@@ -149,7 +172,7 @@ impl Session {
     fn finish<S: Store>(
         &mut self,
         alloc: Global,
-        out: &mut BytesMut,
+        out: &mut Outbox,
         units: &mut Units<S>,
     ) -> Result<bool, Memory>
         requires { AreInRange self.old.params.values }
@@ -172,10 +195,11 @@ impl Session {
         };
         make_room(out, &self.params.values, frame)?;
         let payload = self.transfers.payload(frame.header.initiator_task_tag());
-        let done = carry_out(alloc, units, &self.params.nexus, frame, payload)?;
+        let done = carry_out(alloc, units, &self.params.nexus, frame, &payload)?;
         // There is room for the answers, so nothing fails any more.
-        let buffer = self.answer_command(out, done);
-        units.give_back(buffer);
+        let (buffer, parts) = self.answer_command(alloc, out, done);
+        give_back(units, buffer);
+        keep_buffers(units, parts);
         Ok(true)
     }
 }

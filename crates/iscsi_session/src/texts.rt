@@ -11,10 +11,10 @@ ghost use Rattle.iscsi_session.specs.State.{Stands, waiting};
 ghost use Rattle.iscsi_session.specs.Runs.{ActsAs, output};
 
 use crate::act::Act;
-use crate::answers::{put, rejected};
+use crate::answers::rejected;
 use crate::session::Session;
-use bytes::BytesMut;
 use iscsi_exchange::{Piece, Told};
+use iscsi_outbox::Outbox;
 use iscsi_pdu::{Answer, Frame, Opcode, RejectReason, Stamp, TextResponse};
 use out_of_memory::Memory;
 
@@ -41,32 +41,26 @@ fn text_length(piece: &Option<Piece>) -> usize
 }
 
 /// Puts the answer to a Text Request behind what waits. There must be room for it.
-fn put_told(out: &mut BytesMut, stamp: Stamp, piece: &Option<Piece>, frame: &Frame)
+fn put_told(out: &mut Outbox, stamp: Stamp, piece: &Option<Piece>, frame: &Frame)
     requires short { IsShort piece.now }
     requires room { room_to_tell piece.now ≤ out.old.spare }
     ensures { out.new.items ≡ out.old.items ++ spelling (text_answer stamp piece.now frame.now) }
 {
     match piece {
-        Some(piece) => put(
-            out,
-            &Answer::TextResponse(TextResponse {
-                initiator_task_tag: frame.header.initiator_task_tag(),
-                stamp,
-                step: piece.step,
-                text: piece.text.as_slice(),
-            }),
-        ),
-        None => put(
-            out,
-            &rejected(RejectReason::InvalidField, stamp, frame.header),
-        ),
+        Some(piece) => out.put(&Answer::TextResponse(TextResponse {
+            initiator_task_tag: frame.header.initiator_task_tag(),
+            stamp,
+            step: piece.step,
+            text: piece.text.as_slice(),
+        })),
+        None => out.put(&rejected(RejectReason::InvalidField, stamp, frame.header)),
     }
 }
 
 impl Session {
     /// The first request that is due, a Text, is answered at the end of the buffer, and its exchange goes on
     /// or is over. Where an allocation fails nothing changes.
-    pub(crate) fn answer_text(&mut self, out: &mut BytesMut) -> Result<Act, Memory>
+    pub(crate) fn answer_text(&mut self, out: &mut Outbox) -> Result<Act, Memory>
         ensures taken { IfOk result (λ a. 0 < length self.old.tasks.due → a ≡ Act.Taken) }
         ensures acts { IfOk result (λ a. (luns : List ℕ) (past : Past) (k : ℕ) (others : List ℕ) → Stands past self.old → due past ≡ k ∷ others
             → is_text_in (frame_of past.came k) ≡ true
@@ -87,7 +81,7 @@ impl Session {
 
     /// The first request that is due, a Text, is finished and answered so. There must be room for its answer, so
     /// it takes no memory.
-    fn answer_told(&mut self, out: &mut BytesMut, told: Told) -> Act
+    fn answer_told(&mut self, out: &mut Outbox, told: Told) -> Act
         requires short { IsShort told.piece }
         requires room { room_to_tell told.piece ≤ out.old.spare }
         ensures taken { 0 < length self.old.tasks.due → result ≡ Act.Taken }

@@ -3,7 +3,7 @@
 ghost use Rattle.std.specs.Prelude.{◌≡◌, ◌++◌, ◌∷◌, List, [], None, IfOk, OnOk, OnErr};
 ghost use Rattle.iscsi_login.specs.Values.{AreInRange};
 ghost use Rattle.iscsi_transfer.specs.Payload.{begun};
-ghost use Rattle.iscsi_transfer.specs.Task.{command_fault, remembered as task_of};
+ghost use Rattle.iscsi_transfer.specs.Task.{command_fault, fault_of, with_data, remembered as task_of};
 ghost use Rattle.iscsi_session.specs.declared.transfers.Transfer.{Transfer};
 ghost use Rattle.iscsi_session.specs.declared.verdict.Verdict.TheVariants.{Feeding};
 ghost use Rattle.iscsi_session.specs.Draining.{judged_in, fed_in, is_live_in};
@@ -12,6 +12,7 @@ ghost use Rattle.iscsi_session.specs.State.{no_transfers, place_with, immediate_
 use crate::drained_transfers::DrainedTransfer;
 use crate::reach::Reach;
 use crate::verdict::Verdict;
+use data_parts::{Data, Parts};
 use iscsi_login::Values;
 use iscsi_pdu::{Frame, Header};
 use iscsi_transfer::{DataFault, Task};
@@ -105,17 +106,18 @@ impl Transfers {
         }
     }
 
-    /// The data of a Data-Out that is lawful is taken. It takes no memory.
-    pub(crate) fn feed(&mut self, frame: &Frame)
-        requires { judged_in self.old frame.now ≡ Feeding }
-        ensures { self.new ≡ fed_in self.old frame.now }
+    /// The data of a Data-Out that is lawful is taken, in the buffer in which it came. Where an allocation fails nothing
+    /// changes.
+    pub(crate) fn feed(&mut self, frame: Frame) -> Result<(), Memory>
+        requires { judged_in self.old frame ≡ Feeding }
+        ensures ok { OnOk result (self.new ≡ fed_in self.old frame) }
+        ensures err { OnErr result (self.new ≡ self.old) }
     {
         let Some(place) = self.place_of(frame.header.initiator_task_tag()) else {
-            self.feed_drained(frame);
-            return;
+            self.feed_drained(&frame);
+            return Ok(());
         };
-        // It is lawful, so this does not fail.
-        let _ = self.list[place].task.data_out(frame);
+        grow(&mut self.list[place].task, frame)
     }
 
     /// A SCSI Command that has just come is kept, with the data that it brings. Where an allocation fails nothing
@@ -154,22 +156,22 @@ impl Transfers {
     }
 
     /// The data of the command with this tag.
-    pub(crate) fn payload(&self, tag: u32) -> &[u8]
-        ensures { result.now ≡ payload_at self.now.list (place_with tag self.now.list) }
+    pub(crate) fn payload(&self, tag: u32) -> Data<'_>
+        ensures { result ≡ payload_at self.now.list (place_with tag self.now.list) }
     {
         match self.place_of(tag) {
             Some(place) => self.list[place].task.payload(),
-            None => &[],
+            None => Data::whole(&[]),
         }
     }
 
-    /// The command with this tag is finished.
-    pub(crate) fn finish(&mut self, tag: u32)
+    /// The command with this tag is finished. Its data comes back, with its buffers.
+    pub(crate) fn finish(&mut self, tag: u32) -> Option<Parts>
         ensures { self.new ≡ record self.old { list = removed_at self.old.list (place_with tag self.old.list) } }
     {
-        if let Some(place) = self.place_of(tag) {
-            self.list.remove(place);
-        }
+        let place = self.place_of(tag)?;
+        let transfer = self.list.remove(place);
+        Some(transfer.task.into_payload())
     }
 
     /// A Task Management Function Request reaches one.
@@ -200,8 +202,26 @@ fn start(alloc: Global, frame: &Frame, values: &Values) -> Result<Task, Memory>
     requires lawful { command_fault values.now frame.now ≡ None }
     ensures { IfOk result (λ task. task ≡ task_of (begun values.now frame.now)) }
 {
-    match Task::start(alloc, frame, values) {
+    let command = Frame {
+        header: frame.header,
+        body: frame.body.clone()?,
+    };
+    match Task::start(alloc, command, values) {
         Ok(task) => Ok(task),
+        Err(DataFault::Memory) => Err(Memory),
+        // It is lawful.
+        Err(_) => unreachable!(),
+    }
+}
+
+/// The data of a lawful Data-Out is taken. Where an allocation fails nothing changes.
+fn grow(task: &mut Task, frame: Frame) -> Result<(), Memory>
+    requires { fault_of task.old frame ≡ None }
+    ensures ok { OnOk result (task.new ≡ with_data task.old frame) }
+    ensures err { OnErr result (task.new ≡ task.old) }
+{
+    match task.data_out(frame) {
+        Ok(()) => Ok(()),
         Err(DataFault::Memory) => Err(Memory),
         // It is lawful.
         Err(_) => unreachable!(),

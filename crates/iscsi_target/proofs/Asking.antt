@@ -1,6 +1,6 @@
 -- A Login request at one connection of the code, before its answer is sent.
-use Rattle.std.specs.Result.{OnErr, OnOk}
-use Rattle.std.proofs.Common.{◌≡◌, ℕ, arith, ◌<◌, List, Result, Ok, Err, is_err, false, length, set, get_or, true, Option, Some, None, refl, sym, ap, ◌∙◌}
+use Rattle.std.specs.Result.{OnErr}
+use Rattle.std.proofs.Common.{◌≡◌, ℕ, arith, ◌<◌, List, Result, Ok, Err, length, set, get_or, true, Option, Some, None, refl, sym, ap, ◌∙◌}
 use Rattle.std.proofs.lemmas.List.{length-map, get_or-map, get_or-set_same, map-set, set-set, set-get_or}
 use Rattle.iscsi_pdu.specs.Frames.{Frame}
 use Rattle.iscsi_pdu.specs.declared.answer.Answer.{Answer}
@@ -142,7 +142,3 @@ begun_by_request machine c login request session response e = rw e refl
 pub on_err : {X E P : Type 0} (r : Result X E) → P → OnErr r P
 on_err (Ok x) p = tt
 on_err (Err e) p = p
-
-pub ok_known : {T E P : Type 0} (r : Result T E) → is_err r ≡ false → OnOk r P → P
-ok_known (Ok x) e known = known
-ok_known (Err fault) e known = absurd cc

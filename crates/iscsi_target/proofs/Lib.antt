@@ -37,6 +37,7 @@ mod Asking
 mod Frames
 mod SessionCalls
 mod Skipping
+mod Sent
 mod NumberSet
 mod Marked
 mod Heavier

@@ -1,6 +1,6 @@
 //! One connection: its bytes, its phase and what waits to be sent.
 
-ghost use Rattle.std.specs.Prelude.{◌≡◌, ◌<◌, ◌≤◌, ◌++◌, ◌∷◌, None, true, false, length, IfOk, IfSome, IfNone, OnOk, OnErr};
+ghost use Rattle.std.specs.Prelude.{◌≡◌, ◌<◌, ◌≤◌, ◌++◌, ◌∷◌, None, true, false, length, take, nat_lt, IfOk, IfSome, IfNone, OnOk, OnErr};
 ghost use Rattle.std.specs.Result.{IsErrOf};
 ghost use Rattle.iscsi_pdu.specs.Frames.{frames, rest, has_frame, is_long, wanted};
 ghost use Rattle.iscsi_pdu.specs.Answer.{spelling};
@@ -9,29 +9,34 @@ ghost use Rattle.iscsi_login.specs.Values.{AreInRange};
 ghost use Rattle.iscsi_login.specs.Lookup.{lookup_in};
 ghost use Rattle.iscsi_login.specs.LoginState.{LoginState, IsTargetBelow};
 ghost use Rattle.iscsi_login.specs.Login.{advanced, reply_of};
-ghost use Rattle.iscsi_target.specs.Machine.{LinkState, is_reading, is_logging_in, session_in_phase, free_link, opened_link, shut_link, begun_link, IsAnswered, IsWithin, sent_link, is_settled, is_silent};
+ghost use Rattle.iscsi_target.specs.Machine.{LinkState, is_reading, is_logging_in, session_in_phase, free_link, opened_link, shut_link, begun_link, IsAnswered, IsWithin, sent_link, is_settled, is_silent, most_waiting};
 ghost use Rattle.iscsi_target.specs.declared.phase.Phase.TheVariants.{Login as UnderWay};
 
 use crate::phase::Phase;
 use bytes::BytesMut;
+use data_parts::SpareBuffers;
 use iscsi_login::{Directory, Login, Params, Reply};
+use iscsi_outbox::Outbox;
 use iscsi_pdu::{Answer, Frame, Framer, LoginResponse, PduFault};
 use iscsi_session::Session;
 use media_store::Store;
 use out_of_memory::Memory;
 use scsi_unit::Units;
-use std::alloc::Global;
+use std::alloc::{AllocError, Global};
 use std::marker::Model;
 
 /// So many bytes of room a connection keeps for its answers while nothing waits on it.
 const MOST_ROOM_KEPT: usize = 65_536;
+
+/// A connection with more bytes than this waiting is not read.
+const MOST_WAITING: usize = 1_048_576;
 
 /// A connection.
 #[derive(Drop)]
 pub(crate) struct Connection {
     framer: Framer,
     pub phase: Phase,
-    pub waiting: BytesMut,
+    pub waiting: Outbox,
 }
 
 impl Model for Connection {
@@ -51,7 +56,7 @@ impl Connection {
         Connection {
             framer: Framer::new(alloc),
             phase: Phase::Free,
-            waiting: BytesMut::new(alloc),
+            waiting: Outbox::new(alloc),
         }
     }
 
@@ -63,7 +68,7 @@ impl Connection {
         Connection {
             framer: Framer::new(alloc),
             phase: Phase::Login(Login::new(alloc, c)),
-            waiting: BytesMut::new(alloc),
+            waiting: Outbox::new(alloc),
         }
     }
 
@@ -75,13 +80,13 @@ impl Connection {
     }
 
     /// Keeps a further piece of the bytes.
-    pub(crate) fn keep(&mut self, piece: &[u8]) -> Result<(), Memory>
+    pub(crate) fn keep(&mut self, piece: &[u8], spares: &mut SpareBuffers) -> Result<(), Memory>
         requires { is_reading self.old.phase ≡ true }
         ensures ok { OnOk result (self.new ≡ record self.old { half = self.old.half ++ piece.now }) }
         ensures err { OnErr result (self.new ≡ self.old) }
     {
         // The framer has no other fault here.
-        if self.framer.feed(piece).is_err() {
+        if self.framer.feed_with(piece, spares).is_err() {
             return Err(Memory);
         }
         Ok(())
@@ -109,9 +114,8 @@ impl Connection {
         ensures ok { OnOk result (self.new ≡ record self.old { waiting = self.old.waiting ++ spelling answer.now }) }
         ensures err { OnErr result (self.new ≡ self.old) }
     {
-        if answer.write(&mut self.waiting).is_err() {
-            return Err(Memory);
-        }
+        self.waiting.reserve(answer.length())?;
+        self.waiting.put(answer);
         Ok(())
     }
 
@@ -168,10 +172,7 @@ impl Connection {
     {
         self.waiting.reserve(answer.length())?;
         units.join(&session.nexus)?;
-        // There is room for the answer, so this does not fail.
-        if answer.write(&mut self.waiting).is_err() {
-            return Err(Memory);
-        }
+        self.waiting.put(answer);
         self.phase = Phase::FullFeature(Session::new(alloc, session));
         Ok(())
     }
@@ -193,33 +194,45 @@ impl Connection {
         Ok(())
     }
 
-    /// All that waits to be sent.
+    /// The next bytes to be sent, as many as stand together.
+    #[tactic(auto, using(crate::proofs::Sent::front_within))]
     pub(crate) fn out(&self) -> &[u8]
-        ensures { result.now ≡ self.now.waiting }
+        ensures front { result.now ≡ take (length result.now) self.now.waiting }
+        ensures some { 0 < length self.now.waiting → 0 < length result.now }
+        ensures within { length result.now ≤ length self.now.waiting }
     {
-        self.waiting.as_slice()
+        self.waiting.front()
     }
 
-    /// So many bytes were sent from the front.
-    pub(crate) fn sent(&mut self, n: usize)
-        requires { n ≤ length self.old.waiting }
-        ensures { self.new ≡ sent_link self.old n }
+    /// Appends all that waits to be sent.
+    pub(crate) fn copy_to(&self, bytes: &mut Vec<u8>) -> Result<(), AllocError>
+        ensures { OnOk result (bytes.new.items ≡ bytes.old.items ++ self.now.waiting) }
     {
-        self.waiting.advance(n);
+        self.waiting.copy_to(bytes)
+    }
+
+    /// Of so many bytes that were sent, those that stood together are taken from the front. Says how many these are, and
+    /// gives the buffer of a command's data that was sent to its end.
+    pub(crate) fn skip_front(&mut self, n: usize) -> (usize, Option<BytesMut>)
+        ensures within { result.0 ≤ n }
+        ensures some { 0 < n → n ≤ length self.old.waiting → 0 < result.0 }
+        ensures sent { self.new ≡ sent_link self.old result.0 }
+    {
+        self.waiting.skip_front(n)
     }
 
     /// Where nothing waits, the room of large answers goes back to the system.
     pub(crate) fn rest(&mut self, alloc: Global)
         ensures { self.new ≡ self.old }
     {
-        if !self.waiting.is_empty() {
-            return;
-        }
-        // What was sent counts as room from here on.
-        self.waiting.clear();
-        if self.waiting.capacity() > MOST_ROOM_KEPT {
-            self.waiting = BytesMut::new(alloc);
-        }
+        self.waiting.rest(alloc, MOST_ROOM_KEPT);
+    }
+
+    /// So many bytes wait that nothing is to be read: more than 1,048,576.
+    pub(crate) fn is_full(&self) -> bool
+        ensures { result ≡ nat_lt most_waiting (length self.now.waiting) }
+    {
+        self.waiting.is_longer_than(MOST_WAITING)
     }
 
     /// No command of the session can be done, or there is none.

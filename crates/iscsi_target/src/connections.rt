@@ -125,6 +125,17 @@ impl Connections {
         !self.busy.contains(c) || self.items[c].is_silent()
     }
 
+    /// On all connections from this one on, up to the one that is found, nothing waits to be sent, and none of them is
+    /// closing.
+    #[inline]
+    pub(crate) fn next_busy(&self, from: usize) -> Option<usize>
+        ensures found { IfSome result (λ c. (from ≤ c) × (c < 64)) }
+        ensures before { IfSome result (λ c. (d : ℕ) → from ≤ d → d < c → is_silent (slice_index_or self.now d free_link) ≡ true) }
+        ensures none { IfNone result ((d : ℕ) → from ≤ d → d < 64 → is_silent (slice_index_or self.now d free_link) ≡ true) }
+    {
+        self.busy.next_from(from)
+    }
+
     /// It is remembered where nothing waits to be sent on the connection, and it is not closing.
     pub(crate) fn note(&mut self, c: usize)
         requires { c < 64 }

@@ -4,6 +4,7 @@ ghost use Rattle.std.specs.Prelude.{◌≡◌, ◌<◌, ◌++◌, [], true, fals
 ghost use Rattle.std.specs.Result.{IsErrOf};
 ghost use Rattle.iscsi_pdu.specs.Frames.{has_frame, is_long};
 ghost use Rattle.iscsi_pdu.specs.Header.{header_length};
+ghost use Rattle.iscsi_login.specs.LoginState.{IsTargetBelow};
 ghost use Rattle.iscsi_target.specs.Bounded.{AddsAtMost};
 ghost use Rattle.iscsi_target.specs.History.{arrivals};
 ghost use Rattle.iscsi_target.specs.Machine.{KeepsPart, GivesFrame, link_at, with_link, is_logging_in, is_reading};
@@ -13,6 +14,7 @@ use crate::fault::Starved;
 use crate::phase::Phase;
 use crate::serve::earlier_of;
 use crate::target::Target;
+use data_parts::SpareBuffers;
 use iscsi_pdu::{Frame, Opcode, PduFault};
 use media_store::Store;
 use out_of_memory::Memory;
@@ -25,8 +27,49 @@ impl<S: Store> Target<S> {
         ensures ok { OnOk result (self.new ≡ with_link self.old c (record (link_at self.old c) { half = (link_at self.old c).half ++ piece.now })) }
         ensures err { OnErr result (self.new ≡ self.old) }
     {
+        let target = self.home(c);
+        let mut spares = self.lend_buffers(target);
+        let kept = self.keep_with(c, piece, &mut spares);
+        self.return_buffers(target, spares);
+        kept
+    }
+
+    /// Keeps a further piece of a connection's bytes, with spare buffers.
+    fn keep_with(&mut self, c: usize, piece: &[u8], spares: &mut SpareBuffers) -> Result<(), Memory>
+        requires in_range { c < 64 }
+        requires reads { is_reading (link_at self.old c).phase ≡ true }
+        ensures ok { OnOk result (self.new ≡ with_link self.old c (record (link_at self.old c) { half = (link_at self.old c).half ++ piece.now })) }
+        ensures err { OnErr result (self.new ≡ self.old) }
+        ensures count { length self.old.links ≡ 64 }
+    {
         let connection = self.connections.at_mut(c);
-        connection.keep(piece)
+        connection.keep(piece, spares)
+    }
+
+    /// The spare buffers of a target's units. There are none without a target.
+    #[tactic(auto, using(crate::proofs::Sent::same_units))]
+    fn lend_buffers(&mut self, target: Option<usize>) -> SpareBuffers
+        requires { IsTargetBelow (length self.old.units) target }
+        ensures { self.new ≡ self.old }
+    {
+        let Some(target) = target else {
+            return SpareBuffers::new(self.alloc);
+        };
+        let units = &mut self.units[target];
+        units.lend_buffers()
+    }
+
+    /// They come back.
+    #[tactic(auto, using(crate::proofs::Sent::same_units))]
+    fn return_buffers(&mut self, target: Option<usize>, spares: SpareBuffers)
+        requires { IsTargetBelow (length self.old.units) target }
+        ensures { self.new ≡ self.old }
+    {
+        let Some(target) = target else {
+            return;
+        };
+        let units = &mut self.units[target];
+        units.return_buffers(spares);
     }
 
     /// The first whole frame of a connection, taken from the front of its bytes.

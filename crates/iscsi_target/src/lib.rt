@@ -36,6 +36,7 @@ mod number_set;
 mod orders;
 mod phase;
 mod run;
+mod sending;
 mod serve;
 mod session_calls;
 mod sessions;

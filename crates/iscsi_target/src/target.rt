@@ -7,7 +7,7 @@ ghost use Rattle.iscsi_pdu.specs.Header.{header_length};
 ghost use Rattle.iscsi_target.specs.Bounded.{AddsAtMost, Bounded};
 ghost use Rattle.iscsi_target.specs.History.{Open, Bytes, Gone, Mark, History, arrivals, plain, marked};
 ghost use Rattle.iscsi_target.specs.World.{Setting, present, world};
-ghost use Rattle.iscsi_target.specs.Machine.{LinkState, IsSound, ReflectsSoundness, WhereSound, IsSure, Feeds, KeepsPart, free_link, opened_link, sent_link, new_machine, link_at, with_link, closed, joined_session, shut_older, begun, logged_in, is_logging_in, GivesFrame, is_reading, is_silent, is_settled, is_with, target_in, is_open_at, is_closing, want_of};
+ghost use Rattle.iscsi_target.specs.Machine.{LinkState, IsSound, ReflectsSoundness, WhereSound, IsSure, Feeds, KeepsPart, free_link, opened_link, new_machine, link_at, with_link, closed, joined_session, shut_older, begun, logged_in, is_logging_in, GivesFrame, is_reading, is_settled, is_with, target_in, is_open_at, is_closing, want_of};
 ghost use Rattle.iscsi_target.specs.declared.phase.Phase.TheVariants.{Login};
 ghost use Rattle.iscsi_login.specs.LoginState.{LoginState, IsTargetBelow};
 ghost use Rattle.iscsi_target.specs.Known.{known_in};
@@ -20,16 +20,12 @@ use crate::connection::Connection;
 use crate::connections::Connections;
 use crate::fault::Starved;
 use crate::phase::Phase;
-use connection_numbers::CONNECTIONS;
 use iscsi_login::{Directory, is_same_target};
 use media_store::Store;
 use out_of_memory::Memory;
 use scsi_unit::Units;
 use std::alloc::Global;
 use std::marker::Model;
-
-/// A connection with more bytes than this waiting is not read.
-const MOST_WAITING: usize = 1_048_576;
 
 /// An iSCSI target, as RFC 7143 defines it: connections bring bytes, and answers wait on them.
 ///
@@ -45,7 +41,7 @@ pub struct Target<S: Store> {
     pub(crate) units: Vec<Units<S>>,
     pub(crate) connections: Connections,
     /// The connection that is looked at next for room that it does not need.
-    resting: usize,
+    pub(crate) resting: usize,
 }
 
 impl<S: Store> Model for Target<S> {
@@ -166,81 +162,6 @@ impl<S: Store> Target<S> {
         self.connections.put(c, Connection::free(self.alloc));
     }
 
-    /// All that waits to be sent on a connection.
-    pub fn out(&self, c: usize) -> &[u8]
-        requires in_range { c < 64 }
-        requires open { is_open_at self.now c ≡ true }
-        ensures { result.now ≡ (link_at self.now c).waiting }
-    {
-        self.connections.at(c).out()
-    }
-
-    /// Appends all that waits on a connection: nothing where it is not open.
-    pub(crate) fn copy_out(&self, c: usize, bytes: &mut Vec<u8>) -> Result<(), Memory>
-        ensures { OnOk result (bytes.new.items ≡ bytes.old.items ++ (link_at self.now c).waiting) }
-    {
-        if let Some(connection) = self.connections.as_slice().get(c) {
-            bytes.extend_from_slice(connection.out())?;
-        }
-        Ok(())
-    }
-
-    /// So many bytes were sent from the front of what waits on a connection.
-    pub fn sent(&mut self, c: usize, n: usize)
-        requires in_range { c < 64 }
-        requires open { is_open_at self.old c ≡ true }
-        requires waits { n ≤ length (link_at self.old c).waiting }
-        ensures now { self.new ≡ with_link self.old c (sent_link (link_at self.old c) n) }
-        ensures sound { IsSound self.new → IsSound self.old }
-        ensures each { ReflectsSoundness self.old self.new }
-        ensures sure { IsSure self.old → IsSure self.new }
-        ensures stands { (s : Setting) (sent : ℕ → ℕ) (h : History) → WhereSound self.old (Stands s sent self.old h)
-            → WhereSound self.new (Stands s (with_sent sent c (sent c + n)) self.new h) }
-        ensures always { (s : Setting) (sent : ℕ → ℕ) (h : History) → Stands s sent self.old h → Stands s (with_sent sent c (sent c + n)) self.new h }
-        ensures bounded { Bounded self.old → Bounded self.new }
-    {
-        self.advance(c, n);
-        self.note(c);
-        self.rest();
-    }
-
-    /// So many bytes are taken from the front of what waits on a connection.
-    fn advance(&mut self, c: usize, n: usize)
-        requires in_range { c < 64 }
-        requires waits { n ≤ length (link_at self.old c).waiting }
-        ensures sent { self.new ≡ with_link self.old c (sent_link (link_at self.old c) n) }
-        ensures count { length self.old.links ≡ 64 }
-    {
-        let connection = self.connections.at_mut(c);
-        connection.sent(n);
-    }
-
-    /// What is found of the connection is remembered.
-    fn note(&mut self, c: usize)
-        requires { c < 64 }
-        ensures { self.new ≡ self.old }
-    {
-        self.connections.note(c);
-    }
-
-    /// One connection after the other gives back room that it does not need, so that one that is idle does not keep what
-    /// its largest answer took.
-    fn rest(&mut self)
-        ensures { self.new ≡ self.old }
-    {
-        let c = self.resting % CONNECTIONS;
-        self.resting = c + 1;
-        self.connections.rest(self.alloc, c);
-    }
-
-    /// Nothing waits to be sent on the connection, and it is not closing.
-    pub fn is_silent(&self, c: usize) -> bool
-        requires { c < 64 }
-        ensures { result ≡ is_silent (link_at self.now c) }
-    {
-        self.connections.is_silent(c)
-    }
-
     /// What waits is still sent, and nothing more is read.
     pub fn closing(&self, c: usize) -> bool
         requires in_range { c < 64 }
@@ -266,7 +187,7 @@ impl<S: Store> Target<S> {
         ensures { result ≡ want_of (link_at self.now c) }
     {
         let connection = self.connections.at(c);
-        if connection.phase.is_closing() || connection.out().len() > MOST_WAITING {
+        if connection.phase.is_closing() || connection.is_full() {
             return 0;
         }
         connection.want()

@@ -1,9 +1,9 @@
 -- Only how long the payload is counts for the rules of a command's data.
-use Rattle.std.proofs.Common.{◌≡◌, ℕ, ◌+◌, List, ◌++◌, length, replicate, refl, sym, ap, ◌∙◌}
+use Rattle.std.proofs.Common.{◌≡◌, ℕ, ◌+◌, List, ◌++◌, length, replicate, refl, sym, ap, ◌∙◌, arith}
 use Rattle.std.proofs.lemmas.List.{length-append, length-replicate}
 use Rattle.iscsi_pdu.specs.Frames.{Frame}
-use Rattle.iscsi_transfer.specs.Counted.{most}
-use Rattle.iscsi_transfer.specs.Task.{TaskState, blank, filled, lacks_data, due_asks, is_asked, fault_of, with_data, with_asked}
+use Rattle.iscsi_transfer.specs.Counted.{brought, Takes}
+use Rattle.iscsi_transfer.specs.Task.{TaskState, blank, filled, grown, lacks_data, due_asks, is_asked, fault_of, with_data, with_asked}
 
 pub long_of : (zeros items : List ℕ) → zeros ≡ replicate (length items) 0 → length zeros ≡ length items
 long_of zeros items e = ap length e ∙ length-replicate (length items) 0
@@ -58,17 +58,24 @@ pub asked_payload : (task : TaskState) (tags : List ℕ) → (with_asked tags ta
 unfolding with_asked
 asked_payload task tags = refl
 
-pub asked_keeps : (task : TaskState) (tags : List ℕ)
-    → most (with_asked tags task).first_burst (with_asked tags task).expected ≡ most task.first_burst task.expected
-unfolding with_asked
-asked_keeps task tags = refl
-
-pub with_keeps : (task : TaskState) (out : Frame)
-    → most (blank (with_data task out)).first_burst (blank (with_data task out)).expected ≡ most task.first_burst task.expected
-unfolding with_data
-with_keeps task out = refl
-
 -- and how long it is
 pub with_zeros : (task : TaskState) (out : Frame) (n : ℕ) → length task.payload + length out.body ≡ n → (blank (with_data task out)).payload ≡ replicate n 0
 unfolding with_data
 with_zeros task out n e = ap (λ (k : ℕ). replicate k 0) (length-append task.payload out.body ∙ e)
+
+-- and of a Data-Out only how much it brings
+with_brought : (task : TaskState) (out : Frame) → blank (with_data task (brought out.header (length out.body))) ≡ blank (with_data task out)
+unfolding with_data
+with_brought task out = rw (length-append task.payload (replicate (length out.body) 0), length-append task.payload out.body, length-replicate {A = ℕ} (length out.body) 0) refl
+
+filled_brought : (task : TaskState) (out : Frame) → filled (grown task (brought out.header (length out.body))) ≡ filled (grown task out)
+filled_brought task out = rw (length-append task.payload (replicate (length out.body) 0), length-append task.payload out.body, length-replicate {A = ℕ} (length out.body) 0) refl
+
+pub brought_is : (task : TaskState) (out : Frame) (header : List ℕ) (size : ℕ) → header ≡ out.header → size ≡ length out.body
+    → blank (with_data task (brought header size)) ≡ blank (with_data task out)
+brought_is task out header size same long = rw (same, long) (with_brought task out)
+
+pub takes_brought : (task : TaskState) (out : Frame) → Takes task out → Takes task (brought out.header (length out.body))
+takes_brought task out t =
+    let same = filled_brought task out in
+    record { step = omega (arith, same, t.step); opened = omega (arith, same, t.opened) }

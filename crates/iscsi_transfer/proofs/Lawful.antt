@@ -6,7 +6,7 @@ use Rattle.iscsi_pdu.specs.Frames.{Frame}
 use Rattle.iscsi_pdu.specs.DataOut.{target_transfer_tag, data_sn, buffer_offset}
 use Rattle.iscsi_transfer.specs.Payload.{is_last}
 use Rattle.iscsi_transfer.specs.Task.{TaskState, bursts_in, filled, next_ask, most_wanted, sequence_tag, wanted, is_asked, lacks_data, has_sequence, sequence_end, ends_rightly, fault_of, grown}
-use Rattle.iscsi_transfer.specs.Counted.{most, Takes}
+use Rattle.iscsi_transfer.specs.Counted.{Takes}
 use Rattle.iscsi_transfer.specs.declared.fault.DataFault.{DataFault}
 use Rattle.iscsi_transfer.specs.declared.fault.DataFault.TheVariants as faults
 use Rattle.iscsi_transfer.proofs.Due.{lacks_shut}
@@ -121,30 +121,22 @@ takes task out some behind counted lawful = elim (cases_Bool task.is_open) [
       record { step = omega (arith, now, s.more.one); opened = omega (arith, now, s.more.one, s.asked, counted) }
 ]
 
--- ---- and there is room for it
+-- ---- and no more than the command takes
 
-room_shut : (start first expected p : ℕ) → start ≤ p → p < (if nat_le expected most_wanted then expected else start)
-    → (if nat_le expected most_wanted then expected else start) ≤ most first expected
-room_shut start first expected p behind less = by_test (nat_le expected most_wanted) less
-  where
-    by_test : (b : Bool) → p < (if b then expected else start) → (if b then expected else start) ≤ (if b then expected else min first expected)
-    by_test true less = omega arith
-    by_test false less = absurd (omega (arith, behind, less))
+within_wanted : (b : Bool) (start expected p n : ℕ) → start ≤ p → p < (if b then expected else start) → n ≤ (if b then expected else start) → n ≤ expected
+within_wanted true start expected p n behind less le = le
+within_wanted false start expected p n behind less le = absurd (omega (arith, behind, less))
 
-room_open : (first expected n : ℕ) → n ≤ min first expected → n ≤ most first expected
-room_open first expected n le = by_test (nat_le expected most_wanted)
-  where
-    by_test : (b : Bool) → n ≤ (if b then expected else min first expected)
-    by_test true = omega (arith, le)
-    by_test false = le
+within_limit : (first expected n : ℕ) → n ≤ min first expected → n ≤ expected
+within_limit first expected n le = omega (arith, le)
 
-pub room_for : (task : TaskState) (out : Frame) → 1 ≤ task.burst → task.unsolicited ≤ length task.payload → fault_of task out ≡ None
-    → length task.payload + length out.body ≤ most task.first_burst task.expected
-room_for task out some behind lawful = elim (cases_Bool task.is_open) [
-  | inl is_open ↦ room_open task.first_burst task.expected (length task.payload + length out.body)
+pub within_expected : (task : TaskState) (out : Frame) → 1 ≤ task.burst → task.unsolicited ≤ length task.payload → fault_of task out ≡ None
+    → length task.payload + length out.body ≤ task.expected
+within_expected task out some behind lawful = elim (cases_Bool task.is_open) [
+  | inl is_open ↦ within_limit task.first_burst task.expected (length task.payload + length out.body)
       (subst (λ (m : ℕ). length task.payload + length out.body ≤ m) (cond-true task.is_open _ _ is_open) (fits task out lawful).within)
   | inr shut ↦
       let s = solicited task out some behind shut (fits task out lawful) in
-      let le = room_shut task.unsolicited task.first_burst task.expected (length task.payload) behind s.lacks in
-      omega (arith, s.more.within, le)
+      within_wanted (nat_le task.expected most_wanted) task.unsolicited task.expected (length task.payload) (length task.payload + length out.body)
+      behind s.lacks s.more.within
 ]

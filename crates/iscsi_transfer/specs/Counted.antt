@@ -1,12 +1,12 @@
--- How far the data of a command can come.
-use Rattle.std.specs.Prelude.{ℕ, ◌+◌, ◌≤◌, length, nat_le, if◌then◌else◌}
+-- How far the data of a command comes.
+use Rattle.std.specs.Prelude.{ℕ, ◌+◌, ◌≤◌, List, length, replicate}
 use Rattle.iscsi_pdu.specs.Frames.{Frame}
-use Rattle.iscsi_transfer.specs.Task.{TaskState, most_wanted, unsolicited_limit, filled, grown}
+use Rattle.iscsi_transfer.specs.Task.{TaskState, filled, grown}
 use Rattle.iscsi_transfer.specs.declared.progress.Progress.TheInside.{Inside}
 
--- the longest that the payload can come to be
-abbrev pub most : ℕ → ℕ → ℕ
-most first_burst expected = if nat_le expected most_wanted then expected else unsolicited_limit first_burst expected
+-- a Data-Out with this header that brings so many bytes: zeros stand in their place
+abbrev pub brought : List ℕ → ℕ → Frame
+brought header size = record { header = header; body = replicate size 0 }
 
 -- what holds of all progress: its numbers have four bytes
 pub record IsCounted (progress : Inside) : Type 0 where

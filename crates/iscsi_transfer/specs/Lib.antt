@@ -4,7 +4,6 @@ pub mod DataIn
 pub mod Payload
 pub mod Task
 pub mod Counted
-pub mod Room
 pub mod Laws
 pub mod TaskLaws
 pub mod Examples

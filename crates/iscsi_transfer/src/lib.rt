@@ -30,7 +30,8 @@
 //!   ([`laws::each_byte_is_asked_for_once`]), with no more than MaxOutstandingR2T open at a time
 //!   ([`laws::few_are_open`]; where that is one, [`laws::one_is_open_at_a_time`]), and where a sequence ends,
 //!   an R2T is due or open exactly where the payload is not whole ([`laws::whole_or_asked_for`]).
-//! - Only [`Task::start`] takes memory, and for a command that takes no data it takes none.
+//! - The data stays in the buffers in which it came ([`data_parts::Parts`]). Only [`Task::start`] and
+//!   [`Task::data_out`] take memory; for a command that takes no data the first takes none.
 #![tactic(auto)]
 
 mod data_in;

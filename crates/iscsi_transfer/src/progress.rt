@@ -3,12 +3,12 @@
 ghost use Rattle.std.specs.Prelude.{◌≡◌, ◌+◌, ◌*◌, ◌^◌, ◌<◌, ◌≤◌, [], ◌∷◌, length, replicate, true, IfNone, IfErr, OnOk, OnErr, Some, None};
 ghost use Rattle.iscsi_transfer.specs.Payload.{announces, expected as expected_in};
 ghost use Rattle.iscsi_transfer.specs.Task.{TaskState, blank, fault_of as fault_in, filled, grown, with_data, with_asked, allowed, due_asks, first, is_due, is_asked, is_whole as is_whole_in, wanted as wanted_in, next_ask, sequence_tag, sequence_end, lacks_data};
-ghost use Rattle.iscsi_transfer.specs.Counted.{most, Takes};
+ghost use Rattle.iscsi_transfer.specs.Counted.{brought, Takes};
 
 use crate::fault::DataFault;
 use arrayvec::ArrayVec;
 use iscsi_login::Values;
-use iscsi_pdu::Frame;
+use iscsi_pdu::{Frame, Header};
 use std::marker::Model;
 
 /// So many bytes are asked for at most.
@@ -258,12 +258,12 @@ impl Progress {
         self.first_fault(out)
     }
 
-    /// The same; for a Data-Out with which nothing is wrong there is room.
+    /// The same; one with which nothing is wrong brings no more than the command takes.
     pub(crate) fn judged(&self, out: &Frame) -> Option<DataFault>
         ensures fault { result ≡ fault_in self.now out.now }
         ensures counted { IfNone result (self.now.sequence_length ≤ 4294967295) }
-        ensures room { IfNone result (length self.now.payload + length out.now.body ≤ most self.now.first_burst self.now.expected) }
-        ensures takes { IfNone result (Takes self.now out.now) }
+        ensures short { IfNone result (length self.now.payload + length out.now.body ≤ self.now.expected) }
+        ensures takes { IfNone result (Takes self.now (brought out.now.header (length out.now.body))) }
     {
         let fault = self.first_fault(out);
         // A burst has some bytes, so that the end of a sequence fills one R2T alone.
@@ -305,18 +305,18 @@ impl Progress {
         if let Some(fault) = self.judged(out) {
             return Err(fault);
         }
-        self.take(out);
+        self.take(&out.header, out.body.len());
         Ok(())
     }
 
-    /// The data of a Data-Out is there. No R2T was sent.
-    fn grow(&mut self, out: &Frame)
+    /// The data of a Data-Out is there: so many bytes. No R2T was sent.
+    fn grow(&mut self, header: &Header, size: usize)
         requires counted { self.old.sequence_length ≤ 4294967295 }
-        requires room { length self.old.payload + length out.now.body ≤ most self.old.first_burst self.old.expected }
-        ensures grown { record self.new { sent = self.old.sent } ≡ blank (grown self.old out.now) }
+        requires short { length self.old.payload + size ≤ self.old.expected }
+        ensures grown { record self.new { sent = self.old.sent } ≡ blank (grown self.old (brought header.now size)) }
     {
-        let is_final = out.header.is_final();
-        self.length += out.body.len();
+        let is_final = header.is_final();
+        self.length += size;
         if self.is_open {
             self.unsolicited = self.length;
             self.is_open = !is_final;
@@ -328,15 +328,15 @@ impl Progress {
         };
     }
 
-    /// A Data-Out is accepted.
-    pub(crate) fn take(&mut self, out: &Frame)
+    /// A Data-Out is accepted, with so many bytes.
+    pub(crate) fn take(&mut self, header: &Header, size: usize)
         requires counted { self.old.sequence_length ≤ 4294967295 }
-        requires room { length self.old.payload + length out.now.body ≤ most self.old.first_burst self.old.expected }
-        requires takes { Takes self.old out.now }
-        ensures { self.new ≡ blank (with_data self.old out.now) }
+        requires short { length self.old.payload + size ≤ self.old.expected }
+        requires takes { Takes self.old (brought header.now size) }
+        ensures { self.new ≡ blank (with_data self.old (brought header.now size)) }
     {
         let filled = self.filled();
-        self.grow(out);
+        self.grow(header, size);
         if filled < self.filled() {
             self.open_tags.remove(0);
         }

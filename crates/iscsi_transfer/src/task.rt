@@ -3,36 +3,34 @@
 ghost use Rattle.std.specs.Prelude.{◌≡◌, ◌+◌, ◌*◌, ◌^◌, ◌<◌, ◌≤◌, [], ◌∷◌, ◌⊎◌, length, true, IfOk, IfErr, OnOk, OnErr, IfNone, Some, None};
 ghost use Rattle.iscsi_transfer.specs.Payload.{Past, begun, accepted, asked as asked_in, announces, expected as expected_in};
 ghost use Rattle.iscsi_transfer.specs.Task.{blank, remembered, command_fault as command_fault_in, fault_of as fault_in, with_data, with_asked, due_asks, first, is_due, is_asked, is_whole as is_whole_in, wanted as wanted_in, next_ask, sequence_tag, sequence_end, ends_rightly, lacks_data};
-ghost use Rattle.iscsi_transfer.specs.Counted.{most};
 ghost use Rattle.iscsi_transfer.specs.declared.fault.DataFault.TheVariants.{Memory};
 
 use crate::fault::DataFault;
-use crate::progress::{Ask, MOST_WANTED, Progress, announces, expected};
-use bytes::BytesMut;
+use crate::progress::{Ask, Progress, announces, expected};
+use data_parts::{Data, Parts};
 use iscsi_login::Values;
 use iscsi_pdu::Frame;
-use std::alloc::Global;
+use std::alloc::{AllocError, Global};
 use std::marker::Model;
 
 /// The data of one SCSI Command as it comes from the initiator (RFC 7143 §4.2.4.2): with the command, in
 /// Data-Outs that come unasked, and in those that R2Ts ask for. Clauses see what it remembers of its past.
 #[derive(Drop)]
 pub struct Task {
-    /// What has come. There is room for all.
-    payload: BytesMut,
+    /// What has come.
+    payload: Parts,
     progress: Progress,
 }
 
 impl Model for Task {
+    ghost use Rattle.std.specs.Prelude.{◌≡◌, length, replicate};
     ghost use Rattle.iscsi_transfer.specs.Task.{TaskState};
 
     ghost Value = { TaskState };
 
-    ghost use Rattle.iscsi_transfer.specs.Room.{HasRoom};
+    ghost view = { λ t. record t.progress { payload = t.payload } };
 
-    ghost view = { λ t. record t.progress { payload = t.payload.items } };
-
-    ghost invariant = { HasRoom };
+    ghost invariant = { λ t. t.progress.payload ≡ replicate (length t.payload) 0 };
 }
 
 /// What is wrong with the immediate data of a SCSI Command, or with the Data-Outs that it announces: the
@@ -52,36 +50,35 @@ pub fn command_fault(command: &Frame, values: &Values) -> Option<DataFault>
     }
 }
 
-/// How long the payload can come to be at most.
-fn most(first_burst: usize, expected: usize) -> usize
-    ensures { result ≡ most first_burst expected }
+/// The data that came with a command. Where none did it takes no memory.
+fn immediate(alloc: Global, body: Vec<u8>) -> Result<Parts, AllocError>
+    ensures ok { IfOk result (λ parts. parts ≡ body.items) }
+    ensures err { OnErr result (1 ≤ length body.items) }
 {
-    if expected <= MOST_WANTED {
-        expected
-    } else {
-        first_burst.min(expected)
+    let mut parts = Parts::new(alloc);
+    if body.is_empty() {
+        return Ok(parts);
     }
+    parts.push(body)?;
+    Ok(parts)
 }
 
 impl Task {
-    /// The task of a SCSI Command that has just come, with its immediate data. The room for all its data is
-    /// made here, so that no later call takes memory.
-    pub fn start(alloc: Global, command: &Frame, values: &Values) -> Result<Task, DataFault>
+    /// The task of a SCSI Command that has just come. The immediate data stays in the buffer in which it came, and
+    /// no room is made for what is to come.
+    pub fn start(alloc: Global, command: Frame, values: &Values) -> Result<Task, DataFault>
         requires burst { 1 ≤ values.now.max_burst_length }
         requires outstanding { values.now.max_outstanding_r2t ≤ 4 }
-        ensures stands { IfOk result (λ task. task ≡ remembered (begun values.now command.now)) }
-        ensures lawful { OnOk result (command_fault_in values.now command.now ≡ None) }
-        ensures fault { IfErr result (λ fault. (command_fault_in values.now command.now ≡ Some fault)
-            ⊎ ((command_fault_in values.now command.now ≡ None) × (fault ≡ Memory) × (1 ≤ expected_in command.now))) }
+        ensures stands { IfOk result (λ task. task ≡ remembered (begun values.now command)) }
+        ensures lawful { OnOk result (command_fault_in values.now command ≡ None) }
+        ensures fault { IfErr result (λ fault. (command_fault_in values.now command ≡ Some fault)
+            ⊎ ((command_fault_in values.now command ≡ None) × (fault ≡ Memory) × (1 ≤ expected_in command))) }
     {
-        if let Some(fault) = command_fault(command, values) {
+        if let Some(fault) = command_fault(&command, values) {
             return Err(fault);
         }
-        let first_burst = values.first_burst_length as usize;
-        let mut payload = BytesMut::new(alloc);
-        payload.reserve(most(first_burst, expected(command)))?;
-        payload.extend_reserved(&command.body);
-        let progress = Progress::begun(command, values);
+        let progress = Progress::begun(&command, values);
+        let payload = immediate(alloc, command.body)?;
         Ok(Task { payload, progress })
     }
 
@@ -125,20 +122,22 @@ impl Task {
         self.progress.fault_of(out)
     }
 
-    /// A Data-Out of this command comes. Its data belongs to the payload, or something is wrong with it
-    /// ([`Task::fault_of`]) and nothing changes. It takes no memory.
-    pub fn data_out(&mut self, out: &Frame) -> Result<(), DataFault>
-        ensures ok { OnOk result (self.new ≡ with_data self.old out.now) }
-        ensures stands { OnOk result ((past : Past) → self.old ≡ remembered past → self.new ≡ remembered (accepted out.now past)) }
-        ensures lawful { OnOk result (fault_in self.old out.now ≡ None) }
-        ensures fault { IfErr result (λ fault. fault_in self.old out.now ≡ Some fault) }
+    /// A Data-Out of this command comes. Its data belongs to the payload, in the buffer in which it came; or something
+    /// is wrong with it ([`Task::fault_of`]), or an allocation fails ([`DataFault::Memory`]), and nothing changes.
+    pub fn data_out(&mut self, out: Frame) -> Result<(), DataFault>
+        ensures ok { OnOk result (self.new ≡ with_data self.old out) }
+        ensures stands { OnOk result ((past : Past) → self.old ≡ remembered past → self.new ≡ remembered (accepted out past)) }
+        ensures lawful { OnOk result (fault_in self.old out ≡ None) }
+        ensures fault { IfErr result (λ fault. (fault_in self.old out ≡ Some fault) ⊎ ((fault_in self.old out ≡ None) × (fault ≡ Memory))) }
         ensures err { OnErr result (self.new ≡ self.old) }
     {
-        if let Some(fault) = self.progress.judged(out) {
+        if let Some(fault) = self.progress.judged(&out) {
             return Err(fault);
         }
-        self.payload.extend_reserved(&out.body);
-        self.progress.take(out);
+        let Frame { header, body } = out;
+        let size = body.len();
+        self.payload.push(body)?;
+        self.progress.take(&header, size);
         Ok(())
     }
 
@@ -149,7 +148,7 @@ impl Task {
         self.progress.is_whole()
     }
 
-    /// How far its data has come. The data is thrown away, and its room goes back to the system.
+    /// How far its data has come. The data is thrown away, and its buffers go back to the system.
     pub fn into_progress(self) -> Progress
         ensures { result ≡ blank self }
     {
@@ -157,15 +156,15 @@ impl Task {
     }
 
     /// What has come of the data.
-    pub fn payload(&self) -> &[u8]
-        ensures { result.now ≡ self.now.payload }
+    pub fn payload(&self) -> Data<'_>
+        ensures { result ≡ self.now.payload }
     {
-        self.payload.as_slice()
+        self.payload.data()
     }
 
-    /// The buffer with what has come of the data.
-    pub fn into_payload(self) -> BytesMut
-        ensures { result.items ≡ self.payload }
+    /// What has come of the data, with its buffers.
+    pub fn into_payload(self) -> Parts
+        ensures { result ≡ self.payload }
     {
         self.payload
     }

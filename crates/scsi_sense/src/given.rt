@@ -1,7 +1,7 @@
 //! The data that a command gives.
 
-ghost use Rattle.std.specs.Prelude.{◌≡◌, ◌<◌, ◌^◌, ◌==◌, [], length, drop, IsOk, IfOk};
-ghost use Rattle.scsi_sense.specs.Given.{headroom};
+ghost use Rattle.std.specs.Prelude.{◌≡◌, ◌<◌, ◌≤◌, ◌^◌, ◌==◌, [], length, drop, IsOk, IfOk};
+ghost use Rattle.scsi_sense.specs.Given.{headroom, tailroom};
 
 use bytes::BytesMut;
 use std::alloc::{AllocError, Global};
@@ -12,25 +12,27 @@ use std::marker::Model;
 /// data, which shows that it fits.
 pub const HEADROOM: usize = 48;
 
-/// How many bytes more a buffer should take behind the data, so that it is sent from there with the PDUs
-/// that end the command: the padding of the data, 3 at most (RFC 7143 §11.1), and a SCSI Response with
-/// sense data, 68 (§11.4). Where it takes fewer, the data is copied.
+/// How many bytes more a buffer takes behind the data, so that it is sent from there with the PDUs that end
+/// the command: the padding of the data, 3 at most (RFC 7143 §11.1), and a SCSI Response with sense data,
+/// 68 (§11.4).
 pub const TAILROOM: usize = 71;
 
-/// The data that a command gives, as it lies in a buffer: behind [`HEADROOM`] bytes, so that it is sent
-/// from where it was read. Clauses see the data.
+/// The data that a command gives, as it lies in a buffer: behind [`HEADROOM`] bytes, and before room for
+/// [`TAILROOM`] more, so that it is sent from where it was read. Clauses see the data.
 #[derive(Debug, Drop)]
 pub struct Given {
     buffer: BytesMut,
 }
 
 impl Model for Given {
-    ghost use Rattle.std.specs.Prelude.{List, ℕ, drop};
-    ghost use Rattle.scsi_sense.specs.Given.{headroom};
+    ghost use Rattle.std.specs.Prelude.{List, ℕ, ◌<◌, ◌≤◌, drop, length};
+    ghost use Rattle.scsi_sense.specs.Given.{headroom, tailroom};
 
     ghost Value = { List ℕ };
 
     ghost view = { λ given. drop headroom given.buffer.items };
+
+    ghost invariant = { λ given. 0 < length (drop headroom given.buffer.items) → tailroom ≤ given.buffer.spare };
 }
 
 impl Given {
@@ -43,8 +45,9 @@ impl Given {
         }
     }
 
-    /// What lies behind the room for a header in this buffer.
-    pub fn behind_room(buffer: BytesMut) -> Given
+    /// What lies behind the room for a header in this buffer, which has room for what is sent behind it.
+    pub fn in_place(buffer: BytesMut) -> Given
+        requires { tailroom ≤ buffer.spare }
         ensures { result ≡ drop headroom buffer.items }
     {
         Given { buffer }
@@ -59,7 +62,7 @@ impl Given {
             return Ok(Given::nothing(alloc));
         }
         let mut buffer = BytesMut::new(alloc);
-        buffer.reserve(HEADROOM + data.len())?;
+        buffer.reserve(HEADROOM + data.len() + TAILROOM)?;
         buffer.extend_reserved(&[0; HEADROOM]);
         buffer.extend_reserved(data);
         Ok(Given { buffer })
@@ -87,10 +90,11 @@ impl Given {
         &self.buffer.as_slice()[HEADROOM..]
     }
 
-    /// The buffer, in which the data lies behind [`HEADROOM`] bytes. Where there is no data it may be
-    /// shorter than that.
+    /// The buffer, in which the data lies behind [`HEADROOM`] bytes, with room for [`TAILROOM`] more behind
+    /// it. Where there is no data it may be shorter than that, and have no room.
     pub fn into_buffer(self) -> BytesMut
-        ensures { drop headroom result.items ≡ self }
+        ensures data { drop headroom result.items ≡ self }
+        ensures roomy { 0 < length self → tailroom ≤ result.spare }
     {
         self.buffer
     }

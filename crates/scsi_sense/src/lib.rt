@@ -14,7 +14,8 @@
 //! Promised: [`Sense::bytes`] is exactly that layout, and each number is that of SPC-4's tables. A
 //! [`Condition`] has its sense key, so no code stands under another.
 //! [`Attentions`] keeps the codes in the order in which they were raised, and none twice. The data that a
-//! command gives lies in its buffer behind room for a header ([`Given`]); clauses see the data alone.
+//! command gives lies in its buffer behind room for a header, and before room for what ends the command
+//! ([`Given`]); clauses see the data alone.
 #![tactic(auto)]
 
 mod attentions;

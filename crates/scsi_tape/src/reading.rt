@@ -1,12 +1,13 @@
 //! The commands that give data.
 
 ghost use Rattle.std.specs.Prelude.{◌≡◌, ◌≤◌, ℕ, List, [], length, drop, IfOk, OnErr};
-ghost use Rattle.scsi_sense.specs.Given.{headroom};
+ghost use Rattle.scsi_sense.specs.Given.{headroom, tailroom};
 ghost use Rattle.scsi_sense.specs.Done.{good_with};
 ghost use Rattle.scsi_cdb.specs.Record.{most_record};
 ghost use Rattle.scsi_cdb.specs.declared.tape.TapeCommand.TheVariants.{ReadBlockLimits, Read, ReadFixed, ReadPosition};
 ghost use Rattle.scsi_tape.specs.Commands.{position_data, is_told, given_with, record_outcome, read_outcome, fixed_outcome};
 ghost use Rattle.scsi_tape.specs.CameOut.{IsTapeDone};
+ghost use Rattle.media_tape.specs.declared.outcome.Passed.TheVariants.{Record};
 
 use crate::sense::{self, end_of_data, filemark, read_failed};
 use crate::tape_unit::TapeUnit;
@@ -51,7 +52,7 @@ fn good_with_front(alloc: Global, buffer: &mut BytesMut, bytes: &[u8]) -> Result
     buffer.extend_reserved(&[0; HEADROOM]);
     buffer.extend_reserved(bytes);
     let filled = mem::replace(buffer, BytesMut::new(alloc));
-    Ok(Done::good_with(Given::behind_room(filled)))
+    Ok(Done::good_with(Given::in_place(filled)))
 }
 
 /// Whether it is told that a record has another length than was asked for.
@@ -79,7 +80,8 @@ fn given_with(sense: Sense, given: Given) -> Done
     }
 }
 
-/// What is told of a record of this length, of which the buffer has what was asked for behind room for a header.
+/// What is told of a record of this length, of which the buffer has what was asked for behind room for a header, and
+/// before room for what is sent behind it.
 fn record_read(
     alloc: Global,
     buffer: &mut BytesMut,
@@ -87,11 +89,12 @@ fn record_read(
     incorrect_length: IncorrectLength,
     actual: u32,
 ) -> Done
-    requires { length (drop headroom buffer.old.items) ≤ most_record }
+    requires few { length (drop headroom buffer.old.items) ≤ most_record }
+    requires room { tailroom ≤ buffer.old.spare }
     ensures told { result ≡ record_outcome asked incorrect_length actual (drop headroom buffer.old.items) }
     ensures given { length result.given ≤ most_record }
 {
-    let given = Given::behind_room(mem::replace(buffer, BytesMut::new(alloc)));
+    let given = Given::in_place(mem::replace(buffer, BytesMut::new(alloc)));
     if is_told(incorrect_length, asked, actual) {
         given_with(sense::incorrect_length(asked.wrapping_sub(actual)), given)
     } else {
@@ -109,6 +112,7 @@ fn told(
 ) -> Done
     requires asked { length (drop headroom buffer.old.items) ≤ asked }
     requires few { length (drop headroom buffer.old.items) ≤ most_record }
+    requires room { (actual : ℕ) → passed ≡ Record actual → tailroom ≤ buffer.old.spare }
     ensures told { result ≡ read_outcome asked incorrect_length passed (drop headroom buffer.old.items) }
     ensures given { length result.given ≤ most_record }
 {
@@ -120,14 +124,16 @@ fn told(
     }
 }
 
-/// What is told of READ of so many fixed blocks that gave these, which the buffer has behind room for a header.
+/// What is told of READ of so many fixed blocks that gave these, which the buffer has behind room for a header, and
+/// before room for what is sent behind them.
 fn told_of_blocks(alloc: Global, buffer: &mut BytesMut, count: u32, read: FixedRead) -> Done
     requires few { length (drop headroom buffer.old.items) ≤ most_record }
+    requires room { tailroom ≤ buffer.old.spare }
     requires within { read.given ≤ count }
     ensures told { result ≡ fixed_outcome count read (drop headroom buffer.old.items) }
     ensures given { length result.given ≤ most_record }
 {
-    let given = Given::behind_room(mem::replace(buffer, BytesMut::new(alloc)));
+    let given = Given::in_place(mem::replace(buffer, BytesMut::new(alloc)));
     let left = count - read.given;
     match read.ended {
         FixedEnd::Whole => Done::good_with(given),

@@ -25,6 +25,7 @@ pub use Rattle.scsi_mode.specs.ParameterList
 pub mod Lun
 pub mod Device
 pub mod DiskCame
+pub mod Buffers
 pub mod CameOut
 pub mod DiskCommands
 pub mod DiskWrites

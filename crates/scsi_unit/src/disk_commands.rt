@@ -10,11 +10,12 @@ ghost use Rattle.scsi_unit.specs.Checks.{has_range};
 ghost use Rattle.scsi_unit.specs.DiskCommands.{capacity_10 as capacity_10_data, capacity_16 as capacity_16_data, bytes_needed};
 ghost use Rattle.scsi_unit.specs.DiskCommands.{range_named, IsDiskDone, most_given};
 
-use crate::buffers::take;
+use crate::buffers::{Buffers, take};
 use crate::device::DiskDevice;
 use crate::disk_writes::read_failed;
 use crate::given::done_with_front;
 use bytes::BytesMut;
+use data_parts::Data;
 use media_block::{BLOCK_LENGTH, Disk};
 use media_store::{Store, StoreFault};
 use out_of_memory::Memory;
@@ -60,6 +61,7 @@ fn read_into<S: Store>(
     requires empty { buffer.old.items ≡ [] }
     requires room { headroom + block_length * range.count ≤ buffer.old.spare }
     ensures length { length (drop headroom buffer.new.items) ≡ block_length * range.count }
+    ensures spare { buffer.new.spare + (headroom + block_length * range.count) ≡ buffer.old.spare }
     ensures read { OnOk result (IsTrue disk.new.honest → drop headroom buffer.new.items ≡ data_of disk.old.blocks range.first range.count) }
     ensures none { range.count ≡ 0 → IsOk result × (disk.new ≡ disk.old) }
     ensures back { IsTrue disk.new.honest → IsTrue disk.old.honest }
@@ -74,12 +76,7 @@ fn read_into<S: Store>(
 impl<S: Store> DiskDevice<S> {
     /// READ of blocks that the disk has. The room for the data is made first, with room for a header in
     /// front of it and for what is sent behind it, so that where an allocation fails nothing changes.
-    fn read(
-        &mut self,
-        alloc: Global,
-        used: &mut Vec<BytesMut>,
-        range: BlockRange,
-    ) -> Result<Done, Memory>
+    fn read(&mut self, alloc: Global, used: &mut Buffers, range: BlockRange) -> Result<Done, Memory>
         requires { range.first + range.count ≤ length self.old.disk.blocks }
         ensures done { IfOk result (λ done. (bytes : List ℕ) → IsDiskDone (Read range) bytes (disk_view self.old) (disk_view self.new) done) }
         ensures given { IfOk result (λ done. length done.given ≤ most_given) }
@@ -91,7 +88,7 @@ impl<S: Store> DiskDevice<S> {
         let room = HEADROOM + BLOCK_LENGTH * range.count() as usize + TAILROOM;
         let mut buffer = take(alloc, used, room)?;
         match read_into(&mut self.disk, range, &mut buffer) {
-            Ok(()) => Ok(Done::good_with(Given::behind_room(buffer))),
+            Ok(()) => Ok(Done::good_with(Given::in_place(buffer))),
             Err(_) => Ok(read_failed(alloc)),
         }
     }
@@ -101,9 +98,9 @@ impl<S: Store> DiskDevice<S> {
     pub fn carry_out(
         &mut self,
         alloc: Global,
-        used: &mut Vec<BytesMut>,
+        used: &mut Buffers,
         command: DiskCommand,
-        data: &[u8],
+        data: &Data,
     ) -> Result<Done, Memory>
         requires range { IsTrue (has_range (DiskDeviceOf (disk_view self.old)) (range_named command)) }
         requires enough { bytes_needed command ≤ length «data».now }
@@ -111,6 +108,7 @@ impl<S: Store> DiskDevice<S> {
         ensures given { IfOk result (λ done. length done.given ≤ most_given) }
         ensures err { OnErr result (disk_view self.new ≡ disk_view self.old) }
     {
+        let mut room = Vec::new(alloc);
         match command {
             DiskCommand::Read(range) => self.read(alloc, used, range),
             DiskCommand::ReadCapacity10 => {
@@ -126,13 +124,22 @@ impl<S: Store> DiskDevice<S> {
                 force_unit_access,
             } => Ok(self.write(alloc, range, force_unit_access, data)),
             DiskCommand::Verify(_) => Ok(Done::good(alloc)),
-            DiskCommand::VerifyData(range) => Ok(self.verify_data(alloc, range, data)),
+            DiskCommand::VerifyData(range) => {
+                Ok(self.verify_data(alloc, range, data.joined(&mut room)?))
+            }
             DiskCommand::SynchronizeCache(range) => Ok(self.synchronize(alloc, range)),
-            DiskCommand::WriteSame(range) => Ok(self.write_same(alloc, range, data)),
+            DiskCommand::WriteSame(range) => {
+                Ok(self.write_same(alloc, range, data.joined(&mut room)?))
+            }
             DiskCommand::CompareAndWrite {
                 range,
                 force_unit_access,
-            } => Ok(self.compare_and_write(alloc, range, force_unit_access, data)),
+            } => Ok(self.compare_and_write(
+                alloc,
+                range,
+                force_unit_access,
+                data.joined(&mut room)?,
+            )),
         }
     }
 }

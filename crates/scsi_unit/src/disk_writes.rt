@@ -1,6 +1,6 @@
 //! The commands that write to disks, or ask what stands on them.
 
-ghost use Rattle.std.specs.Prelude.{◌≡◌, ◌+◌, ◌*◌, ◌<◌, ◌≤◌, ℕ, List, [], length, false, IsTrue, IsOk, OnOk, OnErr};
+ghost use Rattle.std.specs.Prelude.{◌≡◌, ◌+◌, ◌*◌, ◌<◌, ◌≤◌, ℕ, List, [], length, take, false, IsTrue, IsOk, OnOk, OnErr};
 ghost use Rattle.media_block.specs.Blocks.{block_length, blocks_of};
 ghost use Rattle.scsi_sense.specs.Done.{check_condition};
 ghost use Rattle.scsi_cdb.specs.declared.command.DiskCommand.TheVariants.{Write, VerifyData, SynchronizeCache, WriteSame, CompareAndWrite};
@@ -9,6 +9,7 @@ ghost use Rattle.scsi_unit.specs.DiskCommands.{IsDiskDone, miscompare as miscomp
 ghost use Rattle.scsi_unit.specs.DiskWrites.{IsWritten, IsTorn};
 
 use crate::device::DiskDevice;
+use data_parts::Data;
 use media_block::{BLOCK_LENGTH, Disk};
 use media_store::{Store, StoreFault};
 use scsi_cdb::{AnyRange, BlockRange, ComparedRange, SameRange};
@@ -31,22 +32,22 @@ fn miscompare(alloc: Global, at: u32) -> Done
     Done::check_condition(alloc, sense)
 }
 
-/// Writes one block or more, and with FUA waits until they are on the medium.
+/// Writes one block or more, with their bytes in front of the data, and with FUA waits until they are on the medium.
 fn write_through<S: Store>(
     disk: &mut Disk<S>,
     first: u64,
     count: u32,
-    bytes: &[u8],
+    data: &Data,
     force_unit_access: bool,
 ) -> Result<(), StoreFault>
     requires range { first + count ≤ length disk.old.blocks }
-    requires whole { length bytes.now ≡ block_length * count }
+    requires enough { block_length * count ≤ length «data».now }
     requires some { 0 < count }
-    ensures written { OnOk result (IsWritten first (blocks_of count bytes.now) force_unit_access disk.old disk.new) }
+    ensures written { OnOk result (IsWritten first (blocks_of count (take (block_length * count) «data».now)) force_unit_access disk.old disk.new) }
     ensures torn { OnErr result (IsTorn first count disk.old disk.new) }
     ensures succeeds { IsTrue disk.old.steady → IsTrue disk.old.honest → IsOk result }
 {
-    disk.write(first, u64::from(count), bytes)?;
+    disk.write_parts(first, u64::from(count), data)?;
     if force_unit_access {
         disk.sync()?;
     }
@@ -69,7 +70,7 @@ impl<S: Store> DiskDevice<S> {
         alloc: Global,
         range: BlockRange,
         force_unit_access: bool,
-        data: &[u8],
+        data: &Data,
     ) -> Done
         requires range { range.first + range.count ≤ length self.old.disk.blocks }
         requires enough { block_length * range.count ≤ length «data».now }
@@ -81,12 +82,11 @@ impl<S: Store> DiskDevice<S> {
             return Done::good(alloc);
         }
         let length = BLOCK_LENGTH * count as usize;
-        let bytes = &data[..length];
         match write_through(
             &mut self.disk,
             range.first(),
             count,
-            bytes,
+            data,
             force_unit_access,
         ) {
             Ok(()) => Done::good_taking(alloc, length as u32),
@@ -160,12 +160,12 @@ impl<S: Store> DiskDevice<S> {
             Ok(Some(at)) => return miscompare(alloc, at as u32),
             Err(_) => return read_failed(alloc),
         }
-        let bytes = &data[length..2 * length];
+        let written = Data::whole(&data[length..]);
         match write_through(
             &mut self.disk,
             range.first(),
             count,
-            bytes,
+            &written,
             force_unit_access,
         ) {
             Ok(()) => Done::good_taking(alloc, 2 * length as u32),

@@ -9,6 +9,7 @@ ghost use Rattle.scsi_unit.specs.Unit.{mode_selected, unit_done, carried_out, re
 ghost use Rattle.scsi_unit.specs.Joined.{told};
 ghost use Rattle.scsi_unit.specs.Identity.{sense_outcome, pending_sense};
 
+use crate::buffers::Buffers;
 use crate::device::Device;
 use crate::identity::{inquiry, report_luns, sense_data};
 use crate::joined::{pending, tell};
@@ -17,6 +18,7 @@ use crate::persistent_reserve::reserve_in;
 use crate::refusal::Refusal;
 use crate::unit::Unit;
 use bytes::BytesMut;
+use data_parts::Data;
 use media_block::BLOCK_LENGTH;
 use media_store::Store;
 use out_of_memory::Memory;
@@ -169,13 +171,31 @@ impl<S: Store> Unit<S> {
         }
     }
 
+    /// The same with data as it lies, which is joined first.
+    fn carry_out_joined(
+        &mut self,
+        nexus: &Nexus,
+        command: UnitCommand,
+        data: &Data,
+    ) -> Result<Done, Memory>
+        requires { needed (Command.Unit command) ≤ length «data».now }
+        ensures done { IfOk result (λ done. (self.new, done) ≡ unit_done nexus.now «data».now self.old command) }
+        ensures store { store_of self.new.device ≡ store_of self.old.device }
+        ensures given { IfOk result (λ done. length done.given ≤ most_given) }
+        ensures err { OnErr result (self.new ≡ self.old) }
+    {
+        let mut room = Vec::new(self.alloc);
+        let joined = data.joined(&mut room)?;
+        self.carry_out_of_any(nexus, command, joined)
+    }
+
     /// A command that no check refuses. Where an allocation fails nothing changes.
     fn carry_out(
         &mut self,
-        used: &mut Vec<BytesMut>,
+        used: &mut Buffers,
         nexus: &Nexus,
         command: Command,
-        data: &[u8],
+        data: &Data,
     ) -> Result<Done, Memory>
         requires range { IsTrue (has_range self.old.device (range_of command)) }
         requires enough { needed command ≤ length «data».now }
@@ -185,18 +205,18 @@ impl<S: Store> Unit<S> {
         ensures err { OnErr result (self.new ≡ self.old) }
     {
         match command {
-            Command::Unit(command) => self.carry_out_of_any(nexus, command, data),
+            Command::Unit(command) => self.carry_out_joined(nexus, command, data),
             Command::Disk(command) => match &mut self.device {
                 Device::Disk(disk) => disk.carry_out(self.alloc, used, command, data),
                 Device::Tape(_) => Ok(Done::check_condition(self.alloc, Cdb::no_operation())),
             },
-            Command::Tape(command) => self.carry_out_on_tape(used, nexus, command, data),
+            Command::Tape(command) => self.carry_out_joined_on_tape(used, nexus, command, data),
         }
     }
 
     /// The command that the bytes spell, or the first check that refuses it (own, after SPC-4).
     #[tactic(auto, unfolding(crate::specs::Checks::judged))]
-    fn judge(&self, nexus: &Nexus, cdb: [u8; 16], data: &[u8]) -> Result<Command, Refusal>
+    fn judge(&self, nexus: &Nexus, cdb: [u8; 16], data: &Data) -> Result<Command, Refusal>
         ensures judged { result ≡ judged nexus.now cdb «data».now self.now }
         ensures range { IfOk result (λ command. IsTrue (has_range self.now.device (range_of command))) }
         ensures needed { IfOk result (λ command. needed command ≤ length «data».now) }
@@ -255,10 +275,10 @@ impl<S: Store> Unit<S> {
     #[tactic(auto, unfolding(crate::specs::Unit::performed_as, crate::specs::Unit::touch_at))]
     pub(crate) fn perform_with(
         &mut self,
-        used: &mut Vec<BytesMut>,
+        used: &mut Buffers,
         nexus: &Nexus,
         cdb: [u8; 16],
-        data: &[u8],
+        data: &Data,
     ) -> Result<Done, Memory>
         ensures done { IfOk result (IsPerformed (touch_at nexus.now cdb «data».now self.old)
             (λ came. performed_as came nexus.now cdb «data».now self.old) self.old self.new) }

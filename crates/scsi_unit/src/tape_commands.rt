@@ -11,10 +11,11 @@ ghost use Rattle.scsi_unit.specs.Joined.{raised_for_others};
 ghost use Rattle.scsi_unit.specs.TapeCommands.{loads as loads_tape, tape_performed};
 ghost use Rattle.scsi_unit.specs.Unit.{touch_by, IsPerformed};
 
-use crate::buffers::{give_back, take};
+use crate::buffers::{Buffers, give_back, take};
 use crate::device::Device;
 use crate::unit::Unit;
 use bytes::BytesMut;
+use data_parts::Data;
 use media_store::Store;
 use out_of_memory::Memory;
 use scsi_cdb::{Cdb, TapeCommand};
@@ -26,7 +27,7 @@ use std::alloc::Global;
 /// data that it gives. Where an allocation fails nothing changes.
 fn carry_out<S: Store>(
     alloc: Global,
-    used: &mut Vec<BytesMut>,
+    used: &mut Buffers,
     tape: &mut TapeUnit<S>,
     command: TapeCommand,
     data: &[u8],
@@ -61,7 +62,7 @@ impl<S: Store> Unit<S> {
     /// A command to the unit as a tape. Where it loads the tape all but this nexus are to be told.
     pub(crate) fn carry_out_on_tape(
         &mut self,
-        used: &mut Vec<BytesMut>,
+        used: &mut Buffers,
         nexus: &Nexus,
         command: TapeCommand,
         data: &[u8],
@@ -81,5 +82,24 @@ impl<S: Store> Unit<S> {
             self.medium_changed(nexus);
         }
         Ok(done)
+    }
+
+    /// The same with data as it lies, which is joined first.
+    pub(crate) fn carry_out_joined_on_tape(
+        &mut self,
+        used: &mut Buffers,
+        nexus: &Nexus,
+        command: TapeCommand,
+        data: &Data,
+    ) -> Result<Done, Memory>
+        requires { bytes_needed command ≤ length «data».now }
+        ensures done { IfOk result (IsPerformed (touch_by «data».now self.old.device (to.Tape command))
+            (λ came. tape_performed (tape_came came) nexus.now «data».now self.old self.old.device command) self.old self.new) }
+        ensures given { IfOk result (λ done. length done.given ≤ most_given) }
+        ensures err { OnErr result (self.new ≡ self.old) }
+    {
+        let mut room = Vec::new(self.alloc);
+        let joined = data.joined(&mut room)?;
+        self.carry_out_on_tape(used, nexus, command, joined)
     }
 }

@@ -5,11 +5,13 @@ ghost use Rattle.scsi_unit.specs.Device.{opened, opened_tape};
 ghost use Rattle.scsi_unit.specs.DiskCommands.{most_given};
 ghost use Rattle.scsi_unit.specs.Unit.{free_unit, joined_unit, left_unit, raised_unit, raised_unit_for_all, where_named, names_unit, perform_as, touch_with, IsPerformed};
 
+use crate::buffers::Buffers;
 use crate::device::{Device, DiskDevice};
 use crate::identity::without_unit;
 use crate::joined::{JoinedList, join, leave};
 use crate::lun::Lun;
 use crate::serial::Serial;
+use data_parts::Data;
 use media_block::Disk;
 use media_store::Store;
 use media_tape::Tape;
@@ -146,7 +148,7 @@ impl<S: Store> Unit<S> {
         nexus: &Nexus,
         lun: [u8; 8],
         cdb: [u8; 16],
-        data: &[u8],
+        data: &Data,
     ) -> Result<Done, Memory>
         ensures done { IfOk result (IsPerformed (touch_with nexus.now lun cdb «data».now self.old)
             (λ came. perform_as came nexus.now lun cdb «data».now self.old) self.old self.new) }
@@ -157,6 +159,6 @@ impl<S: Store> Unit<S> {
         if !self.is_named(lun) {
             return without_unit(alloc, cdb);
         }
-        self.perform_with(&mut Vec::new(alloc), nexus, cdb, data)
+        self.perform_with(&mut Buffers::new(alloc), nexus, cdb, data)
     }
 }

@@ -9,18 +9,20 @@ ghost use Rattle.scsi_unit.specs.Units.{join, leave, raised_at, raised_for_all_a
 ghost use Rattle.scsi_unit.specs.Identity.{reported_luns, is_row_of_target};
 ghost use Rattle.scsi_cdb.specs.Operation.{row_of};
 
-use crate::buffers::{MOST_KEPT, give_back};
+use crate::buffers::{Buffers, give_back};
 use crate::identity::{report_luns, without_unit};
 use crate::joined::join as join_list;
 use crate::lun::Lun;
 use crate::unit::Unit;
 use bytes::BytesMut;
+use data_parts::{Data, SpareBuffers};
 use media_store::Store;
 use out_of_memory::Memory;
 use scsi_cdb::{ReportLunsFields, Row};
 use scsi_sense::{Attention, Done, Nexus};
 use std::alloc::Global;
 use std::marker::Model;
+use std::mem;
 
 /// The logical units of one target.
 #[derive(Drop)]
@@ -28,8 +30,10 @@ pub struct Units<S: Store> {
     units: Vec<Unit<S>>,
     /// The numbers of the units, in their order.
     luns: Vec<u8>,
-    /// Buffers that were given back. Their bytes never leave the target.
-    used: Vec<BytesMut>,
+    /// Buffers in which commands gave their data.
+    used: Buffers,
+    /// Buffers in which the data of commands came.
+    spares: SpareBuffers,
     alloc: Global,
 }
 
@@ -103,12 +107,13 @@ impl<S: Store + Drop> Units<S> {
     pub fn new(alloc: Global, units: Vec<Unit<S>>) -> Result<Units<S>, Memory>
         ensures { IfOk result (λ made. made ≡ units.items) }
     {
-        let used = Vec::with_capacity(alloc, MOST_KEPT)?;
+        let used = Buffers::with_places(alloc)?;
         let luns = numbers(alloc, units.as_slice())?;
         Ok(Units {
             units,
             luns,
             used,
+            spares: SpareBuffers::new(alloc),
             alloc,
         })
     }
@@ -181,6 +186,27 @@ impl<S: Store> Units<S> {
         give_back(&mut self.used, buffer);
     }
 
+    /// A buffer in which the data of a command came is kept for that of another.
+    pub fn keep_buffer(&mut self, buffer: Vec<u8>)
+        ensures { self.new ≡ self.old }
+    {
+        self.spares.keep(buffer);
+    }
+
+    /// The buffers that were kept, until they are given back by [`Units::return_buffers`]. It takes no memory.
+    pub fn lend_buffers(&mut self) -> SpareBuffers
+        ensures { self.new ≡ self.old }
+    {
+        mem::replace(&mut self.spares, SpareBuffers::new(self.alloc))
+    }
+
+    /// Buffers that were lent come back.
+    pub fn return_buffers(&mut self, spares: SpareBuffers)
+        ensures { self.new ≡ self.old }
+    {
+        self.spares = spares;
+    }
+
     /// Where the unit stands that a LUN names.
     #[tactic(auto, unfolding(crate::specs::Lun::lun_number))]
     fn position(&self, lun: [u8; 8]) -> Option<usize>
@@ -202,7 +228,7 @@ impl<S: Store> Units<S> {
         nexus: &Nexus,
         lun: [u8; 8],
         cdb: [u8; 16],
-        data: &[u8],
+        data: &Data,
     ) -> Result<Done, Memory>
         ensures answered { IfOk result (AreAnswered nexus.now cdb «data».now (unit_of self.old (number_of_lun lun)) self.old self.new) }
         ensures came { IfOk result (λ done. (came : CameOut) × ((self.new, done) ≡ come_out came self.old nexus.now lun cdb «data».now)

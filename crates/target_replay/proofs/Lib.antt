@@ -1,5 +1,6 @@
 pub mod Texts
 pub mod Joint
+pub mod Drained
 pub mod Connections
 pub mod LineLemmas
 pub mod Comings

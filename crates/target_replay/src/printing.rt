@@ -28,9 +28,15 @@ fn drain<S: Store>(alloc: Global, target: &mut Target<S>, c: usize) -> Result<Ve
     ensures sure { IsSure target.old → IsSure target.new }
 {
     let mut bytes = Vec::new(alloc);
-    bytes.extend_from_slice(target.out(c))?;
-    target.sent(c, bytes.len());
-    Ok(bytes)
+    'fronts: loop {
+        let front = target.out(c);
+        if front.is_empty() {
+            return Ok(bytes);
+        }
+        bytes.extend_from_slice(front)?;
+        let count = front.len();
+        target.sent(c, count);
+    }
 }
 
 /// Prints `C HEX` where there are bytes.

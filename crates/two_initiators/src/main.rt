@@ -4,7 +4,7 @@
 //! target `t1` with a disk, LUN 0, and a tape, LUN 1, in memory. Printed are, line by line,
 //!
 //! ```text
-//! 0 23870000     bytes of the target's answer on connection 0
+//! 0 23870000     bytes of the target's answer on connection 0: of a large answer a line for each SCSI Data-In
 //! 0 starved      the target closed connection 0, since an allocation failed
 //! ```
 //!
@@ -108,17 +108,28 @@ fn target(alloc: Global) -> Result<Target<MemStore>, Fault> {
     Ok(Target::new(alloc, config, units)?)
 }
 
-/// Prints what the target answers on a connection, which is then sent.
-fn print_answer(rt: &HostRuntime, target: &mut Target<MemStore>, c: usize) -> Result<(), Fault> {
+/// Prints the next bytes of what the target answers on a connection, which are then sent. Whether there were any.
+fn print_front(rt: &HostRuntime, target: &mut Target<MemStore>, c: usize) -> Result<bool, Fault> {
     if c >= 64 || !target.is_open(c) {
-        return Ok(());
+        return Ok(false);
     }
-    let answer = target.out(c);
-    if !answer.is_empty() {
-        let digits = hex::encode(rt.alloc(), answer)?;
-        println!(rt; "{c} {digits}")?;
-        let count = answer.len();
-        target.sent(c, count);
+    let front = target.out(c);
+    if front.is_empty() {
+        return Ok(false);
+    }
+    let digits = hex::encode(rt.alloc(), front)?;
+    println!(rt; "{c} {digits}")?;
+    let count = front.len();
+    target.sent(c, count);
+    Ok(true)
+}
+
+/// Prints all that the target answers on a connection, which is then sent.
+fn print_answer(rt: &HostRuntime, target: &mut Target<MemStore>, c: usize) -> Result<(), Fault> {
+    for _ in 0..u64::MAX {
+        if !print_front(rt, target, c)? {
+            break;
+        }
     }
     Ok(())
 }

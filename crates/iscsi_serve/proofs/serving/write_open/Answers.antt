@@ -1,8 +1,8 @@
 use Rattle.std.proofs.Common.{◌≡◌, ◌<◌, ◌∙◌, length, sym, refl, rules, inl, inr, arith}
-use Rattle.std.proofs.lemmas.List.{nil_from_length}
 use Rattle.iscsi_ports.specs.Log.{Wrote, Fault, End}
 use Rattle.iscsi_serve.specs.Served.{MayHappen, MayComeOut}
 use Rattle.iscsi_serve.proofs.Closing.{open_sent, sent_none, others_same, others_sent, others_ended}
+use Rattle.iscsi_serve.proofs.Fronts.{none_offered, offered_within}
 use Rattle.iscsi_serve.proofs.Goings.{empty_write, write_some, write_ended}
 use Rattle.iscsi_serve.proofs.Keeping.{keeps_same, keeps_told, write_stays, nothing_stays}
 use Rattle.iscsi_serve.proofs.serving.write_open.Goals as goal
@@ -13,7 +13,7 @@ returns-then-is_empty-clause-does g c =
     record {
       keeps = keeps_same _ _ _;
       goes = λ tells.
-          empty_write _ c.args.target.now c.args.ended.now c.args.c (sym c.out-offered.ensures ∙ nil_from_length c.out-offered.result.now none);
+          empty_write _ c.args.target.now c.args.ended.now c.args.c (none_offered c.out-offered.result.now _ c.out-offered.ensures.some none);
     }
 
 pub returns-in-Bytes-eq0-clause-does : goal.returns-in-Bytes-eq0-clause-does
@@ -27,14 +27,14 @@ returns-in-Bytes-eq0-clause-does g c =
         sure = λ sure. sure;
         served = λ tells sound.
             nothing_stays MayHappen _ _ c.args.target.now c.args.c c.out-offered.result.now c.requires.in_range c.requires.open
-            (sym c.out-offered.ensures) (rw c.in-Bytes-eq0.field-0-test at (c.in-Bytes-eq0.ensures.log tells));
+            c.out-offered.ensures.front (rw c.in-Bytes-eq0.field-0-test at (c.in-Bytes-eq0.ensures.log tells));
         came = λ tells.
             nothing_stays (MayComeOut c.args.target.now) _ _ c.args.target.now c.args.c c.out-offered.result.now c.requires.in_range c.requires.open
-            (sym c.out-offered.ensures) (rw c.in-Bytes-eq0.field-0-test at (c.in-Bytes-eq0.ensures.log tells));
+            c.out-offered.ensures.front (rw c.in-Bytes-eq0.field-0-test at (c.in-Bytes-eq0.ensures.log tells));
         bounded = λ bounded. bounded;
       };
       goes = λ tells.
-          write_some _ _ c.args.target.now _ _ c.args.c 0 c.out-offered.result.now c.requires.open (sym c.out-offered.ensures) some (omega arith)
+          write_some _ _ c.args.target.now _ _ c.args.c 0 c.out-offered.result.now c.requires.open c.out-offered.ensures.front some (omega arith)
           (rw c.in-Bytes-eq0.field-0-test at (c.in-Bytes-eq0.ensures.log tells)) (sent_none c.args.target.now c.args.c);
     }
 
@@ -48,15 +48,15 @@ returns-in-Bytes-clause-does g c =
         each = c.sent.ensures.each;
         sure = c.sent.ensures.sure;
         served = λ tells sound.
-            write_stays MayHappen _ _ _ _ _ _ _ c.requires.in_range c.requires.open (sym c.out-offered.ensures) c.in-Bytes.ensures.count
+            write_stays MayHappen _ _ _ _ _ _ _ c.requires.in_range c.requires.open c.out-offered.ensures.front c.in-Bytes.ensures.count
             (c.in-Bytes.ensures.log tells) c.sent.ensures.always;
         came = λ tells.
-            write_stays (MayComeOut c.sent.new.self) _ _ _ _ _ _ _ c.requires.in_range c.requires.open (sym c.out-offered.ensures) c.in-Bytes.ensures.count
+            write_stays (MayComeOut c.sent.new.self) _ _ _ _ _ _ _ c.requires.in_range c.requires.open c.out-offered.ensures.front c.in-Bytes.ensures.count
             (c.in-Bytes.ensures.log tells) c.sent.ensures.always;
         bounded = c.sent.ensures.bounded;
       };
       goes = λ tells.
-          write_some _ _ _ _ _ _ _ _ c.requires.open (sym c.out-offered.ensures) some c.in-Bytes.ensures.count
+          write_some _ _ _ _ _ _ _ _ c.requires.open c.out-offered.ensures.front some c.in-Bytes.ensures.count
           (c.in-Bytes.ensures.log tells) c.sent.ensures.now;
     }
 
@@ -70,7 +70,7 @@ returns-in-End-clause-does g c =
             keeps_told _ _ _ _ _ (Wrote c.args.c (length c.out-offered.result.now) End) refl (λ rows. refl) c.write.ensures.back
             (λ tells. rw is at (c.write.ensures.log tells));
         goes = λ tells.
-            write_ended _ _ _ _ _ End _ c.requires.in_range long c.requires.open (sym c.out-offered.ensures) some refl
+            write_ended _ _ _ _ _ End _ c.requires.in_range long c.requires.open c.out-offered.ensures.front some refl
             (rw is at (c.write.ensures.log tells));
       }
       | inr is ↦ record {
@@ -78,7 +78,7 @@ returns-in-End-clause-does g c =
             keeps_told _ _ _ _ _ (Wrote c.args.c (length c.out-offered.result.now) Fault) refl (λ rows. refl) c.write.ensures.back
             (λ tells. rw is at (c.write.ensures.log tells));
         goes = λ tells.
-            write_ended _ _ _ _ _ Fault _ c.requires.in_range long c.requires.open (sym c.out-offered.ensures) some refl
+            write_ended _ _ _ _ _ Fault _ c.requires.in_range long c.requires.open c.out-offered.ensures.front some refl
             (rw is at (c.write.ensures.log tells));
       }
     ]

@@ -23,8 +23,11 @@ put-requires c =
     let below : i < length (sent_pieces c.args.values.now c.args.sent.now) = slice_get_within _ i _ c.piece_of-piece.ensures in
     let is : get_or all i answer ≡ answer = data_answer_at c.args.numbers c.args.values.now c.args.frame.now c.args.sent.now i answer
     c.piece_of-piece.result c.piece_of-piece.ensures ∙ sym c.data_in.ensures in
-    next_fits all i c.loop-data_sn.out.items c.args.out.now.items c.loop-data_sn.out.spare c.args.out.now.spare answer
-    (omega (arith, below, data_answers_count c.args.numbers c.args.values.now c.args.frame.now c.args.sent.now)) is c.loop-data_sn.invariant c.requires.room
+    record {
+      room = next_fits all i c.loop-data_sn.out.items c.args.out.now.items c.loop-data_sn.out.spare c.args.out.now.spare answer
+          (omega (arith, below, data_answers_count c.args.numbers c.args.values.now c.args.frame.now c.args.sent.now)) is c.loop-data_sn.invariant
+          c.requires.room;
+    }
 
 pub loop-data_sn-preserved : goal.loop-data_sn-preserved
 loop-data_sn-preserved c =
@@ -34,9 +37,9 @@ loop-data_sn-preserved c =
     let below : i < length (sent_pieces c.args.values.now c.args.sent.now) = slice_get_within _ i _ c.piece_of-piece.ensures in
     let is : get_or all i answer ≡ answer = data_answer_at c.args.numbers c.args.values.now c.args.frame.now c.args.sent.now i answer
     c.piece_of-piece.result c.piece_of-piece.ensures ∙ sym c.data_in.ensures in
-    written_more all i c.loop-data_sn.out.items c.put.new.out.items c.args.out.now.items c.loop-data_sn.out.spare c.put.new.out.spare c.args.out.now.spare
+    written_more all i c.loop-data_sn.out.items c.put.new.self.items c.args.out.now.items c.loop-data_sn.out.spare c.put.new.self.spare c.args.out.now.spare
     answer (omega (arith, below, data_answers_count c.args.numbers c.args.values.now c.args.frame.now c.args.sent.now)) is c.loop-data_sn.invariant
-    c.put.ensures.written c.put.ensures.spare
+    c.put.ensures.items c.put.ensures.spare
 
 pub returns-clause-written : goal.returns-clause-written
 returns-clause-written c =

@@ -6,5 +6,5 @@ use Rattle.iscsi_session.proofs.texts.put_told.Goals as goal
 
 pub returns-in-None : goal.returns-in-None
 returns-in-None c =
-    rw c.in-None.is (c.put-in-None.ensures.written ∙ ap (λ (a : Answer). c.args.out.now.items ++ spelling a)
+    rw c.in-None.is (c.put-in-None.ensures.items ∙ ap (λ (a : Answer). c.args.out.now.items ++ spelling a)
     (c.rejected.ensures.value c.args.frame.now (ap (λ (f : Frame). f.header) (sym c.frame.view_is))))

@@ -30,7 +30,7 @@ returns-clause-answers c past k rest s is =
     let done = c.args.done in
     let items = c.args.out.now.items in
     let f = done_here past _ k rest c.in-Some.frame _ _ known is c.in-Some.ensures.some c.in-Some.ensures.same
-    (c.finish-2.ensures ∙ ap (λ (t : ℕ). record c.self.inside.transfers
+    (c.finish-parts.ensures ∙ ap (λ (t : ℕ). record c.self.inside.transfers
     { list = removed_at c.self.inside.transfers.list (place_with t c.self.inside.transfers.list) })
     (c.initiator_task_tag.ensures ∙ ap (λ (f : Frame). initiator_task_tag f.header) c.frame.view_is)) in
     let same : c.self-2.inside.params ≡ past.params = ap (λ (x : SessionState). x.params) (c.self-2.view_is ∙ c.next_stamp-stamp.ensures.same)

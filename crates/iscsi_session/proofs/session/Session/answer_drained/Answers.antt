@@ -54,7 +54,7 @@ returns-clause-ok c orders units =
     ∙ ap (λ (n : Stamp). function_answer n Complete c.in-Some.function) (c.next_stamp-stamp.ensures.stamp (told t.function past) there) in (
       subst (λ (l : List ℕ). Stands (answered_by l past) c.next_stamp-stamp.new.self) (sym t.first)
           (c.next_stamp-stamp.ensures.stands (told t.function past) (told_answers past t.function) there refl),
-      c.put.ensures.written ∙ ap (λ (bytes : List ℕ). bytes ++ spelling c.answer_to.result) c.in_ok-reserve.ensures.items
+      c.put.ensures.items ∙ ap (λ (bytes : List ℕ). bytes ++ spelling c.answer_to.result) c.in_ok-reserve.ensures.items
           ∙ ap (λ (a : Answer). c.args.out.now.items ++ spelling a) answer
           ∙ one_spelled c.args.out.now.items _ _ (told_same past _ c.in-Some.function t),
     )))

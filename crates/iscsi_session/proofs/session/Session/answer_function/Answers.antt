@@ -42,7 +42,7 @@ returns-clause-acts c past k rest s is e =
       act = goes_on_act k past (function_kind (frame_of past.came k) e) refl;
       stands = stands_stat after (act_answers luns k past) _ c.next.new.self there (function_bears luns k past e none)
           (c.next.ensures.counted (statuses after) stat_is);
-      out = c.put.ensures.written ∙ ap (λ (bytes : List ℕ). bytes ++ spelling c.answer_to.result) c.in_ok-reserve.ensures.items
+      out = c.put.ensures.items ∙ ap (λ (bytes : List ℕ). bytes ++ spelling c.answer_to.result) c.in_ok-reserve.ensures.items
           ∙ ap (λ (a : Answer). c.args.out.now.items ++ spelling a) answer
           ∙ one_spelled c.args.out.now.items _ _ (function_same luns k past c.frame.inside.header result header
           (c.function_result-response.ensures past s) e none);

@@ -14,7 +14,7 @@ pub returns-clause-out : goal.returns-clause-out
 returns-clause-out c past s =
     let agreed : c.next_stamp-stamp.new.self.params ≡ past.params = ap (λ (x : SessionState). x.params) c.next_stamp-stamp.ensures.same
     ∙ (parts past _ s).params_is in
-    c.put.ensures.written ∙ ap (λ (a : Answer). c.args.out.now.items ++ spelling a) (c.logout_answer.ensures.value
+    c.put.ensures.items ∙ ap (λ (a : Answer). c.args.out.now.items ++ spelling a) (c.logout_answer.ensures.value
     ∙ ap (λ (x : Stamp). logout_answer x c.next_stamp-stamp.new.self.params c.args.frame.now) (c.next_stamp-stamp.ensures.stamp past s)
     ∙ ap (λ (p : Params). logout_answer (stamp past) p c.args.frame.now) agreed)
 

@@ -7,12 +7,12 @@ use Rattle.iscsi_session.specs.Judging.{reject}
 use Rattle.iscsi_session.proofs.session.Session.reject.Goals as goal
 
 pub put-requires : goal.put-requires
-put-requires c = omega (arith, c.rejected.ensures.short, c.in_ok-reserve.ensures.spare)
+put-requires c = record { room = omega (arith, c.rejected.ensures.short, c.in_ok-reserve.ensures.spare) }
 
 pub returns-clause-out : goal.returns-clause-out
 returns-clause-out c past frame s h =
     let answer : c.rejected.result ≡ reject c.args.reason (stamp past) frame = c.rejected.ensures.value frame h
     ∙ ap (λ (now : Stamp). reject c.args.reason now frame) (c.next_stamp-stamp.ensures.stamp past s) in
-    c.put.ensures.written
+    c.put.ensures.items
     ∙ ap (λ (a : Answer). c.reserve.new.self.items ++ spelling a) answer
     ∙ ap (λ (bytes : List ℕ). bytes ++ spelling (reject c.args.reason (stamp past) frame)) c.reserve.ensures.items

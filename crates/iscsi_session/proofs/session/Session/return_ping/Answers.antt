@@ -21,10 +21,10 @@ returns-clause-out c past s =
     ap (take c.min-length.result) body_now ∙ ap (λ (k : ℕ). take k c.args.frame.now.body) (c.min-length.ensures ∙ ap (λ (k : ℕ). min k most_data) c.min.ensures)
     ∙ ping_data c.len.result c.self.inside.params.values.max_recv_data_segment_length most_data c.args.frame.now.body count
     ∙ ap (λ (p : Params). take (min p.values.max_recv_data_segment_length most_data) c.args.frame.now.body) values_is in
-    ping_written c.args.out.now.items c.put.new.out.items _ c.initiator_task_tag-2.result _ c.next_stamp.result past.params.values c.args.frame.now
+    ping_written c.args.out.now.items c.put.new.self.items _ c.initiator_task_tag-2.result _ c.next_stamp.result past.params.values c.args.frame.now
     (record {
       asks = ne_eqb _ _ (λ e. c.if-initiator_task_tag.false (c.initiator_task_tag.ensures ∙ ap initiator_task_tag frame_is ∙ e));
       tag_is = tag_is;
       body_is = body_is;
     })
-    (c.next_stamp.ensures.stamp past s) c.put.ensures.written
+    (c.next_stamp.ensures.stamp past s) c.put.ensures.items

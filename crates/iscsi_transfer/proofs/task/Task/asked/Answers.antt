@@ -1,14 +1,13 @@
-use Rattle.std.proofs.Common.{[], ◌∷◌, ap, sym, ◌∙◌, arith}
-use Rattle.iscsi_transfer.specs.Counted.{most}
+use Rattle.std.proofs.Common.{[], ◌∷◌, ap, sym, ◌∙◌}
 use Rattle.iscsi_transfer.specs.Task.{TaskState, with_asked}
 use Rattle.iscsi_transfer.proofs.Standing.{remembered-asked}
-use Rattle.iscsi_transfer.proofs.Blank.{long_of, asked_same, asked_payload, asked_keeps}
+use Rattle.iscsi_transfer.proofs.Blank.{long_of, asked_same, asked_payload}
 use Rattle.iscsi_transfer.proofs.task.Task.asked.Goals as goal
 
 pub returns-clause-same : goal.returns-clause-same
 returns-clause-same c =
-    ap (λ (t : TaskState). record t { payload = c.self.inside.payload.items }) c.asked.ensures
-    ∙ asked_same c.self.inside.progress c.self.inside.payload.items (c.args.tag ∷ []) (long_of _ _ c.self.invariant.zeros)
+    ap (λ (t : TaskState). record t { payload = c.self.inside.payload }) c.asked.ensures
+    ∙ asked_same c.self.inside.progress c.self.inside.payload (c.args.tag ∷ []) (long_of _ _ c.self.invariant)
     ∙ ap (with_asked (c.args.tag ∷ [])) c.self.view_is
 
 pub returns-clause-stands : goal.returns-clause-stands
@@ -17,8 +16,4 @@ returns-clause-stands c past e =
 
 pub invariant_of-self : goal.invariant_of-self
 invariant_of-self c =
-    let keeps = ap (λ (t : TaskState). most t.first_burst t.expected) c.asked.ensures ∙ asked_keeps c.self.inside.progress (c.args.tag ∷ []) in
-    record {
-      zeros = ap (λ (t : TaskState). t.payload) c.asked.ensures ∙ asked_payload c.self.inside.progress (c.args.tag ∷ []) ∙ c.self.invariant.zeros;
-      room = omega (arith, keeps, c.self.invariant.room);
-    }
+    ap (λ (t : TaskState). t.payload) c.asked.ensures ∙ asked_payload c.self.inside.progress (c.args.tag ∷ []) ∙ c.self.invariant

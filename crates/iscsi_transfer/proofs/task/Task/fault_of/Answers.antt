@@ -5,5 +5,5 @@ use Rattle.iscsi_transfer.proofs.task.Task.fault_of.Goals as goal
 
 pub returns : goal.returns
 returns c =
-    c.fault_of.ensures ∙ sym (fault_same c.self.inside.progress c.self.inside.payload.items c.args.out.now (long_of _ _ c.self.invariant.zeros))
+    c.fault_of.ensures ∙ sym (fault_same c.self.inside.progress c.self.inside.payload c.args.out.now (long_of _ _ c.self.invariant))
     ∙ ap (λ (t : TaskState). fault_of t c.args.out.now) c.self.view_is

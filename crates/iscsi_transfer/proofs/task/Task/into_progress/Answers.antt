@@ -4,5 +4,5 @@ use Rattle.iscsi_transfer.proofs.task.Task.into_progress.Goals as goal
 
 pub returns : goal.returns
 returns c =
-    ap (λ (bytes : List ℕ). let task : TaskState = record c.self.inside.progress { payload = bytes } in task) c.self.invariant.zeros
+    ap (λ (bytes : List ℕ). let task : TaskState = record c.self.inside.progress { payload = bytes } in task) c.self.invariant
     ∙ ap blank c.self.view_is

@@ -1,6 +1,6 @@
-use Rattle.std.proofs.Common.{◌≡◌, ◌-◌, ◌*◌, true, nat_lt, refl, arith}
+use Rattle.std.proofs.Common.{◌≡◌, ◌*◌, ◌-◌, length, drop, true, nat_lt, refl, arith}
 use Rattle.std.proofs.lemmas.Bool.{false≢true, lt-ltb}
-use Rattle.std.proofs.lemmas.List.{length-take-le}
+use Rattle.std.proofs.lemmas.List.{length-take-le, length-drop, take_all}
 use Rattle.scsi_cdb.specs.declared.command.DiskCommand.TheVariants.{CompareAndWrite}
 use Rattle.scsi_unit.specs.Device.{disk_view}
 use Rattle.scsi_unit.proofs.DiskDone.{some_block, reading_failed, differs, same_written, same_torn}
@@ -31,12 +31,14 @@ pub returns-in-Ok-clause-done : goal.returns-in-Ok-clause-done
 returns-in-Ok-clause-done g c =
     let some : nat_lt 0 c.args.range.count ≡ true = rw c.count-count.ensures.value at (some_block c.count-count.result c.if-count-eq0.false) in
     let told = c.in-Ok-None.ensures in
-    let half : 2 * (512 * c.args.range.count) - 512 * c.args.range.count ≡ 512 * c.args.range.count = omega arith in
+    let first = 512 * c.args.range.count in
+    let bytes = c.args.«data».now in
+    let behind = take_all (length bytes - first) (drop first bytes) (omega (arith, length-drop first bytes)) in
     rw (c.good_taking.ensures, c.count-count.ensures.value)
     (same_written c.args.range c.args.force_unit_access c.args.«data».now (disk_view c.args.self.now) c.compare.new.self some
     told.disk told.back (λ steady honest. (told.succeeds steady honest).1) c.write_through.new.disk
     (rw (c.in-Ok-None.field-0-is, c.from.ensures, c.count-count.ensures.value, c.first.ensures) at told.compared)
-    (rw (c.count-count.ensures.value, c.first-2.ensures, half) at c.in-Ok.ensures.written))
+    (rw (c.whole-written.ensures, c.count-count.ensures.value, c.first-2.ensures, behind) at c.in-Ok.ensures.written))
 
 pub returns-in-Err-write_through-clause-done : goal.returns-in-Err-write_through-clause-done
 returns-in-Err-write_through-clause-done g c =

@@ -14,7 +14,7 @@ returns-in-Err-clause-done g c bytes =
 
 pub returns-in-Ok-clause-done : goal.returns-in-Ok-clause-done
 returns-in-Ok-clause-done g c bytes =
-    rw (c.good_with.ensures, c.behind_room.ensures)
+    rw (c.good_with.ensures, c.in_place.ensures)
     (read_given c.args.range bytes (disk_view c.args.self.now) c.read_into.new.disk (drop 48 c.read_into.new.buffer.items)
     (nat_lt 0 c.args.range.count) c.read_into.new.disk.honest refl refl
     c.in-Ok.ensures.length c.in-Ok.ensures.disk c.in-Ok.ensures.back (λ honest. c.in-Ok.ensures.read honest)

@@ -10,9 +10,9 @@ use Rattle.scsi_unit.proofs.unit.Unit.carry_out.Goals as goal
 pub returns-in-Unit-clause-done : goal.returns-in-Unit-clause-done
 returns-in-Unit-clause-done g c =
     rw c.in-Unit.is
-    (IfOk-weaker c.carry_out_of_any.result _ _
-    (λ done answer. performed_defined _ _ c.args.self.now c.carry_out_of_any.new.self done c.carry_out_of_any.ensures.store answer)
-    c.carry_out_of_any.ensures.done)
+    (IfOk-weaker c.carry_out_joined.result _ _
+    (λ done answer. performed_defined _ _ c.args.self.now c.carry_out_joined.new.self done c.carry_out_joined.ensures.store answer)
+    c.carry_out_joined.ensures.done)
 
 pub returns-after-self-clause-done : goal.returns-after-self-clause-done
 returns-after-self-clause-done g c =

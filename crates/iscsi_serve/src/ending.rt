@@ -1,0 +1,45 @@
+//! Which connections have ended in a turn.
+
+ghost use Rattle.std.specs.Prelude.{◌≡◌, ◌<◌, ℕ, true, false, ◌||◌, ◌&&◌, ◌==◌, length, slice_index_or};
+ghost use Rattle.iscsi_target.specs.Machine.{link_at, is_open_at, is_closing};
+
+use connection_numbers::CONNECTIONS;
+use iscsi_target::Target;
+use media_store::Store;
+
+/// The connection has ended, or the target has closed it and nothing waits on it.
+#[tactic(auto, using(crate::proofs::Fronts::same_none))]
+pub(crate) fn is_done<S: Store>(target: &Target<S>, ended: &[bool; CONNECTIONS], c: usize) -> bool
+    requires in_range { c < 64 }
+    requires open { is_open_at target.now c ≡ true }
+    ensures { result ≡ (slice_index_or ended.now c false || is_closing (link_at target.now c).phase && length (link_at target.now c).waiting == 0) }
+{
+    ended[c] || target.closing(c) && target.out(c).is_empty()
+}
+
+/// The connection has ended in this turn.
+pub(crate) fn has_ended<S: Store>(target: &Target<S>, ended: &[bool; CONNECTIONS], c: usize) -> bool
+    requires { c < 64 }
+    ensures { result ≡ (slice_index_or ended.now c false && is_open_at target.now c) }
+{
+    ended[c] && target.is_open(c)
+}
+
+/// One of the two is so.
+pub(crate) fn either(one: bool, other: bool) -> bool
+    ensures { result ≡ (one || other) }
+{
+    one || other
+}
+
+/// A connection has ended in this turn.
+pub(crate) fn any_ended(ended: &[bool; CONNECTIONS]) -> bool
+    ensures { result ≡ false → (c : ℕ) → c < 64 → slice_index_or ended.now c false ≡ false }
+{
+    for c in 0..CONNECTIONS {
+        if ended[c] {
+            return true;
+        }
+    }
+    false
+}

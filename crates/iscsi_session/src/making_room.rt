@@ -1,0 +1,120 @@
+//! Room for what a command is answered, made before it is done.
+
+ghost use Rattle.std.specs.Prelude.{◌≡◌, ◌≤◌, ◌<◌, ◌+◌, nat_lt, is_some, IfSome, IfNone, OnOk};
+ghost use Rattle.iscsi_login.specs.Values.{AreInRange};
+ghost use Rattle.iscsi_outbox.specs.Answer.{AreAligned, limits_of};
+ghost use Rattle.scsi_unit.specs.DiskCommands.{most_given};
+ghost use Rattle.iscsi_session.specs.Room.{room_for, cuts_long, most_copied, most_pieces, most_sent as most_data_sent};
+
+use crate::data_ins::count_of;
+use iscsi_login::Values;
+use iscsi_outbox::{Limits, Outbox};
+use iscsi_pdu::Frame;
+use media_block::BLOCK_LENGTH;
+use out_of_memory::Memory;
+use scsi_cdb::MOST_BLOCKS;
+
+/// The longest SCSI Response, in bytes: its header, and sense data with its length.
+pub(crate) const LONGEST_RESPONSE: usize = 68;
+
+/// What a SCSI Data-In takes beside its data, in bytes at most: its header and the padding.
+const LONGEST_FRAME: usize = 51;
+
+/// A command gives no more data than this, in bytes.
+const MOST_GIVEN: usize = MOST_BLOCKS as usize * BLOCK_LENGTH;
+
+/// Of a command that may give more than this, in bytes, the data is sent from where it lies where its pieces may be
+/// as long.
+const LONG: usize = 16_384;
+
+/// Of the data of such a command no more is copied, in bytes.
+const MOST_COPIED: usize = 2048;
+
+/// The most data in bytes that a command may be answered.
+fn most_sent(frame: &Frame) -> usize
+    ensures value { result ≡ most_data_sent frame.now }
+    ensures bound { result ≤ most_given }
+{
+    let header = &frame.header;
+    if !header.is_read() || header.is_write() {
+        return 0;
+    }
+    MOST_GIVEN.min(header.expected_transfer_length() as usize)
+}
+
+/// A command may give much data, and so its buffer may be large.
+pub(crate) fn is_long(frame: &Frame) -> bool
+    ensures { result ≡ nat_lt 16384 (most_data_sent frame.now) }
+{
+    most_sent(frame) > LONG
+}
+
+/// At which multiples data is cut that is sent from where it lies. There are none where its pieces would be short.
+fn long_limits(values: &Values) -> Option<Limits>
+    requires { AreInRange values.now }
+    ensures some { is_some result ≡ cuts_long values.now }
+    ensures value { IfSome result (λ limits. limits ≡ limits_of values.now) }
+    ensures aligned { IfSome result (λ limits. AreAligned limits) }
+{
+    let limits = Limits::of(values)?;
+    if limits.burst < LONG || limits.segment < LONG {
+        return None;
+    }
+    Some(limits)
+}
+
+/// How much data of a command is copied, in bytes at most.
+fn most_copied(values: &Values, frame: &Frame) -> usize
+    requires { AreInRange values.now }
+    ensures value { result ≡ most_copied values.now frame.now }
+    ensures bound { result ≤ most_given }
+{
+    if is_long(frame) && long_limits(values).is_some() {
+        return MOST_COPIED;
+    }
+    most_sent(frame)
+}
+
+/// At which multiples so much data of a command is cut, where it is sent from where it lies. There are none where it
+/// is to be copied, and there is room for that then.
+pub(crate) fn limits_for(values: &Values, frame: &Frame, sent: usize) -> Option<Limits>
+    requires values { AreInRange values.now }
+    requires sent { sent ≤ most_data_sent frame.now }
+    ensures copied { IfNone result (sent ≤ most_copied values.now frame.now) }
+    ensures some { IfSome result (λ limits. 0 < sent) }
+    ensures value { IfSome result (λ limits. limits ≡ limits_of values.now) }
+    ensures aligned { IfSome result (λ limits. AreAligned limits) }
+{
+    if sent <= most_copied(values, frame) {
+        return None;
+    }
+    long_limits(values)
+}
+
+/// How many Data-Ins are copied for a command, at most.
+fn most_pieces(values: &Values, frame: &Frame) -> usize
+    requires { AreInRange values.now }
+    ensures value { result ≡ most_pieces values.now frame.now }
+    ensures bound { result ≤ most_given }
+{
+    count_of(values, most_copied(values, frame))
+}
+
+/// How many bytes the answers of a command may take, at most, beside data that is sent from where it lies.
+pub(crate) fn room_for(values: &Values, frame: &Frame) -> usize
+    requires { AreInRange values.now }
+    ensures { result ≡ room_for values.now frame.now }
+{
+    most_pieces(values, frame) * LONGEST_FRAME + most_copied(values, frame) + LONGEST_RESPONSE
+}
+
+/// Makes room for all that a command is answered. Where an allocation fails what waits stays the same.
+pub(crate) fn make_room(out: &mut Outbox, values: &Values, frame: &Frame) -> Result<(), Memory>
+    requires { AreInRange values.now }
+    ensures room { OnOk result (room_for values.now frame.now ≤ out.new.spare) }
+    ensures slot { OnOk result (1 ≤ out.new.slots) }
+    ensures same { out.new.items ≡ out.old.items }
+{
+    out.reserve(room_for(values, frame))?;
+    Ok(())
+}

@@ -1,0 +1,151 @@
+//! What waits on the connections is sent.
+
+ghost use Rattle.std.specs.Prelude.{◌≡◌, ◌<◌, ◌≤◌, ◌+◌, ◌++◌, ℕ, true, length, take, IfSome, IfNone, OnOk};
+ghost use Rattle.iscsi_login.specs.LoginState.{IsTargetBelow};
+ghost use Rattle.iscsi_target.specs.Bounded.{Bounded};
+ghost use Rattle.iscsi_target.specs.History.{History};
+ghost use Rattle.iscsi_target.specs.World.{Setting};
+ghost use Rattle.iscsi_target.specs.Machine.{IsSound, ReflectsSoundness, WhereSound, IsSure, sent_link, link_at, with_link, is_silent, is_open_at};
+ghost use Rattle.iscsi_target.specs.Stands.{Stands, with_sent};
+
+use crate::target::Target;
+use bytes::BytesMut;
+use connection_numbers::CONNECTIONS;
+use media_store::Store;
+use out_of_memory::Memory;
+
+impl<S: Store> Target<S> {
+    /// What is to be sent next on a connection, as many bytes as stand together: a front of all that waits, empty only
+    /// where nothing waits.
+    pub fn out(&self, c: usize) -> &[u8]
+        requires in_range { c < 64 }
+        requires open { is_open_at self.now c ≡ true }
+        ensures front { result.now ≡ take (length result.now) (link_at self.now c).waiting }
+        ensures some { 0 < length (link_at self.now c).waiting → 0 < length result.now }
+        ensures within { length result.now ≤ length (link_at self.now c).waiting }
+    {
+        self.connections.at(c).out()
+    }
+
+    /// Appends all that waits on a connection: nothing where it is not open.
+    pub(crate) fn copy_out(&self, c: usize, bytes: &mut Vec<u8>) -> Result<(), Memory>
+        ensures { OnOk result (bytes.new.items ≡ bytes.old.items ++ (link_at self.now c).waiting) }
+    {
+        if let Some(connection) = self.connections.as_slice().get(c) {
+            connection.copy_to(bytes)?;
+        }
+        Ok(())
+    }
+
+    /// So many bytes were sent from the front of what waits on a connection.
+    pub fn sent(&mut self, c: usize, n: usize)
+        requires in_range { c < 64 }
+        requires open { is_open_at self.old c ≡ true }
+        requires waits { n ≤ length (link_at self.old c).waiting }
+        ensures now { self.new ≡ with_link self.old c (sent_link (link_at self.old c) n) }
+        ensures sound { IsSound self.new → IsSound self.old }
+        ensures each { ReflectsSoundness self.old self.new }
+        ensures sure { IsSure self.old → IsSure self.new }
+        ensures stands { (s : Setting) (sent : ℕ → ℕ) (h : History) → WhereSound self.old (Stands s sent self.old h)
+            → WhereSound self.new (Stands s (with_sent sent c (sent c + n)) self.new h) }
+        ensures always { (s : Setting) (sent : ℕ → ℕ) (h : History) → Stands s sent self.old h → Stands s (with_sent sent c (sent c + n)) self.new h }
+        ensures bounded { Bounded self.old → Bounded self.new }
+    {
+        self.advance(c, n);
+        self.note(c);
+        self.rest();
+    }
+
+    /// So many bytes are taken from the front of what waits on a connection. The buffers of data that was sent to its end
+    /// are used again.
+    fn advance(&mut self, c: usize, n: usize)
+        requires in_range { c < 64 }
+        requires waits { n ≤ length (link_at self.old c).waiting }
+        ensures sent { self.new ≡ with_link self.old c (sent_link (link_at self.old c) n) }
+        ensures count { length self.old.links ≡ 64 }
+    {
+        let target = self.home(c);
+        let mut unsent = n;
+        while unsent > 0 {
+            let skipped = self.skip_front(c, unsent);
+            self.give_back(target, skipped.1);
+            unsent -= skipped.0;
+        }
+    }
+
+    /// The target of a connection's session, where it has one, which is one of these.
+    #[tactic(auto, using(crate::proofs::Sent::target_below))]
+    pub(crate) fn home(&self, c: usize) -> Option<usize>
+        requires { c < 64 }
+        ensures below { IsTargetBelow (length self.now.units) result }
+        ensures count { length self.now.links ≡ 64 }
+    {
+        self.connections.at(c).target()
+    }
+
+    /// Of so many bytes that were sent on a connection, those that stood together are taken from the front. Says how many
+    /// these are, and gives the buffer of a command's data that was sent to its end.
+    fn skip_front(&mut self, c: usize, n: usize) -> (usize, Option<BytesMut>)
+        requires in_range { c < 64 }
+        requires waits { n ≤ length (link_at self.old c).waiting }
+        ensures within { result.0 ≤ n }
+        ensures some { 0 < n → 0 < result.0 }
+        ensures sent { self.new ≡ with_link self.old c (sent_link (link_at self.old c) result.0) }
+        ensures count { length self.old.links ≡ 64 }
+    {
+        let connection = self.connections.at_mut(c);
+        connection.skip_front(n)
+    }
+
+    /// The units of a target use a buffer again, where there are both.
+    #[tactic(auto, using(crate::proofs::Sent::same_units))]
+    fn give_back(&mut self, target: Option<usize>, buffer: Option<BytesMut>)
+        requires { IsTargetBelow (length self.old.units) target }
+        ensures { self.new ≡ self.old }
+    {
+        let Some(target) = target else {
+            return;
+        };
+        let Some(buffer) = buffer else {
+            return;
+        };
+        let units = &mut self.units[target];
+        units.give_back(buffer);
+    }
+
+    /// What is found of the connection is remembered.
+    fn note(&mut self, c: usize)
+        requires { c < 64 }
+        ensures { self.new ≡ self.old }
+    {
+        self.connections.note(c);
+    }
+
+    /// One connection after the other gives back room that it does not need, so that one that is idle does not keep what
+    /// its largest answer took.
+    fn rest(&mut self)
+        ensures { self.new ≡ self.old }
+    {
+        let c = self.resting % CONNECTIONS;
+        self.resting = c + 1;
+        self.connections.rest(self.alloc, c);
+    }
+
+    /// Nothing waits to be sent on the connection, and it is not closing.
+    pub fn is_silent(&self, c: usize) -> bool
+        requires { c < 64 }
+        ensures { result ≡ is_silent (link_at self.now c) }
+    {
+        self.connections.is_silent(c)
+    }
+
+    /// The next connection from this one on to look at for bytes to be sent, or for its end: on all before it nothing
+    /// waits, and none of them is closing.
+    pub fn next_busy(&self, from: usize) -> Option<usize>
+        ensures found { IfSome result (λ c. (from ≤ c) × (c < 64)) }
+        ensures before { IfSome result (λ c. (d : ℕ) → from ≤ d → d < c → is_silent (link_at self.now d) ≡ true) }
+        ensures none { IfNone result ((d : ℕ) → from ≤ d → d < 64 → is_silent (link_at self.now d) ≡ true) }
+    {
+        self.connections.next_busy(from)
+    }
+}
