@@ -35,11 +35,13 @@ class Failed(Exception):
 
 class Script(NamedTuple):
     """How many initiators there are, what is sent, each part by one of them, and how a part's answer is had: it sends
-    the part, and gives the answer and whether the connection is open behind it. And whether there is a log."""
+    the part, and gives the answer and whether the connection is open behind it. And whether there is a log, and what the
+    disk holds at first."""
     initiators: int
     parts: list
     exchange: Callable
     is_logged: bool = False
+    disk: bytes = bytes(LENGTH)
 
 
 class Ended(NamedTuple):
@@ -54,9 +56,9 @@ class Ended(NamedTuple):
 
 
 @contextmanager
-def started(program, shim, folder, report, settings, log):
-    """The program on a disk of zeros, and the port that it listens on, or None where it has ended."""
-    (folder / "disk").write_bytes(bytes(LENGTH))
+def started(program, shim, folder, report, settings, log, disk):
+    """The program on a disk with this content, and the port that it listens on, or None where it has ended."""
+    (folder / "disk").write_bytes(disk)
     (folder / "config.toml").write_text(CONFIG.format(log, folder / "disk"), encoding="ascii")
     chosen = {f"FAIL_{name.upper()}": str(value) for name, value in settings.items()}
     inherited = {**os.environ, "LD_PRELOAD": str(shim), **chosen, "FAIL_REPORT": str(report.fileno())}
@@ -76,6 +78,17 @@ def connected(port, count):
     for client in clients:
         client.setsockopt(socket.IPPROTO_TCP, socket.TCP_NODELAY, 1)
     return clients
+
+
+def received(client, count):
+    """So many bytes, or None where the connection has ended before."""
+    data = b""
+    while len(data) < count:
+        piece = client.recv(count - len(data))
+        if not piece:
+            return None
+        data += piece
+    return data
 
 
 def exchanged(script, clients, leaving):
@@ -101,7 +114,7 @@ def run(script, program, shim, leaving=None, **settings):
         log = folder / "log"
         log.touch()
         line = f'log = "{log}"\n' if script.is_logged else ""
-        with started(program, shim, folder, report, settings, line) as (process, port):
+        with started(program, shim, folder, report, settings, line, script.disk) as (process, port):
             try:
                 clients = connected(port, script.initiators) if port else []
             except OSError:

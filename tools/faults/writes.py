@@ -9,7 +9,7 @@ import errno
 import socket
 from typing import NamedTuple
 
-from faults.serve import LENGTH, Failed, Script, each_call, run
+from faults.serve import LENGTH, Failed, Script, each_call, received, run
 from wire import notation, pdu
 
 LOGIN = '[Login-Request I T CSG=1 NSG=3 ITT=16 CmdSN=1 | "InitiatorName={}" 00 "TargetName=t1" 00 "InitialR2T=No" 00]'
@@ -49,17 +49,6 @@ MISCOMPARED = 5  # the part whose command finds a difference
 READ_ERROR, WRITE_ERROR, NOT_READY = ((3, 0x1100), (3, 0x0C00), (4, 0x4400))
 
 
-def received(client, count):
-    """So many bytes, or None where the connection has ended before."""
-    data = b""
-    while len(data) < count:
-        piece = client.recv(count - len(data))
-        if not piece:
-            return None
-        data += piece
-    return data
-
-
 def exchange(client, sent):
     """Sends a part, and gives the PDU that it is answered by, or None where the connection has ended."""
     try:
@@ -84,19 +73,20 @@ def sense_of(answer):
 
 
 def check_disk(ended, lost=()):
-    """Each command's blocks are as before or as it writes them, and it was answered where they are, but for those whose
-    answers may be lost."""
+    """Each command's blocks are as before or as it writes them, but for one that was told of a failed write, of which a
+    part may be there; and it was answered where they are, but for those whose answers may be lost."""
     expected = bytearray(LENGTH)
     for command in COMMANDS:
         found = ended.disk[command.at:command.at + len(command.content)]
         answer, is_written = ended.answers[command.part], found == command.content
-        if not is_written and found != bytes(len(found)):
+        is_torn = bool(answer) and sense_of(answer) == WRITE_ERROR
+        if not is_written and not is_torn and found != bytes(len(found)):
             raise Failed(f"block {command.at // 512}: a part of a write is there")
         if is_written and not answer and ended.status is None and PARTS[command.part][0] not in lost:
             raise Failed(f"block {command.at // 512}: written, and not answered")
         if answer and answer[3] == 0 and not is_written:
             raise Failed(f"block {command.at // 512}: answered with GOOD, and not written")
-        if answer and answer[3] != 0 and is_written and sense_of(answer) != WRITE_ERROR:
+        if answer and answer[3] != 0 and is_written and not is_torn:
             raise Failed(f"block {command.at // 512}: refused, and written")
         expected[command.at:command.at + len(found)] = found
     if ended.disk != bytes(expected):

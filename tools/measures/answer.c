@@ -4,6 +4,9 @@
                                          a WRITE are passed over
        answer limit CONNECTIONS BYTES     has a store of so many bytes. The data of a READ is copied from there into its
                                          answer, and that of a WRITE from what was read to there, each once
+       answer staged CONNECTIONS BYTES    the same, but it reads 64 KiB at a time, and the data of a WRITE is copied from
+                                         there into a buffer that the command has to itself, and from that one to the
+                                         store once all of it has come. Buffers are used again
 
    It prints its port, and answers whoever connects. Where one connects at a time it waits for nothing but the next
    bytes of that one; where more do, it asks epoll. Every login is accepted, every command is a READ, a WRITE or
@@ -13,18 +16,31 @@
 #include <sys/epoll.h>
 #include <unistd.h>
 
-enum { READS = 0x40, WRITES = 0x20, TAGS = 64 };
+enum { READS = 0x40, WRITES = 0x20, TAGS = 64, LONGEST = 1 << 20 /* bytes that a command has at most */, STAGE = 65536 };
+
+/* What the data of a WRITE comes into that is copied twice, or one that waits to be used again. */
+union buffer {
+    union buffer *next;
+    unsigned char bytes[LONGEST];
+};
+
+struct command {
+    size_t at, length;  /* where in the store its data begins */
+    union buffer *own;  /* of a WRITE whose data is copied twice */
+};
 
 struct client {
     int fd;
-    size_t held, rest;  /* how much of a header was read, and how much of its data is still to come */
-    size_t at;          /* where in the store that data goes */
-    size_t front[TAGS]; /* where in the store the data of a command begins, by its tag */
+    size_t held, rest;             /* how much of a header was read, and how much of its data is still to come */
+    unsigned char *to;             /* where that data goes, if anywhere */
+    struct command commands[TAGS]; /* by their tags */
     unsigned char header[HEADER];
 };
 
 static unsigned char *store; /* none where data is not touched */
-static size_t store_size;
+static size_t store_size, at_once = MOST; /* and how much is read at once */
+static int is_staged;
+static union buffer *spare;
 static unsigned char out[MOST + 2 * HEADER + MOST]; /* what waits to be written, to one client at a time */
 static size_t waiting;
 
@@ -52,52 +68,105 @@ static unsigned char *add(const struct client *client, unsigned char operation, 
     return header;
 }
 
-/* Ends where data of this length does not lie in the store at this place, or is too long for a PDU. */
-static void check(size_t at, size_t length)
+/* Ends where something is not so that must be. */
+static void must(int is_so)
 {
-    if (length > MOST || (store != NULL && at + length > store_size)) {
-        fprintf(stderr, "a command is beyond the store\n");
+    if (!is_so) {
+        fprintf(stderr, "a command is too long, or beyond the store\n");
         exit(1);
     }
 }
 
-/* Where in the store the data of the command begins whose tag was read. */
-static size_t *front_of(struct client *client)
+/* A buffer that nobody has, the last that was given back where there is one. */
+static union buffer *taken(void)
 {
-    return &client->front[number(client->header, 16) % TAGS];
+    union buffer *buffer = spare;
+    if (buffer == NULL)
+        return room(sizeof *buffer);
+    spare = buffer->next;
+    return buffer;
+}
+
+/* Gives back the buffer that a command has, if it has any. */
+static void give_back(struct command *command)
+{
+    if (command->own == NULL)
+        return;
+    command->own->next = spare;
+    spare = command->own;
+    command->own = NULL;
+}
+
+/* The command whose tag was read. */
+static struct command *command_of(struct client *client)
+{
+    return &client->commands[number(client->header, 16) % TAGS];
 }
 
 /* The data of a PDU begins whose header was read. */
 static void begin(struct client *client)
 {
     const unsigned char *header = client->header;
+    struct command *command = command_of(client);
+    size_t at = opcode(header) == DATA_OUT ? number(header, 40) : 0;
     client->rest = behind(header);
+    client->to = NULL;
     if (opcode(header) == COMMAND) {
-        *front_of(client) = number(header, 34) * BLOCK;
-        check(*front_of(client), number(header, 20));
+        command->at = number(header, 34) * BLOCK;
+        command->length = number(header, 20);
+        must(command->length <= LONGEST && (store == NULL || command->at + command->length <= store_size));
+        if (is_staged && header[1] & WRITES)
+            command->own = taken();
     }
-    client->at = *front_of(client) + (opcode(header) == DATA_OUT ? number(header, 40) : 0);
-    if (opcode(header) != LOGIN)
-        check(client->at, client->rest);
+    if (store == NULL || opcode(header) == LOGIN || client->rest == 0)
+        return;
+    must(at + client->rest <= command->length);
+    client->to = command->own != NULL ? command->own->bytes + at : store + command->at + at;
+}
+
+/* Answers a READ by its data, a PDU for as much as each may have. */
+static void answer_read(const struct client *client, const struct command *command)
+{
+    for (size_t at = 0, part; at < command->length; at += part) {
+        part = smaller(command->length - at, MOST);
+        unsigned char *data = add(client, DATA_IN, FINAL);
+        put_number(data, 4, part);
+        put_number(data, 40, at);
+        if (store != NULL)
+            memcpy(out + waiting, store + command->at + at, part);
+        waiting += part;
+        if (waiting >= MOST)
+            flush(client);
+    }
+}
+
+/* Answers a WRITE all of whose data has come, which is stored where it was not before. */
+static void answer_write(struct client *client)
+{
+    struct command *command = command_of(client);
+    if (command->own != NULL)
+        memcpy(store + command->at, command->own->bytes, command->length);
+    give_back(command);
+    add(client, RESPONSE, FINAL);
 }
 
 /* Answers a command, behind the data that came with it. */
 static void answer_command(struct client *client)
 {
-    const unsigned char *command = client->header;
-    size_t length = number(command, 20), came = segment(command);
-    if (command[1] & WRITES && came < length) {
+    const unsigned char *header = client->header;
+    size_t length = number(header, 20), came = segment(header);
+    if (header[1] & WRITES && came < length) {
         unsigned char *r2t = add(client, R2T, FINAL);
         put_number(r2t, 40, came);
         put_number(r2t, 44, length - came);
         return;
     }
-    if (command[1] & READS && length > 0) {
-        put_number(add(client, DATA_IN, FINAL), 4, length);
-        if (store != NULL)
-            memcpy(out + waiting, store + *front_of(client), length);
-        waiting += length;
+    if (header[1] & WRITES) {
+        answer_write(client);
+        return;
     }
+    if (header[1] & READS)
+        answer_read(client, command_of(client));
     add(client, RESPONSE, FINAL);
 }
 
@@ -119,7 +188,7 @@ static void answer(struct client *client)
     else if (opcode(header) == LOGIN)
         answer_login(client);
     else if (opcode(header) == DATA_OUT && header[1] & FINAL)
-        add(client, RESPONSE, FINAL);
+        answer_write(client);
     if (waiting >= MOST)
         flush(client);
 }
@@ -135,9 +204,10 @@ static void take(struct client *client, const unsigned char *in, size_t count)
             if (client->held == HEADER)
                 begin(client);
         } else {
-            if (store != NULL && opcode(client->header) != LOGIN)
-                memcpy(store + client->at, in, more);
-            client->at += more;
+            if (client->to != NULL) {
+                memcpy(client->to, in, more);
+                client->to += more;
+            }
             client->rest -= more;
         }
         in += more;
@@ -154,9 +224,11 @@ static void take(struct client *client, const unsigned char *in, size_t count)
 static int is_served(struct client *client)
 {
     static unsigned char in[MOST];
-    ssize_t n = read(client->fd, in, sizeof in);
+    ssize_t n = read(client->fd, in, at_once);
     if (n <= 0) {
         close(client->fd);
+        for (int k = 0; k < TAGS; k++)
+            give_back(client->commands + k);
         free(client);
         return 0;
     }
@@ -206,12 +278,17 @@ static void serve_many(int listener)
 
 int main(int count, char **words)
 {
-    int is_limit = count == 4 && strcmp(words[1], "limit") == 0 && atol(words[3]) > 0;
-    if (!is_limit && (count != 3 || strcmp(words[1], "plain") != 0)) {
-        fprintf(stderr, "answer plain CONNECTIONS | answer limit CONNECTIONS BYTES\n");
+    const char *kind = count > 1 ? words[1] : "";
+    int has_store = count == 4 && (strcmp(kind, "limit") == 0 || strcmp(kind, "staged") == 0) && atol(words[3]) > 0;
+    if (!has_store && (count != 3 || strcmp(kind, "plain") != 0)) {
+        fprintf(stderr, "answer plain CONNECTIONS | answer limit CONNECTIONS BYTES | answer staged CONNECTIONS BYTES\n");
         return 2;
     }
-    if (is_limit) {
+    if (has_store && strcmp(kind, "staged") == 0) {
+        is_staged = 1;
+        at_once = STAGE;
+    }
+    if (has_store) {
         store_size = (size_t)atol(words[3]);
         store = room(store_size);
         memset(store, 1, store_size); /* so that all its memory was used before */

@@ -4,29 +4,16 @@
 
    It logs in on so many `connections` (1), each a session of its own, to the target whose name is `target` (t1). On
    each it keeps `window` (1) commands in flight to the unit `lun` (0), until `count` were sent or the `milliseconds`
-   are over. Then it prints how many commands were answered, the seconds that these took, and the median and the 99th
-   percentile of the microseconds from the sending of a command to its answer.
+   are over. Then it prints how many commands were answered, the seconds that these took, and of the microseconds from the
+   sending of a command to its answer the median, the 99th percentile and the most.
 
    What else the words may be stands in tools/measures/load.h. */
 
-#include "load.h"
+#include "session.h"
 #include <pthread.h>
 #include <sys/epoll.h>
-#include <unistd.h>
 
-enum { FIRST_BURST = 65536, SEGMENT = 8192, TAGS = 1024, ATTENTIONS = 8 };
-enum { THREADS = 2, SAMPLES = 1 << 20, RESIDUAL = 0x06, HAS_STATUS = 0x01, IMMEDIATE = 0x40 };
-
-struct session {
-    int fd;
-    unsigned next; /* the number and the tag of the next command */
-    long sent, answered;
-    size_t segment;    /* how much data a PDU to the target may have */
-    long asks;         /* MaxOutstandingR2T */
-    size_t held, rest; /* how much of a header was read, and how much of its data is still to come */
-    unsigned char header[HEADER];
-    uint64_t began[TAGS]; /* when a command was sent, by its tag */
-};
+enum { FIRST_BURST = 65536, THREADS = 2, SAMPLES = 1 << 20, RESIDUAL = 0x06, HAS_STATUS = 0x01 };
 
 /* A thread, which works for some of the sessions. */
 struct worker {
@@ -38,122 +25,10 @@ struct worker {
     uint32_t *samples;       /* nanoseconds from each command to its answer */
 };
 
-static void refused(const char *what, const unsigned char *header)
-{
-    fprintf(stderr, "%s: PDU %02x %02x %02x %02x\n", what, header[0], header[1], header[2], header[3]);
-    exit(1);
-}
-
-static void put(int fd, const unsigned char *bytes, size_t size)
-{
-    while (size > 0) {
-        ssize_t n = send(fd, bytes, bytewise ? 1 : size, MSG_NOSIGNAL);
-        if (n <= 0)
-            fail("send");
-        bytes += n;
-        size -= (size_t)n;
-    }
-}
-
-static void get(int fd, unsigned char *bytes, size_t size)
-{
-    while (size > 0) {
-        ssize_t n = read(fd, bytes, size);
-        if (n <= 0)
-            fail("read");
-        bytes += n;
-        size -= (size_t)n;
-    }
-}
-
-/* Sends a PDU that has the next number, and reads the one that answers it: its header, and its data as a text. */
-static const char *exchange(struct session *session, unsigned char *pdu, size_t size)
-{
-    static unsigned char text[MOST + 1];
-    put_number(pdu, 16, session->next);
-    put_number(pdu, 24, session->next);
-    put(session->fd, pdu, size);
-    get(session->fd, session->header, HEADER);
-    if (behind(session->header) > MOST)
-        refused("too much data", session->header);
-    get(session->fd, text, behind(session->header));
-    text[behind(session->header)] = 0;
-    return (const char *)text;
-}
-
-/* The number that a text has for a key, or another where it has none. */
-static long value_of(const char *text, size_t size, const char *name, long other)
-{
-    for (const char *key = text; key < text + size; key += strlen(key) + 1)
-        if (strncmp(key, name, strlen(name)) == 0)
-            return atol(key + strlen(name));
-    return other;
-}
-
-/* Logs in, by the initiator port of this number, and notes what is in force. */
-static void login(struct session *session, int port_number)
-{
-    static const char limit[] = "MaxRecvDataSegmentLength=", most_asks[] = "MaxOutstandingR2T=";
-    unsigned char pdu[HEADER + 512] = {IMMEDIATE | LOGIN, LOGGED_IN, [8] = 0x80, [21] = 1};
-    char *data = (char *)pdu + HEADER;
-    int size = 1 + snprintf(data, 512, "InitiatorName=a%cTargetName=%s%cSessionType=Normal%c%s%d", 0, target, 0, 0,
-                            limit, MOST);
-    if (asks > 0 && size < 512)
-        size += 1 + snprintf(data + size, 512 - (size_t)size, "%s%ld", most_asks, asks);
-    if (burst > 0 && size < 512)
-        size += 1 + snprintf(data + size, 512 - (size_t)size, "MaxBurstLength=%ld", burst);
-    if (size > 512)
-        fail("the name of the target is too long");
-    put_number(pdu, 4, (size_t)size);
-    put_number(pdu, 10, (size_t)getpid() << 16 | (size_t)port_number);
-    const char *text = exchange(session, pdu, HEADER + behind(pdu));
-    if (opcode(session->header) != ACCEPTED || session->header[1] != LOGGED_IN || session->header[36] != 0)
-        refused("a login is refused", session->header);
-    session->segment = smaller((size_t)value_of(text, behind(session->header), limit, SEGMENT), MOST);
-    session->asks = value_of(text, behind(session->header), most_asks, 1);
-}
-
-/* Sends a command without data. Whether it is GOOD. */
-static int is_good(struct session *session, unsigned char operation)
-{
-    unsigned char command[HEADER] = {COMMAND, 0x81, [9] = (unsigned char)lun, [CDB] = operation};
-    exchange(session, command, HEADER);
-    session->next++;
-    return session->header[0] == RESPONSE && session->header[2] == 0 && session->header[3] == 0;
-}
-
-/* Sets the block length of a tape by MODE SELECT (6): a header of 4 bytes, and a block descriptor. Whether that is GOOD. */
-static int has_blocks(struct session *session)
-{
-    static const unsigned char list[12] = {[2] = 0x10, [3] = 8, [10] = BLOCK >> 8, [11] = BLOCK & 0xff};
-    unsigned char command[HEADER + sizeof list] = {COMMAND, 0xa1, [7] = sizeof list, [9] = (unsigned char)lun,
-                                                   [23] = sizeof list, [CDB] = MODE_SELECT, PAGE_FORMAT,
-                                                   [CDB + 4] = sizeof list};
-    memcpy(command + HEADER, list, sizeof list);
-    exchange(session, command, sizeof command);
-    session->next++;
-    return session->header[0] == RESPONSE && session->header[2] == 0 && session->header[3] == 0;
-}
-
-/* Begins a session whose unit is ready. A tape is rewound, and has its block length. */
-static void begin(struct session *session, int port_number)
-{
-    int told = 0;
-    session->fd = connected((unsigned short)port);
-    login(session, port_number);
-    while (!is_good(session, TEST_UNIT_READY)) /* until its unit attentions are told */
-        if (++told > ATTENTIONS)
-            refused("the unit is not ready", session->header);
-    if (kind->is_tape && !is_good(session, REWIND))
-        refused("the tape is not rewound", session->header);
-    if (is_fixed() && !has_blocks(session))
-        refused("the block length is refused", session->header);
-}
-
 /* The bytes of a WRITE that come with its command. */
 static size_t immediate(const struct session *session)
 {
-    return has_data_out() ? smaller((size_t)length, smaller(FIRST_BURST, session->segment)) : 0;
+    return has_data_out() && !bare ? smaller((size_t)length, smaller(FIRST_BURST, session->segment)) : 0;
 }
 
 /* The header of the next command. */
@@ -333,8 +208,8 @@ static void wait_behind(const char *line)
         exit(0);
 }
 
-/* How many commands were answered, in how many seconds, and how long they took: half of them and all but one in a
-   hundred. */
+/* How many commands were answered, in how many seconds, and how long they took: half of them, all but one in a hundred, and
+   all. */
 static const char *told(const struct worker *workers, double seconds)
 {
     static uint32_t samples[THREADS * SAMPLES];
@@ -346,8 +221,8 @@ static const char *told(const struct worker *workers, double seconds)
         answered += workers[k].answered;
     }
     qsort(samples, (size_t)sampled, sizeof *samples, by_size);
-    snprintf(line, sizeof line, "%ld %.6f %.2f %.2f", answered, seconds, samples[sampled / 2] / 1e3,
-             samples[sampled * 99 / 100] / 1e3);
+    snprintf(line, sizeof line, "%ld %.6f %.2f %.2f %.2f", answered, seconds, samples[sampled / 2] / 1e3,
+             samples[sampled * 99 / 100] / 1e3, samples[sampled > 0 ? sampled - 1 : 0] / 1e3);
     return line;
 }
 

@@ -27,11 +27,11 @@ def beside(bench, name, load):
     with bench.targets() as targets, \
             bench.ends.held(targets[name], milliseconds=bench.pace.milliseconds, **VICTIM) as victim:
         if load is None:
-            return victim.go()[2:]
+            return victim.go()[2:4]
         with bench.ends.held(targets[name], **load) as others:
             others.begin()
             time.sleep(AT_WORK)
-            return victim.go()[2:]
+            return victim.go()[2:4]
 
 
 def waits(bench, load):

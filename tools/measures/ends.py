@@ -118,7 +118,8 @@ class Held:
         self.process.stdin.flush()
 
     def go(self):
-        """Lets them work, and gives how many of their commands were answered, in how many seconds, and how fast."""
+        """Lets them work, and gives how many of their commands were answered, in how many seconds, and in how many
+        microseconds half of them, all but one in a hundred, and all."""
         self.begin()
         return [float(word) for word in self.line().split()]
 
@@ -169,7 +170,7 @@ class Ends:
         """What was seen of a server that was asked so, once all sessions were logged in."""
         with self.held(served, **load) as held:
             before = processor_seconds(served.pid)
-            answered, seconds, middle, late = held.go()
+            answered, seconds, middle, late, _ = held.go()
             cost = (processor_seconds(served.pid) - before) * 1e6
         return Seen(answered / seconds, cost / max(1, answered), middle, late)
 

@@ -12,6 +12,7 @@
 
    held=1     once it is logged in it prints "logged in" and waits for a line of its input, and once it has printed
               what was answered it waits for the next, so that its sessions stay
+   bare=1     no data comes with its WRITEs, so that all of it is asked for
    stalled=1  it does not read the answers, but sends as many commands as there may be in flight
    apart=1    a session sends nothing before all commands of the one before it are answered
    bytewise=1 each byte is sent by a call of its own
@@ -48,7 +49,7 @@ static const struct kind {
 static const struct kind *kind = kinds;
 static const char *target = "t1";
 static long port, lun, connections = 1, window = 1, count = 1L << 40, milliseconds = 3600000, length;
-static long over = 1, held, stalled, apart, bytewise, flood, asks, burst;
+static long over = 1, held, bare, stalled, apart, bytewise, flood, asks, burst;
 static const struct {
     const char *name;
     long *value, most;
@@ -61,6 +62,7 @@ static const struct {
                {"length", &length, ROOM},
                {"over", &over, (1 << 23) - 1},
                {"held", &held, 1},
+               {"bare", &bare, 1},
                {"stalled", &stalled, 1},
                {"apart", &apart, 1},
                {"bytewise", &bytewise, 1},

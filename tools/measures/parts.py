@@ -6,23 +6,12 @@ from functools import partial
 from measures.busy import fairness
 from measures.ends import BLOCK, SIZE, processor_seconds, ran, resident, settle
 from measures.far import far
+from measures.holding import headers, parts, unread, written
+from measures.requests import requests
 from measures.rows import FIGURES, OURS, figures, head, ratios, row, spread
 from measures.tape_parts import opening, reading, spacing, tape
 from sockets import logins
 
-# What a load is called, its kind, its data in bytes, and how many are in flight.
-LOADS = [("TEST UNIT READY", "read", 0, (1, 32)),
-         ("READ of 4 KiB", "read", 4096, (1, 32)),
-         ("READ of 256 KiB", "read", 262144, (1, 8, 32)),
-         ("VERIFY of 256 KiB", "verify", 262144, (1,)),  # before any WRITE, since it compares with zeros
-         ("WRITE of 4 KiB", "write", 4096, (1, 32)),
-         ("WRITE of 256 KiB", "write", 262144, (1, 8, 32))]
-# Aims by the load and how many are in flight: microseconds and calls for each, and times the limit.
-AIMS = {("READ of 4 KiB", 1): (None, 3, None),
-        ("READ of 4 KiB", 32): (1.5, 0.3, None),
-        ("READ of 256 KiB", 8): (None, None, 1.3)}
-# Beside what a load stands, with one in flight, and the aim: times its cost.
-BESIDE = {"VERIFY of 256 KiB": ("READ of 256 KiB", 1.5)}
 CONNECTIONS = (1, 4, 16, 64)
 ALONE = "alone"
 # What neighbours there are, and the aim: times the cost alone. Those who are stalled ask for more than a system takes.
@@ -38,43 +27,6 @@ SESSIONS = 64
 # What initiators do: the bytes of a request, how many are in flight, and how many WRITEs are sent.
 TRANSFERS = [(4096, 1, 10000), (4096, 32, 20000), (262144, 1, 1000), (262144, 32, 2000)]
 PERF_SECONDS, TURNS = 1, 3
-
-
-def requests_of(bench, what, window, servers, **load):
-    """Prints what was seen of each server under a load, and gives what each command cost it."""
-    found = bench.seen(servers, window=window, **load)
-    for name, seen in found.items():
-        calls = bench.calls(servers[name], window=window, **load)
-        times = ratios(seen.cost, found["limit"].cost)
-        aims = zip((seen.cost, calls, times), AIMS.get((what, window), ()), ("us", "calls", "times the limit"))
-        judged = [bench.aims.judged(f"{what}, {window} in flight", values, most, unit)
-                  for values, most, unit in aims if name == OURS]
-        row(what, str(window), name, *figures(seen, calls), "" if name == "limit" else spread(times),
-            "; ".join(filter(None, judged)))
-    return {name: seen.cost for name, seen in found.items()}
-
-
-def beside_others(bench, costs):
-    """Prints what loads cost beside others, by what the commands of each cost each server with one in flight."""
-    head("One in flight", "Server", "Cost", "Aim")
-    for what, (other, most) in BESIDE.items():
-        for name, cost in costs[what, 1].items():
-            times = ratios(cost, costs[other, 1][name])
-            row(what, name, f"{spread(times)} times {other}",
-                bench.aims.judged(f"{what}, 1 in flight", times, most, f"times {other}") if name == OURS else "")
-
-
-def requests(bench):
-    """One connection, and every load."""
-    with bench.targets(with_files=True) as targets, bench.ends.plain("limit", "1", str(SIZE)) as limit, \
-            bench.ends.plain("plain", "1") as plain:
-        head("One connection", "In flight", "Server", *FIGURES, "Times the limit", "Aim")
-        costs = {}
-        for what, kind, length, windows in LOADS:
-            for window in windows:
-                servers = {**targets, "limit": limit, "plain C": plain}
-                costs[what, window] = requests_of(bench, what, window, servers, kind=kind, length=length)
-        beside_others(bench, costs)
 
 
 def connections(bench):
@@ -222,5 +174,6 @@ def initiators(bench):
 
 
 PARTS = {"requests": requests, "connections": connections, "neighbours": neighbours, "fairness": fairness,
-         "memory": memory, "tape": tape, "spacing": spacing, "opening": opening, "reading": reading, "far": far,
-         "logins": logging_in, "tgt": initiators}
+         "memory": memory, "headers": headers, "written": written, "parts": parts, "unread": unread, "tape": tape,
+         "spacing": spacing, "opening": opening, "reading": reading, "far": far, "logins": logging_in,
+         "tgt": initiators}

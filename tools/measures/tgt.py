@@ -11,6 +11,8 @@ NAME = "iqn.2024-01.com.example:tgt"
 SOCKETS = Path("/var/run/tgtd")
 NEW, BOUND = (["--op", "new", "--mode", "target", "--tid", "1", "-T", NAME],
               ["--op", "bind", "--mode", "target", "--tid", "1", "-I", "ALL"])
+# As much data in a PDU to it as other targets take.
+SEGMENT = ["--op", "update", "--mode", "target", "--tid", "1", "--name", "MaxRecvDataSegmentLength", "--value", "262144"]
 UNIT = ["--op", "new", "--mode", "logicalunit", "--tid", "1", "--lun", "1", "-b"]
 TAPE = ["--device-type", "tape", "--bstype", "ssc"]
 
@@ -34,7 +36,7 @@ def begin(process, control, unit):
         if process.poll() is not None or time.monotonic() > end:
             raise OSError(f"tgtd does not answer: {why}")
         time.sleep(0.1)
-    for words in (NEW, [*UNIT, *unit], BOUND):
+    for words in (NEW, SEGMENT, [*UNIT, *unit], BOUND):
         if why := tell(control, words):
             raise OSError(f"tgtadm {' '.join(map(str, words))}: {why}")
 
