@@ -1,0 +1,110 @@
+//! What the target answers on a connection.
+
+use crate::digest::Digest;
+use crate::fault::Fault;
+use crate::requests::Header;
+use crate::wire::HEADER_LENGTH;
+use byteorder::{BigEndian, ByteOrder};
+use std::alloc::Global;
+
+/// An R2T: the target asks for a part of the data of a command.
+#[derive(Clone, Copy)]
+pub struct Asked {
+    pub tag: u32,
+    pub transfer: u32,
+    pub offset: u32,
+    pub length: usize,
+}
+
+/// The answers of a connection so far, and where the last of them is cut.
+#[derive(Drop)]
+pub struct Answers {
+    header: Header,
+    /// So much has come of the header that comes next.
+    had: usize,
+    /// So much is missing of the data segment that was begun.
+    missing: usize,
+    pub digest: Digest,
+    /// The R2Ts that have not been answered.
+    pub asked: Vec<Asked>,
+    /// How many answers came, Data-Ins and R2Ts left aside.
+    pub ended: u64,
+    /// How many SCSI Responses told GOOD.
+    pub good: u64,
+    /// The Target Transfer Tag of the last answer, and its byte 1.
+    pub transfer: u32,
+    pub flags: u8,
+}
+
+impl Answers {
+    /// None.
+    pub fn new(alloc: Global) -> Answers {
+        Answers {
+            header: [0; 48],
+            had: 0,
+            missing: 0,
+            digest: Digest::new(),
+            asked: Vec::new(alloc),
+            ended: 0,
+            good: 0,
+            transfer: 0,
+            flags: 0,
+        }
+    }
+
+    /// Takes what comes next.
+    pub fn take(&mut self, bytes: &[u8]) -> Result<(), Fault> {
+        self.digest.add(bytes);
+        let mut rest = bytes;
+        for _ in 0..bytes.len() {
+            if rest.is_empty() {
+                break;
+            }
+            let count = self.take_front(rest)?.min(rest.len());
+            rest = &rest[count..];
+        }
+        Ok(())
+    }
+
+    /// Takes some bytes at the front: how many.
+    fn take_front(&mut self, bytes: &[u8]) -> Result<usize, Fault> {
+        if self.missing > 0 {
+            let count = self.missing.min(bytes.len());
+            self.missing -= count;
+            return Ok(count);
+        }
+        let had = self.had.min(HEADER_LENGTH);
+        let count = bytes.len().min(HEADER_LENGTH - had);
+        self.header[had..had + count].copy_from_slice(&bytes[..count]);
+        self.had = had + count;
+        if self.had == HEADER_LENGTH {
+            self.had = 0;
+            self.take_header()?;
+        }
+        Ok(count)
+    }
+
+    /// A header is whole.
+    fn take_header(&mut self) -> Result<(), Fault> {
+        let header = self.header;
+        self.missing = (BigEndian::read_u24(&header[5..8]) as usize + 3) / 4 * 4;
+        self.transfer = BigEndian::read_u32(&header[20..24]);
+        self.flags = header[1];
+        match header[0] {
+            0x25 => {}
+            0x31 => self.asked.push(Asked {
+                tag: BigEndian::read_u32(&header[16..20]),
+                transfer: self.transfer,
+                offset: BigEndian::read_u32(&header[40..44]),
+                length: BigEndian::read_u32(&header[44..48]) as usize,
+            })?,
+            opcode => {
+                self.ended = self.ended.wrapping_add(1);
+                if opcode == 0x21 && header[3] == 0 {
+                    self.good = self.good.wrapping_add(1);
+                }
+            }
+        }
+        Ok(())
+    }
+}

@@ -1,0 +1,127 @@
+//! An initiator's bytes are brought to the target, and its answers are taken, as the loop over sockets does it.
+
+use crate::devices::{Targets, name_of};
+use crate::fault::Fault;
+use crate::host::Host;
+use crate::wire::Wire;
+
+/// The loop reads so many bytes at most.
+const MOST_READ: usize = 65_536;
+
+/// So many exchanges are enough for any command.
+const MOST_EXCHANGES: usize = 64;
+
+/// A connection is opened under a number.
+pub fn open(target: &mut Targets, c: usize) -> Result<(), Fault> {
+    if c >= 64 || target.is_open(c) {
+        return Err(Fault::Unanswered);
+    }
+    target.open(c)?;
+    Ok(())
+}
+
+/// A connection has ended, once all that waited on it was sent.
+pub fn close(target: &mut Targets, c: usize) -> Result<(), Fault> {
+    if c >= 64 || !target.is_open(c) || !target.closing(c) {
+        return Err(Fault::Unanswered);
+    }
+    target.gone(c);
+    Ok(())
+}
+
+/// Feeds bytes whole.
+pub fn feed(target: &mut Targets, c: usize, bytes: &[u8]) -> Result<(), Fault> {
+    if c >= 64 || !target.is_open(c) {
+        return Err(Fault::Unanswered);
+    }
+    target.feed(c, bytes)?;
+    Ok(())
+}
+
+/// Brings bytes that came together: of them as much as is wanted is fed at a time.
+fn bring_piece(target: &mut Targets, c: usize, bytes: &[u8]) -> Result<(), Fault> {
+    let mut rest = bytes;
+    for _ in 0..bytes.len() {
+        if rest.is_empty() || c >= 64 || !target.is_open(c) {
+            break;
+        }
+        let count = target.want(c).min(MOST_READ).min(rest.len());
+        let (front, behind) = rest.split_at(count);
+        target.feed(c, front)?;
+        rest = behind;
+    }
+    if !rest.is_empty() {
+        return Err(Fault::Unanswered);
+    }
+    Ok(())
+}
+
+/// Brings a stream that comes in pieces of so many bytes.
+pub fn bring(target: &mut Targets, c: usize, stream: &[u8], cut: usize) -> Result<(), Fault> {
+    let mut rest = stream;
+    for _ in 0..stream.len() {
+        if rest.is_empty() {
+            break;
+        }
+        let (front, behind) = rest.split_at(cut.max(1).min(rest.len()));
+        bring_piece(target, c, front)?;
+        rest = behind;
+    }
+    Ok(())
+}
+
+/// Takes all that the target answers.
+pub fn drain(target: &mut Targets, host: &mut Host) -> Result<(), Fault> {
+    let c = host.c;
+    for _ in 0..u64::MAX {
+        if c >= 64 || !target.is_open(c) {
+            return Err(Fault::Unanswered);
+        }
+        let front = target.out(c);
+        if front.is_empty() {
+            break;
+        }
+        let count = front.len();
+        host.answers.take(front)?;
+        target.sent(c, count);
+    }
+    Ok(())
+}
+
+/// Brings the stream, and what its commands are asked for in Data-Outs of so many bytes, until all is answered.
+pub fn exchange(
+    target: &mut Targets,
+    host: &mut Host,
+    wire: &mut Wire,
+    segment: usize,
+    cut: usize,
+) -> Result<(), Fault> {
+    for _ in 0..MOST_EXCHANGES {
+        bring(target, host.c, wire.stream(), cut)?;
+        drain(target, host)?;
+        if host.answers.asked.is_empty() {
+            break;
+        }
+        wire.go_on();
+        host.lay_asked(wire, segment);
+    }
+    if host.has_all() {
+        Ok(())
+    } else {
+        Err(Fault::Unanswered)
+    }
+}
+
+/// Opens a connection and logs in to a target, for Data-Ins of so many bytes.
+pub fn log_in(
+    target: &mut Targets,
+    host: &mut Host,
+    wire: &mut Wire,
+    number: usize,
+    segment: usize,
+) -> Result<(), Fault> {
+    open(target, host.c)?;
+    wire.begin(0);
+    host.lay_login(wire, name_of(number), segment)?;
+    exchange(target, host, wire, segment, MOST_READ)
+}

@@ -1,0 +1,167 @@
+//! One initiator, on a connection of its own.
+
+use crate::answers::{Answers, Asked};
+use crate::fault::Fault;
+use crate::random::Random;
+use crate::requests::{Command, data_out, login, logout, scsi_command, text};
+use crate::wire::Wire;
+use std::alloc::Global;
+use std::mem;
+
+/// What an initiator remembers of its session.
+#[derive(Drop)]
+pub struct Host {
+    /// The number of its connection.
+    pub c: usize,
+    /// Its name and ISID have this number.
+    pub number: usize,
+    tag: u32,
+    cmd_sn: u32,
+    pub answers: Answers,
+    /// How many answers it waits for in all, Data-Ins and R2Ts left aside.
+    pub expected: u64,
+    alloc: Global,
+}
+
+impl Host {
+    /// An initiator that has sent nothing.
+    pub fn new(alloc: Global, c: usize, number: usize, random: &mut Random) -> Host {
+        Host {
+            c,
+            number,
+            tag: 0,
+            cmd_sn: (random.number() & 0xffff_ffff) as u32,
+            answers: Answers::new(alloc),
+            expected: 0,
+            alloc,
+        }
+    }
+
+    /// A new session begins, on a connection of its own.
+    pub fn begin(&mut self, c: usize) {
+        self.c = c;
+    }
+
+    /// A tag that no other request of it bears.
+    pub fn next_tag(&mut self) -> u32 {
+        self.tag = self.tag.wrapping_add(1) & 0x7fff_ffff;
+        self.tag
+    }
+
+    /// The CmdSN of its next request.
+    pub fn cmd_sn(&self) -> u32 {
+        self.cmd_sn
+    }
+
+    /// The CmdSN of its next request, which is used.
+    pub fn next_cmd_sn(&mut self) -> u32 {
+        let cmd_sn = self.cmd_sn;
+        self.cmd_sn = cmd_sn.wrapping_add(1);
+        cmd_sn
+    }
+
+    /// One more answer is waited for.
+    pub fn expect(&mut self) {
+        self.expected = self.expected.wrapping_add(1);
+    }
+
+    /// Nothing more is waited for.
+    pub fn has_all(&self) -> bool {
+        self.answers.ended == self.expected
+    }
+
+    /// A SCSI Command comes next, with so much immediate data. Its tag.
+    pub fn lay(&mut self, wire: &mut Wire, command: &Command, data: usize) -> u32 {
+        let tag = self.next_tag();
+        let cmd_sn = self.next_cmd_sn();
+        wire.lay(&scsi_command(command, tag, cmd_sn, data), data);
+        self.expect();
+        tag
+    }
+
+    /// A SCSI Command comes next, with this immediate data.
+    pub fn lay_data(&mut self, wire: &mut Wire, command: &Command, data: &[u8]) {
+        let tag = self.next_tag();
+        let cmd_sn = self.next_cmd_sn();
+        wire.lay_text(&scsi_command(command, tag, cmd_sn, data.len()), data);
+        self.expect();
+    }
+
+    /// A text that asks for all targets comes next.
+    pub fn lay_send_targets(&mut self, wire: &mut Wire) {
+        let asked = b"SendTargets=All\0";
+        let tag = self.next_tag();
+        let cmd_sn = self.next_cmd_sn();
+        wire.lay_text(&text(0x80, tag, 0xffff_ffff, cmd_sn, asked.len()), asked);
+        self.expect();
+    }
+
+    /// A Logout Request comes next.
+    pub fn lay_logout(&mut self, wire: &mut Wire) {
+        let tag = self.next_tag();
+        let cmd_sn = self.next_cmd_sn();
+        wire.lay(&logout(tag, cmd_sn), 0);
+        self.expect();
+    }
+
+    /// The data that was asked for comes next, in Data-Outs of so many bytes.
+    pub fn lay_asked(&mut self, wire: &mut Wire, segment: usize) {
+        let asked = mem::replace(&mut self.answers.asked, Vec::new(self.alloc));
+        for part in asked.iter() {
+            lay_part(wire, part, segment);
+        }
+    }
+
+    /// A login to a target of this name comes next, for Data-Ins of so many bytes.
+    pub fn lay_login(
+        &mut self,
+        wire: &mut Wire,
+        target: &str,
+        segment: usize,
+    ) -> Result<(), Fault> {
+        let number = self.number;
+        let text = format!(in self.alloc;
+            "InitiatorName=iqn.2024-01.com.example:host{number}\0TargetName={target}\0SessionType=Normal\0HeaderDigest=None\0DataDigest=None\0MaxConnections=1\0InitialR2T=Yes\0ImmediateData=Yes\0MaxRecvDataSegmentLength={segment}\0MaxBurstLength=262144\0FirstBurstLength=65536\0DefaultTime2Wait=2\0DefaultTime2Retain=0\0MaxOutstandingR2T=4\0ErrorRecoveryLevel=0\0"
+        )?;
+        self.lay_login_text(wire, text.as_str());
+        Ok(())
+    }
+
+    /// A discovery login comes next.
+    pub fn lay_discovery(&mut self, wire: &mut Wire) -> Result<(), Fault> {
+        let number = self.number;
+        let text = format!(in self.alloc;
+            "InitiatorName=iqn.2024-01.com.example:host{number}\0InitiatorAlias=host{number}\0SessionType=Discovery\0HeaderDigest=None\0DataDigest=None\0DefaultTime2Wait=2\0DefaultTime2Retain=0\0IFMarker=No\0OFMarker=No\0ErrorRecoveryLevel=0\0MaxRecvDataSegmentLength=32768\0"
+        )?;
+        self.lay_login_text(wire, text.as_str());
+        Ok(())
+    }
+
+    /// A login with this text comes next.
+    fn lay_login_text(&mut self, wire: &mut Wire, text: &str) {
+        let isid = (self.number & 0xffff) as u16;
+        wire.lay_text(&login(isid, self.cmd_sn, text.len()), text.as_bytes());
+        self.expect();
+    }
+}
+
+/// The Data-Outs of a part that was asked for come next.
+fn lay_part(wire: &mut Wire, part: &Asked, segment: usize) {
+    let segment = segment.max(512);
+    let mut sent = 0usize;
+    let mut data_sn = 0u32;
+    for _ in 0..part.length {
+        if sent >= part.length {
+            break;
+        }
+        let count = segment.min(part.length - sent);
+        let last = sent + count == part.length;
+        let offset = part.offset.wrapping_add((sent & 0xffff_ffff) as u32);
+        wire.lay(
+            &data_out(part.tag, part.transfer, data_sn, offset, count, last),
+            count,
+        );
+        sent += count;
+        data_sn = data_sn.wrapping_add(1);
+    }
+}

@@ -1,0 +1,35 @@
+//! What came of a job.
+
+use crate::answers::Answers;
+
+/// What the target answered to the initiators of a job.
+#[derive(Clone, Copy)]
+pub struct Outcome {
+    /// A digest of all bytes.
+    pub digest: u64,
+    /// How many answers came, Data-Ins and R2Ts left aside.
+    pub answers: u64,
+    /// How many SCSI Responses told GOOD.
+    pub good: u64,
+}
+
+impl Outcome {
+    /// Of no initiator.
+    pub fn new() -> Outcome {
+        Outcome {
+            digest: 0,
+            answers: 0,
+            good: 0,
+        }
+    }
+
+    /// Another initiator was answered this.
+    pub fn add(&mut self, answers: &Answers) {
+        self.digest = self
+            .digest
+            .rotate_left(5)
+            .wrapping_add(answers.digest.value());
+        self.answers = self.answers.wrapping_add(answers.ended);
+        self.good = self.good.wrapping_add(answers.good);
+    }
+}

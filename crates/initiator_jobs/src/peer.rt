@@ -1,0 +1,206 @@
+//! An initiator with work of its own, which sends what is due and takes what is answered.
+
+use crate::answers::Answers;
+use crate::fault::Fault;
+use crate::host::Host;
+use crate::random::Random;
+use crate::requests::{Command, NO_DATA, READS, WRITES, cdb_10};
+use crate::wire::{HEADER_LENGTH, Wire};
+
+/// While a header is ahead an answer shorter than this is put off, as the ports over sockets do it.
+const LONG_ANSWER: usize = 262_144;
+
+/// The segments of the Data-Outs.
+const SEGMENT: usize = 65_536;
+
+/// What an initiator does again and again.
+#[derive(Clone, Copy)]
+pub enum Work {
+    /// The disk of a virtual machine: short READs and WRITEs, 1, 8 or 32 at a time.
+    Machine,
+    /// The same, eight at a time, and now and then long ones.
+    Mixed,
+}
+
+/// An initiator with its work.
+#[derive(Drop)]
+pub struct Peer {
+    host: Host,
+    wire: Wire,
+    random: Random,
+    work: Work,
+    /// So many rounds are left to do.
+    left: usize,
+    /// The blocks of its disk.
+    blocks: usize,
+    /// So much of the stream was read.
+    sent: usize,
+    /// It was read since the last poll.
+    has_sent: bool,
+}
+
+impl Peer {
+    /// An initiator that is to log in to a target, and to do so many rounds of its work there.
+    pub fn new(
+        mut host: Host,
+        mut wire: Wire,
+        random: Random,
+        work: Work,
+        rounds: usize,
+        target: (&str, usize),
+    ) -> Result<Peer, Fault> {
+        wire.begin(0);
+        host.lay_login(&mut wire, target.0, 262_144)?;
+        Ok(Peer {
+            host,
+            wire,
+            random,
+            work,
+            left: rounds.saturating_add(1),
+            blocks: target.1,
+            sent: 0,
+            has_sent: false,
+        })
+    }
+
+    /// It has done all its work.
+    pub fn is_done(&self) -> bool {
+        self.left == 0 && self.ahead() == 0 && self.host.has_all()
+    }
+
+    /// What it was answered.
+    pub fn answers(&self) -> &Answers {
+        &self.host.answers
+    }
+
+    /// So much of the stream is left.
+    fn ahead(&self) -> usize {
+        self.wire.stream().len().saturating_sub(self.sent)
+    }
+
+    /// It may have something to send.
+    pub fn is_ready(&mut self) -> bool {
+        self.has_sent = false;
+        if self.ahead() == 0 {
+            self.go_on();
+        }
+        self.ahead() > 0
+    }
+
+    /// Sends what comes next, as far as there is room: how much.
+    pub fn read(&mut self, buffer: &mut [u8]) -> usize {
+        let stream = self.wire.stream();
+        let from = self.sent.min(stream.len());
+        let count = buffer.len().min(stream.len() - from);
+        buffer[..count].copy_from_slice(&stream[from..from + count]);
+        self.sent = from + count;
+        self.has_sent = count > 0;
+        count
+    }
+
+    /// Takes what is answered: how much.
+    pub fn write(&mut self, bytes: &[u8]) -> Result<usize, Fault> {
+        if self.has_sent && self.ahead() >= HEADER_LENGTH && bytes.len() < LONG_ANSWER {
+            return Ok(0);
+        }
+        self.host.answers.take(bytes)?;
+        Ok(bytes.len())
+    }
+
+    /// All that was to be sent is sent: what is asked for comes next, or the next round, once all is answered.
+    fn go_on(&mut self) {
+        if !self.host.answers.asked.is_empty() {
+            self.wire.go_on();
+            self.sent = 0;
+            self.host.lay_asked(&mut self.wire, SEGMENT);
+            return;
+        }
+        if self.left == 0 || !self.host.has_all() {
+            return;
+        }
+        self.left -= 1;
+        self.sent = 0;
+        self.wire.begin(self.random.below(196_608));
+        self.begin_round();
+    }
+
+    /// The commands of a round come next. The first of a session is TEST UNIT READY, which is told of the power on.
+    fn begin_round(&mut self) {
+        if self.host.answers.ended == 1 {
+            let command = Command {
+                flags: NO_DATA,
+                lun: 0,
+                expected: 0,
+                cdb: [0; 16],
+            };
+            self.host.lay(&mut self.wire, &command, 0);
+            return;
+        }
+        match self.work {
+            Work::Machine => {
+                let depth = [1, 8, 32][self.random.below(3) % 3];
+                self.lay_short(depth);
+            }
+            Work::Mixed => match self.random.below(8) {
+                0 => self.lay_long(WRITES, 512),
+                1 => self.lay_long(READS, 2_048),
+                2 => {
+                    self.lay_long(READS, 512);
+                    self.lay_long(READS, 512);
+                }
+                _ => self.lay_short(8),
+            },
+        }
+    }
+
+    /// So many short READs and WRITEs come next: seven READs for three WRITEs, most of them of 4 KiB.
+    fn lay_short(&mut self, depth: usize) {
+        for _ in 0..depth {
+            let blocks = if self.random.once_in(16) {
+                16 * (1 + self.random.below(8))
+            } else {
+                8
+            };
+            let length = 512 * blocks.min(128);
+            let writes = self.random.below(10) < 3;
+            let data = if writes { length } else { 0 };
+            if !self.wire.has_room(data) {
+                break;
+            }
+            let at = self.random.below(self.blocks / 8) / 2 * 16;
+            let command = Command {
+                flags: if writes { WRITES } else { READS },
+                lun: 0,
+                expected: length,
+                cdb: cdb_10(
+                    if writes { 0x2a } else { 0x28 },
+                    0,
+                    at.min(self.blocks.saturating_sub(128)),
+                    blocks,
+                ),
+            };
+            self.host.lay(&mut self.wire, &command, data);
+        }
+    }
+
+    /// A long READ or WRITE comes next.
+    fn lay_long(&mut self, flags: u8, blocks: usize) {
+        let length = 512 * blocks.min(2_048);
+        let data = if flags == WRITES {
+            length.min(65_536)
+        } else {
+            0
+        };
+        if !self.wire.has_room(length) {
+            return;
+        }
+        let at = self.random.below(self.blocks.saturating_sub(blocks));
+        let command = Command {
+            flags,
+            lun: 0,
+            expected: length,
+            cdb: cdb_10(if flags == WRITES { 0x2a } else { 0x28 }, 0, at, blocks),
+        };
+        self.host.lay(&mut self.wire, &command, data);
+    }
+}

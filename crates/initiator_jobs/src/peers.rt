@@ -1,0 +1,124 @@
+//! Initiators at the ports of the loop that serves them.
+
+ghost use Rattle.std.specs.Prelude.{◌≡◌, ◌<◌, ◌≤◌, ◌++◌, ◌∷◌, [], List, true, length, IfOk};
+ghost use Rattle.iscsi_ports.specs.Log.{Read, Wrote, Close};
+ghost use Rattle.iscsi_ports.specs.Results.{carried_by, count_of, poll_entry, accept_entry};
+
+use crate::fault::Fault;
+use crate::outcome::Outcome;
+use crate::peer::Peer;
+use connection_numbers::CONNECTIONS;
+use iscsi_ports::{Accepted, IoResult, Named, PortFault, Ports};
+
+/// Initiators, each of which connects as soon as it may. They keep no log.
+#[derive(Drop)]
+pub struct Peers {
+    peers: Vec<Peer>,
+    /// So many were accepted.
+    accepted: usize,
+    /// Nothing was asked of them yet.
+    tells: bool,
+}
+
+impl Peers {
+    /// These initiators.
+    pub fn new(peers: Vec<Peer>) -> Peers {
+        Peers {
+            peers,
+            accepted: 0,
+            tells: true,
+        }
+    }
+
+    /// Each of them has done all that it was to do.
+    pub fn are_done(&self) -> bool {
+        for peer in self.peers.iter() {
+            if !peer.is_done() {
+                return false;
+            }
+        }
+        self.accepted == self.peers.len()
+    }
+
+    /// What they were answered.
+    pub fn outcome(&self) -> Result<Outcome, Fault> {
+        if !self.are_done() {
+            return Err(Fault::Unanswered);
+        }
+        let mut outcome = Outcome::new();
+        for peer in self.peers.iter() {
+            outcome.add(peer.answers());
+        }
+        Ok(outcome)
+    }
+}
+
+/// Which of the peers may have something to send.
+fn named(peers: &mut [Peer], accepted: usize) -> Named {
+    let mut named = Named {
+        listener: accepted < peers.len(),
+        connections: [false; CONNECTIONS],
+    };
+    for c in 0..accepted.min(peers.len()).min(CONNECTIONS) {
+        named.connections[c] = peers[c].is_ready();
+    }
+    named
+}
+
+/// What a peer gives to a read.
+fn read_of(peers: &mut [Peer], c: usize, buffer: &mut [u8]) -> IoResult
+    ensures { count_of result ≤ length buffer.new }
+{
+    if c >= peers.len() {
+        return IoResult::Fault;
+    }
+    let count = peers[c].read(buffer);
+    IoResult::Bytes(count.min(buffer.len()))
+}
+
+/// How many bytes a peer takes of a write.
+fn write_of(peers: &mut [Peer], c: usize, bytes: &[u8]) -> IoResult
+    ensures { count_of result ≤ length bytes.now }
+{
+    if c >= peers.len() {
+        return IoResult::Fault;
+    }
+    match peers[c].write(bytes) {
+        Ok(count) => IoResult::Bytes(count.min(bytes.len())),
+        Err(_) => IoResult::Fault,
+    }
+}
+
+impl Ports for Peers {
+    ghost log = { λ _. [] };
+
+    ghost tells = { λ peers. peers.tells };
+
+    fn poll(&mut self) -> Result<Named, PortFault> {
+        self.tells = false;
+        Ok(named(self.peers.as_mut_slice(), self.accepted))
+    }
+
+    fn accept(&mut self, _c: usize) -> Result<Accepted, PortFault> {
+        self.tells = false;
+        if self.accepted >= self.peers.len() {
+            return Ok(Accepted::Nobody);
+        }
+        self.accepted += 1;
+        Ok(Accepted::Connection)
+    }
+
+    fn read(&mut self, c: usize, buffer: &mut [u8]) -> IoResult {
+        self.tells = false;
+        read_of(self.peers.as_mut_slice(), c, buffer)
+    }
+
+    fn write(&mut self, c: usize, bytes: &[u8]) -> IoResult {
+        self.tells = false;
+        write_of(self.peers.as_mut_slice(), c, bytes)
+    }
+
+    fn close(&mut self, _c: usize) {
+        self.tells = false;
+    }
+}
