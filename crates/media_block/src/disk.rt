@@ -156,9 +156,9 @@ impl<S: Store> Disk<S> {
         first: u64,
         count: u64,
         bytes: &[u8],
-        held: &mut [u8; PART_LENGTH],
+        held: &mut [u8],
     ) -> Result<Option<usize>, StoreFault>
-        requires few { count ≤ PART }
+        requires room { length bytes.now ≤ length held.old }
         requires range { first + count ≤ length self.old.blocks }
         requires whole { length bytes.now ≡ block_length * count }
         ensures compared { IfOk result (λ at. IsTrue self.new.honest
@@ -176,6 +176,30 @@ impl<S: Store> Disk<S> {
 
     /// The least index at which bytes differ from those of blocks.
     pub fn compare(
+        &mut self,
+        first: u64,
+        count: u64,
+        bytes: &[u8],
+    ) -> Result<Option<usize>, StoreFault>
+        requires range { first + count ≤ length self.old.blocks }
+        requires whole { length bytes.now ≡ block_length * count }
+        ensures compared { IfOk result (λ at. IsTrue self.new.honest
+            → at ≡ first_difference (data_of self.old.blocks first count) bytes.now) }
+        ensures within { IfOk result (λ at. IfSome at (λ n. n < length bytes.now)) }
+        ensures none { count ≡ 0 → IsOk result }
+        ensures back { IsTrue self.new.honest → IsTrue self.old.honest }
+        ensures disk { self.new ≡ record self.old { failures = counted result self.old.failures; honest = self.new.honest } }
+        ensures succeeds { IsTrue self.old.steady → IsTrue self.old.honest → IsOk result × (self.new ≡ self.old) }
+    {
+        if count == 1 {
+            // Of one block no more room is filled than it takes.
+            return self.compare_part(first, count, bytes, &mut [0; BLOCK_LENGTH]);
+        }
+        self.compare_parts(first, count, bytes)
+    }
+
+    /// The same, part by part.
+    fn compare_parts(
         &mut self,
         first: u64,
         count: u64,

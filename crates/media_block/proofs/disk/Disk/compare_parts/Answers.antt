@@ -2,7 +2,7 @@ use Rattle.std.proofs.Common.{◌≡◌, ◌+◌, ◌≤◌, ap, refl, arith, ru
 use Rattle.media_block.proofs.Blocks.{length-blocks_of}
 use Rattle.media_block.proofs.Results.{passed}
 use Rattle.media_block.proofs.Differences.{found-difference, no-difference, length-data_of-more}
-use Rattle.media_block.proofs.disk.Disk.compare.Goals as goal
+use Rattle.media_block.proofs.disk.Disk.compare_parts.Goals as goal
 
 pub overflow_add-first : goal.overflow_add-first
 overflow_add-first g c =

@@ -1,6 +1,6 @@
 use Rattle.std.proofs.Common.{◌≡◌, ◌≤◌, ◌-◌, ◌*◌, length, take, None, IsTrue}
 use Rattle.media_block.specs.Blocks.{block_length, data_of, first_difference}
-use Rattle.media_block.proofs.disk.Disk.compare.Given as goal
+use Rattle.media_block.proofs.disk.Disk.compare_parts.Given as goal
 
 abbrev pub invariant-loop-number : goal.invariant-loop-number
 invariant-loop-number g l = record {
