@@ -2,9 +2,10 @@
 use Rattle.std.proofs.Common.{◌≡◌, ℕ, zero, suc, ◌+◌, ◌-◌, ◌*◌, ◌/◌, ◌%◌, ◌<◌, ◌≤◌, ◌==◌, min, List, [], ◌∷◌, ◌++◌, length, take, get_or, true, Some, refl, ap, sym, ◌∙◌, inl, inr, arith, zero-add}
 use Rattle.std.specs.Int.{div_ceil}
 use Rattle.std.specs.List.{flat_map, range_with_len, slice_get}
-use Rattle.std.proofs.Math.Nat.{add-mul, zero-mul, lt_of_mul-lt-mul_right, mul-le-mul_right}
+use Rattle.std.proofs.Math.Nat.{add-mul, zero-mul, lt_of_mul-lt-mul_right, mul-le-mul_right, div-eq_of_lt, mod-eq_of_lt, div_self, mod_self}
 use Rattle.std.proofs.lemmas.Nat.{div-add-mod'}
 use Rattle.std.proofs.lemmas.Bool.{cases_lt}
+use Rattle.std.proofs.lemmas.Bool.Decides.{nat_tests}
 use Rattle.std.proofs.lemmas.Grind.{div_ceil_times}
 use Rattle.std.proofs.lemmas.Option.{slice_get-get_or, slice_get_within}
 use Rattle.std.proofs.lemmas.List.{get_or-append-add, length-append, take_more}
@@ -149,3 +150,47 @@ front_grows now all k piece front is =
     let found = slice_get-get_or all k piece lt in
     let there : get_or all k piece ≡ piece = cc in
     rw (take_more all k piece lt, there, front) refl
+
+-- ---- data that is one piece
+
+one_part : (size limit : ℕ) → 1 ≤ limit → size ≤ limit → div_ceil size limit ≡ min size 1
+one_part size limit some le = elim (cases_lt size limit) [
+  | inl less ↦ rw (div-eq_of_lt less, mod-eq_of_lt less) (omega arith)
+  | inr more ↦
+      let same : size ≡ limit = omega arith in
+      let positive : 0 < limit = omega arith in
+      rw (same, div_self positive, mod_self limit) (omega arith)
+]
+
+-- data that a burst and a segment hold is one piece, and no data is none
+pub few_pieces : (size burst segment : ℕ) → 1 ≤ burst → 1 ≤ segment → size ≤ burst → size ≤ segment → piece_count size burst segment ≡ min size 1
+few_pieces size burst segment some_burst some in_burst in_segment = elim (cases_lt size burst) [
+  | inl less ↦
+      rw (div-eq_of_lt less, mod-eq_of_lt less, zero-mul (div_ceil burst segment)) (omega (arith, one_part size segment some in_segment))
+  | inr more ↦
+      let same : size ≡ burst = omega arith in
+      let positive : 0 < burst = omega arith in
+      let whole : div_ceil burst segment ≡ min burst 1 = one_part burst segment some (omega arith) in
+      let left : div_ceil 0 segment ≡ min 0 1 = one_part 0 segment some (omega arith) in
+      rw (same, div_self positive, mod_self burst) (omega (arith, whole, left))
+]
+
+-- the one piece
+pub only_piece : (size burst segment number : ℕ) → 1 ≤ burst → 1 ≤ segment → number < piece_count size burst segment
+    → size ≤ burst → size ≤ segment
+    → slice_get (pieces_of size burst segment) number ≡ Some (record { offset = 0; length = size; is_final = true })
+only_piece size burst segment number some_burst some lt in_burst in_segment =
+    let count : piece_count size burst segment ≡ min size 1 = few_pieces size burst segment some_burst some in_burst in_segment in
+    let first : number ≡ 0 = omega (arith, lt, count) in
+    let start : 0 * burst ≡ 0 = zero-mul burst in
+    let from : 0 * segment ≡ 0 = zero-mul segment in
+    let none : 0 * div_ceil burst segment ≡ 0 = zero-mul (div_ceil burst segment) in
+    let once : (0 + 1) * burst ≡ 0 * burst + burst = add-mul 0 1 burst ∙ omega arith in
+    let end : burst_end size burst 0 ≡ size = omega (arith, start, once) in
+    let there : 0 * div_ceil burst segment + 0 < piece_count size burst segment = omega (arith, none, first, lt) in
+    let parts : 0 < div_ceil burst segment = below_parts burst segment 0 some (rw from (omega arith)) in
+    let long : size ≡ min segment (burst_end size burst 0 - (0 * burst + 0 * segment)) = omega (arith, end, start, from) in
+    let found = piece_numbered size burst segment number 0 0 size some_burst some lt (omega (arith, none, first))
+    (placed size burst segment 0 0 some_burst some there parts) long in
+    let last : (0 * burst + 0 * segment + size == burst_end size burst 0) ≡ true = grind (arith, nat_tests, end, start, from) in
+    rw (last, start, from) at found

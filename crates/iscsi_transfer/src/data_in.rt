@@ -17,8 +17,8 @@ pub struct Piece {
     pub is_final: bool,
 }
 
-/// How many pieces data of this length has: no less data has more. It takes no memory.
-pub fn piece_count(length: usize, burst: usize, segment: usize) -> usize
+/// How many pieces data has that may have several.
+fn count_among(length: usize, burst: usize, segment: usize) -> usize
     requires burst { 1 ≤ burst }
     requires segment { 1 ≤ segment }
     ensures { result ≡ piece_count length burst segment }
@@ -26,10 +26,22 @@ pub fn piece_count(length: usize, burst: usize, segment: usize) -> usize
     length / burst * burst.div_ceil(segment) + (length % burst).div_ceil(segment)
 }
 
-/// Piece number `number` of data of this length, counted from 0: the data is cut at the multiples of
-/// MaxBurstLength, here `burst`, and each burst at the multiples of the initiator's
-/// MaxRecvDataSegmentLength, here `segment`, from its start (RFC 7143 §13.12, §13.13).
-pub fn piece_at(length: usize, burst: usize, segment: usize, number: usize) -> Piece
+/// How many pieces data of this length has: no less data has more. It takes no memory.
+#[tactic(auto, using(crate::proofs::Numbered::few_pieces))]
+pub fn piece_count(length: usize, burst: usize, segment: usize) -> usize
+    requires burst { 1 ≤ burst }
+    requires segment { 1 ≤ segment }
+    ensures { result ≡ piece_count length burst segment }
+{
+    if length <= burst && length <= segment {
+        // Most data is one piece, which is known without a division.
+        return length.min(1);
+    }
+    count_among(length, burst, segment)
+}
+
+/// Piece number `number` of data that may have several, as [`piece_at`] gives it.
+fn piece_among(length: usize, burst: usize, segment: usize, number: usize) -> Piece
     requires burst { 1 ≤ burst }
     requires segment { 1 ≤ segment }
     requires number { number < piece_count length burst segment }
@@ -45,6 +57,26 @@ pub fn piece_at(length: usize, burst: usize, segment: usize, number: usize) -> P
         length,
         is_final: offset + length == end,
     }
+}
+
+/// Piece number `number` of data of this length, counted from 0: the data is cut at the multiples of
+/// MaxBurstLength, here `burst`, and each burst at the multiples of the initiator's
+/// MaxRecvDataSegmentLength, here `segment`, from its start (RFC 7143 §13.12, §13.13).
+#[tactic(auto, using(crate::proofs::Numbered::only_piece))]
+pub fn piece_at(length: usize, burst: usize, segment: usize, number: usize) -> Piece
+    requires burst { 1 ≤ burst }
+    requires segment { 1 ≤ segment }
+    requires number { number < piece_count length burst segment }
+    ensures { slice_get (pieces_of length burst segment) number ≡ Some result }
+{
+    if length <= burst && length <= segment {
+        return Piece {
+            offset: 0,
+            length,
+            is_final: true,
+        };
+    }
+    piece_among(length, burst, segment, number)
 }
 
 /// The pieces in which data of this length is sent, in order, as [`piece_at`] gives them. No data is no

@@ -1,6 +1,6 @@
 use Rattle.std.proofs.Common.{arith}
 use Rattle.iscsi_transfer.proofs.Counts.{count_fits}
-use Rattle.iscsi_transfer.proofs.data_in.piece_count.Goals as goal
+use Rattle.iscsi_transfer.proofs.data_in.count_among.Goals as goal
 
 pub overflow_add-result : goal.overflow_add-result
 overflow_add-result c = rw (c.div_ceil.ensures, c.div_ceil-2.ensures) (let fits =

@@ -4,7 +4,7 @@ use Rattle.std.proofs.lemmas.Nat.{div-add-mod'}
 use Rattle.iscsi_transfer.specs.DataIn.{burst_end}
 use Rattle.iscsi_transfer.proofs.Pieces.{burst_end-is}
 use Rattle.iscsi_transfer.proofs.Numbered.{placed_number, piece_numbered}
-use Rattle.iscsi_transfer.proofs.data_in.piece_at.Goals as goal
+use Rattle.iscsi_transfer.proofs.data_in.piece_among.Goals as goal
 
 pub overflow_mul-start : goal.overflow_mul-start
 overflow_mul-start c =
