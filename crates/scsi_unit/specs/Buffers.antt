@@ -1,5 +1,5 @@
 -- Buffers that are used again.
-use Rattle.std.specs.Prelude.{◌≡◌, ◌≤◌, ℕ, ◌+◌, ◌*◌, List, sum}
+use Rattle.std.specs.Prelude.{◌≡◌, ◌≤◌, ℕ, ◌+◌, ◌*◌, List, map, sum}
 use Rattle.scsi_sense.specs.Given.{headroom, tailroom}
 use Rattle.scsi_unit.specs.DiskCommands.{most_given}
 
@@ -7,7 +7,11 @@ use Rattle.scsi_unit.specs.DiskCommands.{most_given}
 abbrev pub most_room : ℕ
 most_room = 4 * (headroom + most_given + tailroom)
 
--- own: all the room of buffers, each with its room, is counted, and no more than that is kept
-pub record AreCounted (room : ℕ) (each : List ℕ) : Type 0 where
-  pub counted : room ≡ sum each
+-- own: the room that buffers have together, each with its room
+abbrev pub rooms : {X : Type 0} → List (X × ℕ) → ℕ
+rooms kept = sum (map (λ each. each.1) kept)
+
+-- own: all the room of buffers is counted, and no more than that is kept
+pub record IsWithin (room all : ℕ) : Type 0 where
+  pub counted : room ≡ all
   pub few : room ≤ most_room
