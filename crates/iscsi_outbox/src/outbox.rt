@@ -5,7 +5,7 @@ ghost use Rattle.iscsi_pdu.specs.Answer.{spelling};
 
 use crate::data_ins::DataIns;
 use crate::put::put;
-use crate::run::{Run, copy_runs, front_of, left_behind, push_run, skip_in};
+use crate::run::{Run, copy_runs, front_of, left_behind, lift, push_run, skip_in};
 use bytes::BytesMut;
 use iscsi_pdu::Answer;
 use std::alloc::{AllocError, Global};
@@ -19,10 +19,13 @@ use std::mem;
 pub struct Outbox {
     runs: VecDeque<Run>,
     tail: BytesMut,
+    /// The largest buffer in which small answers stood that were sent in front of a run. The next tail stands in it, so
+    /// that it does not grow from nothing behind each run.
+    spare: BytesMut,
 }
 
 impl Model for Outbox {
-    ghost use Rattle.std.specs.Prelude.{◌-◌, ◌++◌, flat_map};
+    ghost use Rattle.std.specs.Prelude.{◌≡◌, ◌-◌, ◌++◌, [], flat_map};
     ghost use Rattle.std.specs.VecDeque.{deque_len, deque_capacity};
     ghost use Rattle.iscsi_outbox.specs.Outbox.{Waits, run_bytes, AreRunning};
 
@@ -35,7 +38,7 @@ impl Model for Outbox {
       slots = deque_capacity o.runs - deque_len o.runs;
     } };
 
-    ghost invariant = { λ o. AreRunning o.runs.items };
+    ghost invariant = { λ o. AreRunning o.runs.items × (o.spare.items ≡ []) };
 }
 
 impl Outbox {
@@ -47,6 +50,7 @@ impl Outbox {
         Outbox {
             runs: VecDeque::new(alloc),
             tail: BytesMut::new(alloc),
+            spare: BytesMut::new(alloc),
         }
     }
 
@@ -94,7 +98,8 @@ impl Outbox {
         ensures items { self.new.items ≡ self.old.items ++ data_ins }
         ensures runs { self.new.runs ≡ self.old.runs + 1 }
     {
-        push_run(&mut self.runs, &mut self.tail, alloc, data_ins);
+        let before = lift(&mut self.tail, &mut self.spare, alloc);
+        push_run(&mut self.runs, Run { before, data_ins });
     }
 
     /// Nothing waits.
@@ -137,7 +142,7 @@ impl Outbox {
         ensures spent { IfSome result.1 (λ buffer. buffer.items ≡ []) }
     {
         if !self.runs.is_empty() {
-            return skip_in(&mut self.runs, n);
+            return skip_in(&mut self.runs, &mut self.spare, n);
         }
         let step = n.min(self.tail.len());
         self.tail.advance(step);
@@ -156,12 +161,17 @@ impl Outbox {
         bytes.extend_from_slice(self.tail.as_slice())
     }
 
-    /// Where nothing waits, and there is room for more bytes than this, the room goes back to the system.
+    /// Where nothing waits, and there is room for more bytes than this, the room goes back to the system, and so does that
+    /// of the spare buffer.
     pub fn rest(&mut self, alloc: Global, most: usize)
         ensures items { self.new.items ≡ self.old.items }
         ensures runs { self.new.runs ≡ self.old.runs }
     {
-        if self.is_empty() && self.tail.capacity() > most {
+        if !self.is_empty() {
+            return;
+        }
+        self.spare = BytesMut::new(alloc);
+        if self.tail.capacity() > most {
             self.tail = BytesMut::new(alloc);
         }
     }
