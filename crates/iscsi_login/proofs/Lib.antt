@@ -5,3 +5,5 @@ pub mod After
 pub mod Ranges
 pub mod Replying
 mod Dialogue
+pub mod FirstText
+pub mod Texts

@@ -19,12 +19,14 @@ use std::marker::Model;
 pub(crate) struct Earlier {
     alloc: Global,
     pairs: Pairs,
-    /// Where each key stands first. Of a key that does not stand among the pairs it may tell any place.
+    /// Where each key stands first, once it is noted. Of a key that does not stand among the pairs it may tell any place.
     places: BTreeMap<String, usize>,
+    /// The keys are noted: not before a second text comes, since most logins have one.
+    is_noted: bool,
 }
 
 impl Model for Earlier {
-    ghost use Rattle.std.specs.Prelude.{ℕ, List};
+    ghost use Rattle.std.specs.Prelude.{◌≡◌, ℕ, List, true};
     ghost use Rattle.std.specs.BTreeMap.{get_by_text};
     ghost use Rattle.iscsi_login.specs.Earlier.{TellsPlaces};
 
@@ -32,7 +34,7 @@ impl Model for Earlier {
 
     ghost view = { λ earlier. earlier.pairs };
 
-    ghost invariant = { λ earlier. TellsPlaces earlier.pairs (get_by_text earlier.places) };
+    ghost invariant = { λ earlier. earlier.is_noted ≡ true → TellsPlaces earlier.pairs (get_by_text earlier.places) };
 }
 
 /// The value of a key among pairs, that of the first pair with this key, where this place is told of it.
@@ -98,6 +100,25 @@ fn note(
     Ok(true)
 }
 
+/// Notes where the keys of pairs stand, unless they are noted.
+fn note_unless(
+    alloc: Global,
+    places: &mut BTreeMap<String, usize>,
+    pairs: &Pairs,
+    is_noted: bool,
+) -> Result<(), Memory>
+    requires { is_noted ≡ true → TellsPlaces pairs.now (get_by_text places.old) }
+    ensures noted { OnOk result (TellsPlaces pairs.now (get_by_text places.new)) }
+    ensures kept { is_noted ≡ true → TellsPlaces pairs.now (get_by_text places.new) }
+{
+    if is_noted {
+        return Ok(());
+    }
+    // No key stands before the first text, so none comes again.
+    let _ = note(alloc, places, &Pairs::new(alloc), pairs)?;
+    Ok(())
+}
+
 impl Earlier {
     /// No pairs yet.
     pub fn new(alloc: Global) -> Earlier
@@ -107,6 +128,7 @@ impl Earlier {
             alloc,
             pairs: Pairs::new(alloc),
             places: BTreeMap::new(alloc),
+            is_noted: false,
         }
     }
 
@@ -117,6 +139,13 @@ impl Earlier {
         ensures added { IfOk result (λ is_new. self.new ≡ (if is_new then self.old ++ more else self.old)) }
         ensures unchanged { OnErr result (self.new ≡ self.old) }
     {
+        if self.pairs.is_empty() {
+            self.pairs = more;
+            self.is_noted = false;
+            return Ok(true);
+        }
+        note_unless(self.alloc, &mut self.places, &self.pairs, self.is_noted)?;
+        self.is_noted = true;
         if !note(self.alloc, &mut self.places, &self.pairs, &more)? {
             return Ok(false);
         }

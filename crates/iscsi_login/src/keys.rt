@@ -1,6 +1,6 @@
 //! What an offer of a key comes to (RFC 7143 §6.2, §12, §13).
 
-ghost use Rattle.std.specs.Prelude.{◌≡◌, IfOk, decimal, option_map, string_bytes};
+ghost use Rattle.std.specs.Prelude.{◌≡◌, IfOk, bytes_eq, decimal, option_map, string_bytes};
 ghost use Rattle.iscsi_login.specs.Keys.{word_text, boolean_text, result_text, negotiation_of, transfer_negotiation as transfer_negotiation_of, session_negotiation as session_negotiation_of, is_listed as is_listed_word, boolean_of, result_by, is_answer as is_answer_value, is_name_key, is_passed_over as is_pair_passed_over, is_understood, is_known as is_known_key, settled as settled_of, key_result};
 
 use crate::number::number_in;
@@ -72,12 +72,33 @@ fn boolean_word(value: bool) -> &'static str
     if value { "Yes" } else { "No" }
 }
 
+/// The two are the same. Their lengths tell most texts apart, without a call.
+#[inline]
+#[tactic(auto, using(crate::proofs::Texts::lengths_differ))]
+fn same(text: &str, other: &str) -> bool
+    ensures { result ≡ bytes_eq text.now other.now }
+{
+    text.len() == other.len() && text == other
+}
+
+/// The row of a table with this key, or what stands for a key that has none: a `match` by [`same`].
+macro_rules! of_key {
+    ($key:expr; $($name:literal => $row:expr,)* _ => $other:expr,) => {{
+        $(
+            if same($key, $name) {
+                return $row;
+            }
+        )*
+        $other
+    }};
+}
+
 /// How a key is negotiated: those of RFC 7143 §12.1 to §13.9, in its order.
 #[tactic(auto, unfolding(crate::specs::Keys::negotiation_of))]
 fn negotiation_for(key: &str) -> Negotiation
     ensures { result ≡ negotiation_of key.now }
 {
-    match key {
+    of_key! { key;
         "AuthMethod" => Negotiation::Choice(Word::None),
         "HeaderDigest" => Negotiation::Choice(Word::None),
         "DataDigest" => Negotiation::Choice(Word::None),
@@ -98,7 +119,7 @@ fn negotiation_for(key: &str) -> Negotiation
 fn transfer_negotiation(key: &str) -> Negotiation
     ensures { result ≡ transfer_negotiation_of key.now }
 {
-    match key {
+    of_key! { key;
         "InitialR2T" => Negotiation::Or(false),
         "ImmediateData" => Negotiation::And(true),
         "MaxRecvDataSegmentLength" => Negotiation::Declared,
@@ -118,7 +139,7 @@ fn transfer_negotiation(key: &str) -> Negotiation
 fn session_negotiation(key: &str) -> Negotiation
     ensures { result ≡ session_negotiation_of key.now }
 {
-    match key {
+    of_key! { key;
         "ErrorRecoveryLevel" => Negotiation::Minimum(0, 2, 0),
         "SessionType" => Negotiation::Declared,
         "TaskReporting" => Negotiation::Choice(Word::Rfc3720),
@@ -166,7 +187,7 @@ fn boolean(offer: &str) -> Option<bool>
 pub(crate) fn is_answer(value: &str) -> bool
     ensures { result ≡ is_answer_value value.now }
 {
-    value == "NotUnderstood" || value == "Irrelevant" || value == "Reject"
+    same(value, "NotUnderstood") || same(value, "Irrelevant") || same(value, "Reject")
 }
 
 /// The key says who the initiator is, or what it asks for.
@@ -174,7 +195,7 @@ pub(crate) fn is_answer(value: &str) -> bool
 pub(crate) fn is_name(key: &str) -> bool
     ensures { result ≡ is_name_key key.now }
 {
-    key == "InitiatorName" || key == "TargetName" || key == "SessionType"
+    same(key, "InitiatorName") || same(key, "TargetName") || same(key, "SessionType")
 }
 
 /// The pair is passed over: its value answers an offer, and its key is none that names.
