@@ -67,6 +67,16 @@ fn overwrite(content: &mut Vec<u8>, at: usize, bytes: &[u8])
     content[at..at + bytes.len()].copy_from_slice(bytes);
 }
 
+/// Writes bytes behind all that stand there, where there is room for them.
+fn append(content: &mut Vec<u8>, bytes: &[u8])
+    requires { length content.old.items + length bytes.now ≤ vec_capacity content.old }
+    ensures written { content.new.items ≡ content.old.items ++ bytes.now }
+    ensures room { vec_capacity content.old ≤ vec_capacity content.new }
+{
+    // There is room, so no allocation is tried that could fail.
+    let _appended = content.extend_from_slice(bytes);
+}
+
 /// Writes bytes into the content, where there is room for them.
 fn write(content: &mut Vec<u8>, at: usize, bytes: &[u8])
     requires { at + length bytes.now ≤ vec_capacity content.old }
@@ -74,6 +84,11 @@ fn write(content: &mut Vec<u8>, at: usize, bytes: &[u8])
     ensures room { vec_capacity content.old ≤ vec_capacity content.new }
 {
     if bytes.is_empty() {
+        return;
+    }
+    if at == content.len() {
+        // As a tape is written. No zeros are put there first.
+        append(content, bytes);
         return;
     }
     let end = at + bytes.len();
