@@ -7,6 +7,7 @@ pub mod Alike
 pub mod Runs
 pub mod SizeWays
 pub mod Spacing
+pub mod Marks
 pub mod SizeFixed
 pub mod Sizes
 pub mod Walks

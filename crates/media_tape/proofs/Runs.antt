@@ -102,7 +102,7 @@ has_run runs i are lt =
 
 pub around : (runs : List Run) (i number : ℕ) (before run : Run) → AreRuns no_run runs → i < length runs → before ≡ run_before runs i
     → run ≡ run_before runs (i + 1) → (run_before runs i).count ≤ number → number < (run_before runs (i + 1)).count
-    → AreAround (sizes_of no_run runs) (record { first = before.count; next = run.count; end = run.end; size = run.size; run = i }) number
+    → AreAround (sizes_of no_run runs) (record { first = before.count; next = run.count; end = run.end; size = run.size; runs = i + 1 }) number
 around runs i number before run are lt before_is run_is from to =
     let has = has_run runs i are lt in
     rw (before_is, run_is)
@@ -121,9 +121,9 @@ around-size sizes alike number is =
     (alike-behind sizes alike.first number alike.next alike.size is.are is.from (omega (arith, is.to))) is.to)
 
 -- on the way from a number
-pub ahead_on : (sizes : List ℕ) (at : ℕ) (alike : Alike) → AreAround sizes alike at → alike.next < 2 ^ 64
-    → AreAhead Forward at sizes (record { many = alike.next - at; size = alike.size; run = alike.run })
-ahead_on sizes at alike is fits =
+pub ahead_on : (sizes : List ℕ) (at near : ℕ) (alike : Alike) → AreAround sizes alike at → alike.next < 2 ^ 64
+    → AreAhead Forward at sizes (record { many = alike.next - at; size = alike.size; near = near })
+ahead_on sizes at near alike is fits =
     let there : at + (alike.next - at) ≡ alike.next = omega (arith, is.to) in
     let are = alike-behind sizes alike.first at alike.next alike.size is.are is.from (omega (arith, is.to)) in
     record {
@@ -134,9 +134,9 @@ ahead_on sizes at alike is fits =
       least = is.least;
     }
 
-pub ahead_back : (sizes : List ℕ) (at : ℕ) (alike : Alike) → 0 < at → at ≤ length sizes → AreAround sizes alike (at - 1)
-    → AreAhead Backward at sizes (record { many = at - alike.first; size = alike.size; run = alike.run })
-ahead_back sizes at alike some within is =
+pub ahead_back : (sizes : List ℕ) (at near : ℕ) (alike : Alike) → 0 < at → at ≤ length sizes → AreAround sizes alike (at - 1)
+    → AreAhead Backward at sizes (record { many = at - alike.first; size = alike.size; near = near })
+ahead_back sizes at near alike some within is =
     let there : at - (at - alike.first) ≡ alike.first = omega (arith, is.from) in
     let front = alike-front sizes alike.first at alike.next alike.size is.are (omega (arith, is.from)) (omega (arith, is.to)) in
     record {

@@ -1,10 +1,11 @@
--- Spacing goes through a run of items of one size.
-use Rattle.std.proofs.Common.{◌≡◌, ℕ, zero, suc, ◌+◌, ◌-◌, ◌≤◌, ◌<◌, List, ◌++◌, refl, ap, sym, ◌∙◌, arith, true, false, ◌==◌, add_assoc, append_assoc, eq-eqb}
-use Rattle.std.specs.Prelude.{replicate}
+-- Spacing goes through a run of items of one size, and past the records before a filemark.
+use Rattle.std.proofs.Common.{◌≡◌, ℕ, zero, suc, ◌+◌, ◌-◌, ◌≤◌, ◌<◌, List, [], ◌∷◌, ◌++◌, length, drop}
+use Rattle.std.proofs.Common.{refl, ap, sym, ◌∙◌, arith, Bool, true, false, ◌==◌, add_assoc, append_assoc, eq-eqb}
+use Rattle.std.specs.Prelude.{replicate, if◌then◌else◌}
 use Rattle.std.proofs.lemmas.Bool.{ne_eqb}
 use Rattle.std.proofs.lemmas.List.{replicate-append-replicate}
 use Rattle.media_tape.specs.Index.{mark_size}
-use Rattle.media_tape.specs.SizeSpace.{further, size_way}
+use Rattle.media_tape.specs.SizeSpace.{further, size_way, leading_records}
 use Rattle.media_tape.specs.Space.{Way}
 use Rattle.media_tape.specs.declared.outcome.Over.{Over}
 use Rattle.media_tape.specs.declared.outcome.Over.TheVariants.{Records, Filemarks}
@@ -71,3 +72,45 @@ records-passed direction Filemarks (suc left) (suc many) size sizes e some diffe
     rw (ne_eqb size mark_size differs)
     (ap (further 1) (records-passed direction Filemarks (suc left) many size sizes e some differs)
     ∙ further-suc many (size_way direction Filemarks (suc left) sizes))
+
+-- ---- the records before the first filemark
+
+pub leading-records : (many size : ℕ) (sizes : List ℕ) → (size ≡ mark_size → ⊥)
+    → leading_records (replicate many size ++ sizes) ≡ many + leading_records sizes
+leading-records zero size sizes differs = omega arith
+leading-records (suc many) size sizes differs =
+    rw (ne_eqb size mark_size differs) (omega (arith, leading-records many size sizes differs))
+
+pub leading-marks : (many : ℕ) (sizes : List ℕ) → 0 < many → leading_records (replicate many mark_size ++ sizes) ≡ 0
+leading-marks zero sizes some = absurd (omega arith)
+leading-marks (suc many) sizes some = refl
+
+pub leading_few : (sizes : List ℕ) → leading_records sizes ≤ length sizes
+leading_few [] = omega arith
+leading_few (size ∷ sizes) =
+    let many = leading_records sizes in
+    elim (size == mark_size) as (λ is. (if is then 0 else suc many) ≤ suc (length sizes)) [
+      | true ↦ omega arith
+      | false ↦ omega (arith, leading_few sizes)
+    ]
+
+-- spacing over filemarks goes past them
+abbrev pub GoesPast : Direction → ℕ → List ℕ → Type 0
+GoesPast direction left sizes =
+    let many = leading_records sizes in
+    size_way direction Filemarks left sizes ≡ further many (size_way direction Filemarks left (drop many sizes))
+
+past-one : (direction : Direction) (left size : ℕ) (sizes : List ℕ) (is_mark : Bool) → (size == mark_size) ≡ is_mark
+    → GoesPast direction (suc left) sizes → GoesPast direction (suc left) (size ∷ sizes)
+past-one direction left size sizes true is rest =
+    let none : leading_records (size ∷ sizes) ≡ 0 = rw is refl in
+    rw none (sym (further-zero (size_way direction Filemarks (suc left) (size ∷ sizes))))
+past-one direction left size sizes false is rest =
+    let many = leading_records sizes in
+    rw is (ap (further 1) rest ∙ further-suc many (size_way direction Filemarks (suc left) (drop many sizes)))
+
+pub past-leading : (direction : Direction) (left : ℕ) (sizes : List ℕ) → 0 < left → GoesPast direction left sizes
+past-leading direction zero sizes some = absurd (omega arith)
+past-leading direction (suc left) [] some = sym (further-zero (size_way direction Filemarks (suc left) []))
+past-leading direction (suc left) (size ∷ sizes) some =
+    past-one direction left size sizes (size == mark_size) refl (past-leading direction (suc left) sizes some)

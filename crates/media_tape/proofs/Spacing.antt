@@ -1,16 +1,22 @@
 -- Spacing goes on from one run to the next.
-use Rattle.std.proofs.Common.{◌≡◌, ℕ, zero, suc, ◌+◌, ◌-◌, ◌≤◌, ◌<◌, List, [], ◌++◌, length, ap, sym, ◌∙◌, arith}
+use Rattle.std.proofs.Common.{◌≡◌, ℕ, zero, suc, ◌+◌, ◌-◌, ◌≤◌, ◌<◌, List, [], ◌++◌, ◌⊎◌, inl, inr}
+use Rattle.std.proofs.Common.{length, take, drop, reverse, ap, sym, ◌∙◌, arith}
 use Rattle.std.specs.Prelude.{replicate}
-use Rattle.std.proofs.lemmas.List.{length-append, length-replicate, length-drop}
-use Rattle.media_tape.specs.Index.{AreAhead, CanMove, sizes_ahead}
-use Rattle.media_tape.specs.SizeSpace.{further, size_way, size_way_from, HasEnded}
+use Rattle.std.proofs.Math.Seq.{take-add}
+use Rattle.std.proofs.lemmas.List.{length-append, length-replicate, length-drop, length-reverse, length-take-le}
+use Rattle.std.proofs.lemmas.List.{drop_at, drop-drop, reverse-append}
+use Rattle.media_tape.specs.Index.{mark_size, AreAhead, AreAlike, CanMove, sizes_ahead}
+use Rattle.media_tape.specs.SizeSpace.{further, size_way, size_way_from, leading_records, past_records, HasEnded}
 use Rattle.media_tape.specs.Space.{Way, edge, spaced_to}
 use Rattle.media_tape.specs.declared.index.Ahead.{Ahead}
 use Rattle.media_tape.specs.declared.outcome.Over.{Over}
+use Rattle.media_tape.specs.declared.outcome.Over.TheVariants.{Records, Filemarks}
 use Rattle.media_tape.specs.declared.outcome.Direction.{Direction}
 use Rattle.media_tape.specs.declared.outcome.Direction.TheVariants.{Forward, Backward}
 use Rattle.media_tape.specs.declared.space.Ended.{Ended}
+use Rattle.media_tape.proofs.Alike.{alike-back}
 use Rattle.media_tape.proofs.SizeWays.{further-further, further-zero}
+use Rattle.media_tape.proofs.SizeWays.{leading-records, leading-marks, leading_few, past-leading}
 
 pub long-ahead : (toward : Direction) (at many : ℕ) (sizes : List ℕ) → at ≤ length sizes → many ≤ length (sizes_ahead toward at sizes)
     → spaced_to toward at many ≤ length sizes
@@ -77,3 +83,88 @@ way-edge direction over (suc left) at sizes some none = ap (size_way direction o
 pub can_less : (toward : Direction) (at many less : ℕ) → CanMove toward at many → less ≤ many → CanMove toward at less
 can_less Forward at many less can le = omega arith
 can_less Backward at many less can le = omega arith
+
+-- ---- past the records before a filemark
+
+drop-sizes_ahead : (toward : Direction) (at many : ℕ) (sizes : List ℕ) → at ≤ length sizes
+    → many ≤ length (sizes_ahead toward at sizes)
+    → drop many (sizes_ahead toward at sizes) ≡ sizes_ahead toward (spaced_to toward at many) sizes
+drop-sizes_ahead Forward at many sizes within few = drop-drop many at sizes
+drop-sizes_ahead Backward at many sizes within few =
+    let first : ℕ = at - many in
+    let there : first + many ≡ at = omega (arith, length-reverse (take at sizes), length-take-le at sizes within) in
+    let front = take first sizes in
+    let back = take many (drop first sizes) in
+    let long : many ≤ length (drop first sizes) = omega (arith, length-drop first sizes, there) in
+    ap (λ n. drop many (reverse (take n sizes))) (sym there)
+    ∙ ap (λ l. drop many (reverse l)) (take-add first many sizes)
+    ∙ ap (drop many) (reverse-append front back)
+    ∙ drop_at (reverse back) (reverse front) many (length-reverse back ∙ length-take-le many (drop first sizes) long)
+
+-- from where it was, or past the records next to it
+abbrev pub IsPast : Direction → Over → ℕ → ℕ → List ℕ → Type 0
+IsPast toward over at now sizes = (now ≡ at) ⊎ ((over ≡ Filemarks) × (now ≡ past_records toward at sizes))
+
+pub on_past : (toward : Direction) (over : Over) (count from : ℕ) (sizes : List ℕ) (left at now : ℕ) → 0 < left
+    → IsOn toward over count from sizes left at → IsPast toward over at now sizes
+    → IsOn toward over count from sizes left now
+on_past direction over count from sizes left at now some on (inl is) = rw is on
+on_past direction Records count from sizes left at now some on (inr is) = let e = is.0 in absurd cc
+on_past direction Filemarks count from sizes left at now some on (inr is) =
+    let ahead = sizes_ahead direction at sizes in
+    let many = leading_records ahead in
+    let few = leading_few ahead in
+    record {
+      gone = on.gone + many;
+      at_is = is.1 ∙ ap (λ n. spaced_to direction n many) on.at_is ∙ spaced-spaced direction from on.gone many;
+      within = rw is.1 (long-ahead direction at many sizes on.within few);
+      way = rw is.1 (on.way ∙ ap (further on.gone) (past-leading direction left ahead some)
+          ∙ ap (λ l. further on.gone (further many (size_way direction Filemarks left l)))
+          (drop-sizes_ahead direction at many sizes on.within few)
+          ∙ further-further on.gone many (size_way_from direction Filemarks left (spaced_to direction at many) sizes));
+    }
+
+pub no_longer : (toward : Direction) (over : Over) (at now : ℕ) (sizes : List ℕ) → at ≤ length sizes
+    → IsPast toward over at now sizes
+    → length (sizes_ahead toward now sizes) ≤ length (sizes_ahead toward at sizes)
+no_longer direction over at now sizes within (inl is) = rw is (omega arith)
+no_longer direction over at now sizes within (inr is) =
+    let ahead = sizes_ahead direction at sizes in
+    let many = leading_records ahead in
+    rw (is.1, ← drop-sizes_ahead direction at many sizes within (leading_few ahead))
+    (omega (arith, length-drop many ahead))
+
+-- past a run of records
+past-run : (toward : Direction) (at many size : ℕ) (sizes : List ℕ) → (size ≡ mark_size → ⊥)
+    → sizes_ahead toward at sizes ≡ replicate many size ++ sizes_ahead toward (spaced_to toward at many) sizes
+    → past_records toward at sizes ≡ past_records toward (spaced_to toward at many) sizes
+past-run toward at many size sizes differs is =
+    let rest = sizes_ahead toward (spaced_to toward at many) sizes in
+    ap (λ l. spaced_to toward at (leading_records l)) is
+    ∙ ap (spaced_to toward at) (leading-records many size rest differs)
+    ∙ sym (spaced-spaced toward at many (leading_records rest))
+
+pub past-forward : (sizes : List ℕ) (at next size : ℕ) → AreAlike sizes at next size → at ≤ next
+    → (size ≡ mark_size → ⊥) → past_records Forward at sizes ≡ past_records Forward next sizes
+past-forward sizes at next size are low differs =
+    let there : at + (next - at) ≡ next = omega arith in
+    rw there at (past-run Forward at (next - at) size sizes differs (rw there are.is))
+
+pub past-backward : (sizes : List ℕ) (first at size : ℕ) → AreAlike sizes first at size → first ≤ at
+    → (size ≡ mark_size → ⊥) → past_records Backward at sizes ≡ past_records Backward first sizes
+past-backward sizes first at size are low differs =
+    let there : at - (at - first) ≡ first = omega arith in
+    let ahead = alike-back sizes first at size are low in
+    rw there at (past-run Backward at (at - first) size sizes differs (rw there ahead))
+
+-- and no further than a filemark
+pub past-mark : (toward : Direction) (at many : ℕ) (sizes rest : List ℕ) → 0 < many
+    → sizes_ahead toward at sizes ≡ replicate many mark_size ++ rest → past_records toward at sizes ≡ at
+past-mark toward at many sizes rest some is =
+    ap (λ l. spaced_to toward at (leading_records l)) is
+    ∙ ap (spaced_to toward at) (leading-marks many rest some)
+    ∙ sym (spaced-none toward at)
+
+pub past-none : (toward : Direction) (at : ℕ) (sizes : List ℕ) → sizes_ahead toward at sizes ≡ []
+    → past_records toward at sizes ≡ at
+past-none toward at sizes is = ap (λ l. spaced_to toward at (leading_records l)) is ∙ sym (spaced-none toward at)

@@ -1,6 +1,7 @@
 -- Runs: each says how many items there are up to its last, where that ends, and the size of its own. They follow those of
 -- the run before.
-use Rattle.std.specs.Prelude.{◌≡◌, ℕ, ◌+◌, ◌-◌, ◌*◌, ◌≤◌, ◌<◌, List, [], ◌∷◌, ◌++◌, replicate, get_or, vec_len, vec_capacity}
+use Rattle.std.specs.Prelude.{◌≡◌, ◌≢◌, ℕ, ◌+◌, ◌-◌, ◌*◌, ◌≤◌, ◌<◌, List, [], ◌∷◌, ◌++◌}
+use Rattle.std.specs.Prelude.{replicate, get_or, vec_len, vec_capacity}
 use Rattle.media_tape.specs.Index.{Items, mark_size, most_size}
 use Rattle.media_tape.specs.declared.run.Run.{Run}
 use Rattle.media_tape.specs.declared.index.Index.TheInside.{Inside}
@@ -11,6 +12,14 @@ no_run = record { count = 0; end = 0; size = 0 }
 -- the run before this one, or the last where there are so many
 abbrev pub run_before : List Run → ℕ → Run
 run_before runs i = get_or (no_run ∷ runs) i no_run
+
+-- the size of the items of this run
+abbrev pub run_size : List Run → ℕ → ℕ
+run_size runs i = (get_or runs i no_run).size
+
+-- the runs from one to another are of records
+abbrev pub AreRecords : List Run → ℕ → ℕ → Type 0
+AreRecords runs from to = (i : ℕ) → from ≤ i → i < to → run_size runs i ≢ mark_size
 
 -- the sizes of their items, where this run is before them
 abbrev pub sizes_of : Run → List Run → List ℕ

@@ -27,6 +27,15 @@ size_way direction Filemarks (suc left) (size ∷ sizes) =
 abbrev pub size_way_from : Direction → Over → ℕ → ℕ → List ℕ → Way
 size_way_from direction over count from sizes = size_way direction over count (sizes_ahead direction from sizes)
 
+-- own: how many records there are before the first filemark
+abbrev pub leading_records : List ℕ → ℕ
+leading_records [] = 0
+leading_records (size ∷ sizes) = if size == mark_size then 0 else suc (leading_records sizes)
+
+-- own: the position past the records next to one
+abbrev pub past_records : Direction → ℕ → List ℕ → ℕ
+past_records toward at sizes = spaced_to toward at (leading_records (sizes_ahead toward at sizes))
+
 -- own: the size_way through a run and then through these items
 abbrev pub through : Within → Direction → Over → ℕ → List ℕ → Way
 through (within.All left) direction over many sizes = further many (size_way direction over left sizes)

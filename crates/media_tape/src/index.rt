@@ -2,9 +2,10 @@
 
 ghost use Rattle.std.specs.Prelude.{◌≡◌, ◌+◌, ◌*◌, ◌^◌, ◌≤◌, ◌<◌, ◌++◌, [], length, sum, take, replicate, slice_index, IsOk, OnOk, OnErr, MatchOption};
 ghost use Rattle.media_tape.specs.Index.{mark_size, most_size, Joins, HasRoom, IsLast, AreAround, AreAhead, sizes_ahead};
+ghost use Rattle.media_tape.specs.SizeSpace.{past_records};
 
 use crate::outcome::Direction;
-use crate::run::{Run, run_before, run_of};
+use crate::run::{Run, marks_before, marks_from, run_before, run_of};
 use std::alloc::{AllocError, Global};
 use std::marker::Model;
 
@@ -37,8 +38,8 @@ pub(crate) struct Alike {
     pub end: u64,
     /// The size of each.
     pub size: u32,
-    /// Which run they are.
-    pub run: usize,
+    /// How many runs there are up to theirs.
+    pub runs: usize,
 }
 
 /// Items of one size on the way from a position.
@@ -47,8 +48,8 @@ pub(crate) struct Ahead {
     pub many: u64,
     /// The size of each.
     pub size: u32,
-    /// Which run they are of.
-    pub run: usize,
+    /// A run that may have the item behind them.
+    pub near: usize,
 }
 
 impl Index {
@@ -83,7 +84,7 @@ impl Index {
         self.last().end
     }
 
-    /// The run with the item of this number, which may be near this one.
+    /// The run with the item of this number, which may be this one.
     fn run_at(&self, number: u64, near: usize) -> Alike
         requires { number < length self.now.sizes }
         ensures { AreAround self.now.sizes result number }
@@ -95,7 +96,7 @@ impl Index {
             next: run.count,
             end: run.end,
             size: run.size,
-            run: i,
+            runs: i + 1,
         }
     }
 
@@ -121,7 +122,7 @@ impl Index {
         self.run_at(number, 0).size
     }
 
-    /// The items of one size next to a position, in the run near this one or in another.
+    /// The items of one size next to a position, which may be in this run.
     pub fn ahead(&self, toward: Direction, at: u64, near: usize) -> Option<Ahead>
         requires { at ≤ length self.now.sizes }
         ensures { MatchOption result (sizes_ahead toward at self.now.sizes ≡ []) (λ ahead. AreAhead toward at self.now.sizes ahead) }
@@ -134,11 +135,12 @@ impl Index {
                 let Alike {
                     next,
                     size,
-                    run,
+                    runs,
                     ..
                 } = self.run_at(at, near);
                 let many = next - at;
-                Some(Ahead { many, size, run })
+                let near = runs;
+                Some(Ahead { many, size, near })
             }
             Direction::Backward => {
                 if at == 0 {
@@ -147,11 +149,39 @@ impl Index {
                 let Alike {
                     first,
                     size,
-                    run,
+                    runs,
                     ..
                 } = self.run_at(at - 1, near);
                 let many = at - first;
-                Some(Ahead { many, size, run })
+                let near = runs.saturating_sub(2);
+                Some(Ahead { many, size, near })
+            }
+        }
+    }
+
+    /// Where the records next to a position end, and the run there. Of each run of them only the size is read.
+    /// It stays a call, which keeps the loop over records in [`Index::space`] short.
+    #[inline(never)]
+    pub fn past_records(&self, toward: Direction, at: u64, near: usize) -> (u64, usize)
+        requires { at ≤ length self.now.sizes }
+        ensures { result.0 ≡ past_records toward at self.now.sizes }
+    {
+        match toward {
+            Direction::Forward => {
+                if at == self.count() {
+                    return (at, near);
+                }
+                let run = marks_from(&self.runs, run_of(&self.runs, at, near));
+                let start = run_before(&self.runs, run).count;
+                (start.max(at), run)
+            }
+            Direction::Backward => {
+                if at == 0 {
+                    return (at, near);
+                }
+                let many = marks_before(&self.runs, run_of(&self.runs, at - 1, near) + 1);
+                let end = run_before(&self.runs, many).count;
+                (end.min(at), many.saturating_sub(1))
             }
         }
     }

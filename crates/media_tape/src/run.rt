@@ -1,7 +1,8 @@
 //! Items of one size.
 
-ghost use Rattle.std.specs.Prelude.{◌≡◌, ◌+◌, ◌≤◌, ◌<◌, length};
-ghost use Rattle.media_tape.specs.Runs.{run_before};
+ghost use Rattle.std.specs.Prelude.{◌≡◌, ◌+◌, ◌-◌, ◌≤◌, ◌<◌, length};
+ghost use Rattle.media_tape.specs.Index.{mark_size};
+ghost use Rattle.media_tape.specs.Runs.{run_before, run_size, AreRecords};
 
 /// The size of a filemark.
 pub(crate) const MARK_SIZE: u32 = 8;
@@ -32,32 +33,15 @@ pub(crate) fn run_before(runs: &[Run], many: usize) -> Run
     }
 }
 
-/// A run beside this one that may have the item of this number.
-fn guessed(runs: &[Run], number: u64, near: usize) -> usize {
-    if near >= runs.len() {
-        0
-    } else if runs[near].count <= number {
-        near + 1
-    } else if number < run_before(runs, near).count {
-        near.saturating_sub(1)
-    } else {
-        near
-    }
-}
-
-/// The run with the item of this number: where it is not this one or one beside it, by bisection.
+/// The run with the item of this number: where it is not this one, by bisection.
 pub(crate) fn run_of(runs: &[Run], number: u64, near: usize) -> usize
     requires { number < (run_before runs.now (length runs.now)).count }
     ensures within { result < length runs.now }
     ensures from { (run_before runs.now result).count ≤ number }
     ensures to { number < (run_before runs.now (result + 1)).count }
 {
-    let guess = guessed(runs, number, near);
-    if guess < runs.len()
-        && run_before(runs, guess).count <= number
-        && number < run_before(runs, guess + 1).count
-    {
-        return guess;
+    if near < runs.len() && number < runs[near].count && run_before(runs, near).count <= number {
+        return near;
     }
     let mut low = 0;
     let mut high = runs.len();
@@ -70,4 +54,33 @@ pub(crate) fn run_of(runs: &[Run], number: u64, near: usize) -> usize
         }
     }
     low
+}
+
+/// The first run of filemarks from this one on, or the number of runs where none is left.
+pub(crate) fn marks_from(runs: &[Run], from: usize) -> usize
+    requires { from ≤ length runs.now }
+    ensures from { from ≤ result }
+    ensures within { result ≤ length runs.now }
+    ensures records { AreRecords runs.now from result }
+    ensures mark { result < length runs.now → run_size runs.now result ≡ mark_size }
+{
+    let mut run = from;
+    while run < runs.len() && runs[run].size != MARK_SIZE {
+        run += 1;
+    }
+    run
+}
+
+/// The number of runs up to the last of filemarks among so many, or 0 where none is among them.
+pub(crate) fn marks_before(runs: &[Run], many: usize) -> usize
+    requires { many ≤ length runs.now }
+    ensures within { result ≤ many }
+    ensures records { AreRecords runs.now result many }
+    ensures mark { 0 < result → run_size runs.now (result - 1) ≡ mark_size }
+{
+    let mut run = many;
+    while run > 0 && runs[run - 1].size != MARK_SIZE {
+        run -= 1;
+    }
+    run
 }

@@ -76,6 +76,9 @@ impl Index {
         let mut left = count;
         let mut near = 0;
         while left > 0 {
+            if over == Over::Filemarks {
+                (at, near) = self.past_records(toward, at, near);
+            }
             let Some(ahead) = self.ahead(toward, at, near) else {
                 let told = at_edge(toward, left);
                 return Ended { number: at, told };
@@ -84,7 +87,7 @@ impl Index {
                 Within::All(rest) => {
                     at = moved(toward, at, ahead.many);
                     left = rest;
-                    near = ahead.run;
+                    near = ahead.near;
                 }
                 Within::Part(passed, told) => {
                     let number = moved(toward, at, passed);
@@ -121,7 +124,7 @@ impl Index {
                 return FixedRead { given, ended };
             }
             given += ahead.many.min(u64::from(count - given)) as u32;
-            near = ahead.run;
+            near = ahead.near;
         }
         let ended = FixedEnd::Whole;
         FixedRead { given, ended }

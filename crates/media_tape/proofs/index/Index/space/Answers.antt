@@ -1,33 +1,52 @@
-use Rattle.std.proofs.Common.{◌≡◌, zero, ap, ◌∙◌, arith}
+use Rattle.std.proofs.Common.{◌≡◌, zero, inl, inr, rules, ap, ◌∙◌, arith}
 use Rattle.media_tape.specs.Index.{sizes_ahead}
 use Rattle.media_tape.specs.SizeSpace.{size_way}
 use Rattle.media_tape.specs.Space.{spaced_to}
 use Rattle.media_tape.proofs.Spacing.{on_start, on_next, has_ended, spaced-none, way-edge, can_less, shorter}
+use Rattle.media_tape.proofs.Spacing.{IsPast, on_past, no_longer}
 use Rattle.media_tape.proofs.index.Index.space.Goals as goal
+use Rattle.media_tape.proofs.index.Index.space.Goals.{then-eq, else-eq}
 
 pub loop-left-init : goal.loop-left-init
 loop-left-init c = on_start c.args.toward c.args.over c.args.count c.args.from c.args.self.now.sizes c.requires
+
+pub ahead-requires : goal.ahead-requires
+ahead-requires c =
+    let past : IsPast c.args.toward c.args.over c.loop-left.at c.if-eq.at c.args.self.now.sizes =
+    elim c.if-eq.branch [ then-eq w ↦ inr (search rules, cc) | else-eq w ↦ inl w.at-is ] in
+    (on_past _ _ _ _ _ _ _ _ c.loop-left-test.true c.loop-left.invariant past).within
 
 pub moved-at-requires : goal.moved-at-requires
 moved-at-requires c = c.in-Some.ensures.can
 
 pub moved-number-requires : goal.moved-number-requires
-moved-number-requires c = can_less c.args.toward c.loop-left.at c.in-Some.ahead.many c.in-Part.passed c.in-Some.ensures.can c.in-Part.ensures.within
+moved-number-requires c = can_less c.args.toward c.if-eq.at c.in-Some.ahead.many c.in-Part.passed c.in-Some.ensures.can c.in-Part.ensures.within
 
 pub loop-left-preserved : goal.loop-left-preserved
 loop-left-preserved c =
-    on_next c.args.toward c.args.over c.args.count c.args.from c.args.self.now.sizes c.loop-left.left c.loop-left.at c.in-All.rest c.moved-at.result
-    c.in-Some.ahead c.loop-left.invariant c.in-Some.ensures c.moved-at.ensures (c.in-All.ensures.way c.args.toward)
+    let past : IsPast c.args.toward c.args.over c.loop-left.at c.if-eq.at c.args.self.now.sizes =
+    elim c.if-eq.branch [ then-eq w ↦ inr (search rules, cc) | else-eq w ↦ inl w.at-is ] in
+    on_next c.args.toward c.args.over c.args.count c.args.from c.args.self.now.sizes c.loop-left.left c.if-eq.at c.in-All.rest c.moved-at.result
+    c.in-Some.ahead (on_past _ _ _ _ _ _ _ _ c.loop-left-test.true c.loop-left.invariant past) c.in-Some.ensures c.moved-at.ensures
+    (c.in-All.ensures.way c.args.toward)
 
 pub loop-left-smaller : goal.loop-left-smaller
-loop-left-smaller c = rw c.moved-at.ensures (shorter c.args.toward c.loop-left.at c.args.self.now.sizes c.in-Some.ahead c.in-Some.ensures)
+loop-left-smaller c =
+    let past : IsPast c.args.toward c.args.over c.loop-left.at c.if-eq.at c.args.self.now.sizes =
+    elim c.if-eq.branch [ then-eq w ↦ inr (search rules, cc) | else-eq w ↦ inl w.at-is ] in
+    let less = shorter c.args.toward c.if-eq.at c.args.self.now.sizes c.in-Some.ahead c.in-Some.ensures in
+    let most = no_longer c.args.toward c.args.over _ _ _ c.loop-left.invariant.within past in
+    rw c.moved-at.ensures (omega (arith, less, most))
 
 pub returns-in-Part : goal.returns-in-Part
 returns-in-Part c =
     let sizes = c.args.self.now.sizes in
-    let at = c.loop-left.at in
+    let at = c.if-eq.at in
     let ahead = c.in-Some.ahead in
-    has_ended c.args.toward c.args.over c.args.count c.args.from sizes c.loop-left.left at c.in-Part.passed _ c.loop-left.invariant
+    let past : IsPast c.args.toward c.args.over c.loop-left.at at sizes =
+    elim c.if-eq.branch [ then-eq w ↦ inr (search rules, cc) | else-eq w ↦ inl w.at-is ] in
+    has_ended c.args.toward c.args.over c.args.count c.args.from sizes c.loop-left.left at c.in-Part.passed _
+    (on_past _ _ _ _ _ _ _ _ c.loop-left-test.true c.loop-left.invariant past)
     (ap (size_way c.args.toward c.args.over c.loop-left.left) c.in-Some.ensures.is
     ∙ c.in-Part.ensures.way c.args.toward (sizes_ahead c.args.toward (spaced_to c.args.toward at ahead.many) sizes))
     (omega (arith, c.in-Some.ensures.many, c.in-Part.ensures.within)) c.moved-number.ensures
@@ -35,8 +54,11 @@ returns-in-Part c =
 pub returns-in_default : goal.returns-in_default
 returns-in_default c =
     let sizes = c.args.self.now.sizes in
-    let at = c.loop-left.at in
-    has_ended c.args.toward c.args.over c.args.count c.args.from sizes c.loop-left.left at 0 _ c.loop-left.invariant
+    let at = c.if-eq.at in
+    let past : IsPast c.args.toward c.args.over c.loop-left.at at sizes =
+    elim c.if-eq.branch [ then-eq w ↦ inr (search rules, cc) | else-eq w ↦ inl w.at-is ] in
+    has_ended c.args.toward c.args.over c.args.count c.args.from sizes c.loop-left.left at 0 _
+    (on_past _ _ _ _ _ _ _ _ c.loop-left-test.true c.loop-left.invariant past)
     (rw c.at_edge-told.ensures (way-edge c.args.toward c.args.over c.loop-left.left at sizes c.loop-left-test.true (rw c.in_default.is at c.ahead.ensures)))
     (omega arith) (spaced-none c.args.toward at)
 
