@@ -26,11 +26,11 @@ impl Model for Nexus {
 impl Nexus {
     ghost use Rattle.scsi_sense.specs.Nexus.{same_nexus};
 
-    /// Whether both are the same nexus: names and ISIDs are compared byte by byte.
+    /// Whether both are the same nexus: names and ISIDs are compared byte by byte. The ISIDs, six bytes, come first.
     pub fn is_same(&self, other: &Nexus) -> bool
         ensures { result ≡ same_nexus self.now other.now }
     {
-        self.initiator_name == other.initiator_name && self.isid == other.isid
+        self.isid == other.isid && self.initiator_name == other.initiator_name
     }
 }
 
