@@ -4,7 +4,7 @@ ghost use Rattle.std.specs.Prelude.{◌≡◌, ◌<◌, length, IfOk, OnErr};
 ghost use Rattle.scsi_reserve.specs.Table.{empty_table, most_rows, is_allowed};
 ghost use Rattle.scsi_reserve.specs.Out.{registered, unregistered, reserved, released, cleared, taken_over, removed, preempted, acted, out_of};
 
-use crate::conflict::conflict;
+use crate::conflict::{Who, conflict};
 use crate::news::{News, Others};
 use crate::outcome::{Ended, Outcome};
 use crate::parameter_list::ParameterList;
@@ -55,12 +55,17 @@ impl Table {
     }
 
     /// Whether the reservation allows a nexus a command of this class: otherwise it is a RESERVATION CONFLICT.
+    #[tactic(auto, using(crate::proofs::Conflicts::allowed_all))]
     pub fn allows(&self, nexus: &Nexus, class: ReservationClass) -> bool
         ensures { result ≡ is_allowed nexus.now class self.now }
     {
         match &self.reservation {
             None => true,
             Some(reservation) => {
+                // What a nexus may that is neither, all may, so it is not looked for among the registrants.
+                if !conflict(reservation.kind, Who::Neither, class) {
+                    return true;
+                }
                 let who = reservation.who(self.rows.as_slice(), nexus);
                 !conflict(reservation.kind, who, class)
             }
