@@ -143,16 +143,24 @@ impl Buffers {
     }
 }
 
-/// An empty buffer with this much room: one that was used before, or a new one.
-pub(crate) fn take(alloc: Global, used: &mut Buffers, room: usize) -> Result<BytesMut, Memory>
-    ensures items { IfOk result (λ buffer. buffer.items ≡ []) }
-    ensures spare { IfOk result (λ buffer. room ≤ buffer.spare) }
+/// An empty buffer, of those that are kept one that has about this room, or a new one with none. It takes no memory.
+pub(crate) fn take_like(alloc: Global, used: &mut Buffers, room: usize) -> BytesMut
+    ensures { result.items ≡ [] }
 {
     let mut buffer = match used.take(room) {
         Some(buffer) => buffer,
         None => BytesMut::new(alloc),
     };
     buffer.clear();
+    buffer
+}
+
+/// An empty buffer with this much room: one that was used before, or a new one.
+pub(crate) fn take(alloc: Global, used: &mut Buffers, room: usize) -> Result<BytesMut, Memory>
+    ensures items { IfOk result (λ buffer. buffer.items ≡ []) }
+    ensures spare { IfOk result (λ buffer. room ≤ buffer.spare) }
+{
+    let mut buffer = take_like(alloc, used, room);
     buffer.reserve(room)?;
     Ok(buffer)
 }

@@ -11,7 +11,7 @@ ghost use Rattle.scsi_unit.specs.Joined.{raised_for_others};
 ghost use Rattle.scsi_unit.specs.TapeCommands.{loads as loads_tape, tape_performed};
 ghost use Rattle.scsi_unit.specs.Unit.{touch_by, IsPerformed};
 
-use crate::buffers::{Buffers, give_back, take};
+use crate::buffers::{Buffers, give_back, take_like};
 use crate::device::Device;
 use crate::unit::Unit;
 use bytes::BytesMut;
@@ -19,9 +19,20 @@ use data_parts::Data;
 use media_store::Store;
 use out_of_memory::Memory;
 use scsi_cdb::{Cdb, TapeCommand};
-use scsi_sense::{Attention, Done, Nexus};
+use scsi_sense::{Attention, Done, HEADROOM, Nexus, TAILROOM};
 use scsi_tape::TapeUnit;
 use std::alloc::Global;
+
+/// About how much room the data that a command gives takes, with that in front of it and behind it. How much it gives is
+/// known once it was read.
+fn likely_room(command: &TapeCommand) -> usize {
+    let data = match command {
+        TapeCommand::Read { length, .. } => *length as usize,
+        TapeCommand::ReadFixed(blocks) => blocks.count() as usize * blocks.block_length() as usize,
+        _ => return 0,
+    };
+    HEADROOM + data + TAILROOM
+}
 
 /// A command to a tape with the data that it needs, and a buffer that was used before, where there is one, for the
 /// data that it gives. Where an allocation fails nothing changes.
@@ -37,7 +48,8 @@ fn carry_out<S: Store>(
     ensures given { IfOk result (λ done. length done.given ≤ most_given) }
     ensures err { OnErr result (tape.new ≡ tape.old) }
 {
-    let mut buffer = take(alloc, used, 0)?;
+    let room = likely_room(&command);
+    let mut buffer = take_like(alloc, used, room);
     let done = tape.carry_out(alloc, &mut buffer, command, data);
     give_back(used, buffer);
     done
