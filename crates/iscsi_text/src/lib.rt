@@ -7,7 +7,7 @@
 //! Promised, and proved:
 //!
 //! - [`pairs`] reads exactly the pairs of a text, or tells the first fault that it has.
-//! - [`text`] writes exactly the text of pairs.
+//! - [`text`] writes exactly the text of pairs, and [`put_pair`] one pair behind a text.
 //! - What [`pairs`] read and [`text`] wrote, [`pairs`] reads again as the same pairs
 //!   ([`laws::is_read_again`]).
 #![tactic(auto)]
@@ -21,4 +21,4 @@ mod writing;
 pub use fault::TextFault;
 pub use list::Pairs;
 pub use reading::pairs;
-pub use writing::text;
+pub use writing::{put_pair, text};

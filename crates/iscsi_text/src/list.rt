@@ -1,25 +1,52 @@
 //! The list of pairs.
 
-ghost use Rattle.std.specs.Prelude.{◌≡◌, ◌==◌, ◌<◌, ◌^◌, ◌++◌, ◌∷◌, [], length, slice_get, Some, OnOk, OnErr, IsOkUnless, option_map};
+ghost use Rattle.std.specs.Prelude.{◌≡◌, ◌==◌, ◌<◌, ◌^◌, ◌++◌, ◌∷◌, [], length, slice_get, Some, OnOk, OnErr, IfOk, IsOkUnless, option_map};
 ghost use Rattle.iscsi_text.specs.Pairs.{value_of};
 
 use crate::fault::TextFault;
 use std::alloc::Global;
 use std::marker::Model;
 
-/// A key and its value. Clauses see it as their bytes.
+/// A key and its value, one behind the other in one text. Clauses see them apart, as their bytes.
 #[derive(Debug, Drop)]
 struct Pair {
-    key: String,
-    value: String,
+    text: String,
+    key_length: usize,
 }
 
 impl Model for Pair {
-    ghost use Rattle.std.specs.Prelude.{ℕ, List, string_bytes};
+    ghost use Rattle.std.specs.Prelude.{ℕ, List, take, drop, string_bytes};
+    ghost use Rattle.std.specs.Str.{IsCharBoundary};
 
     ghost Value = { List ℕ × List ℕ };
 
-    ghost view = { λ pair. (string_bytes pair.key, string_bytes pair.value) };
+    ghost view = { λ pair. (take pair.key_length (string_bytes pair.text), drop pair.key_length (string_bytes pair.text)) };
+
+    ghost invariant = { λ pair. IsCharBoundary (string_bytes pair.text) pair.key_length };
+}
+
+impl Pair {
+    /// This key with this value. The one fault is out of memory.
+    fn new(alloc: Global, key: &str, value: &str) -> Result<Pair, TextFault>
+        ensures pair { IfOk result (λ pair. pair ≡ (key.now, value.now)) }
+        ensures memory { IsOkUnless result TextFault.Memory }
+    {
+        // One request for both.
+        let mut text = String::with_capacity(alloc, key.len().saturating_add(value.len()))?;
+        text.push_str(key)?;
+        text.push_str(value)?;
+        Ok(Pair {
+            text,
+            key_length: key.len(),
+        })
+    }
+
+    /// The key and the value.
+    fn parts(&self) -> (&str, &str)
+        ensures { (result.0.now, result.1.now) ≡ self.now }
+    {
+        self.text.split_at(self.key_length)
+    }
 }
 
 /// Keys with their values, in the order in which they stand in the text. Clauses see it as the list
@@ -70,9 +97,7 @@ impl Pairs {
         ensures unchanged { OnErr result (self.new ≡ self.old) }
         ensures memory { IsOkUnless result TextFault.Memory }
     {
-        let key = String::from_str(self.alloc, key)?;
-        let value = String::from_str(self.alloc, value)?;
-        self.list.push(Pair { key, value })?;
+        self.list.push(Pair::new(self.alloc, key, value)?)?;
         Ok(())
     }
 
@@ -91,8 +116,7 @@ impl Pairs {
         requires { at < length self.now }
         ensures { slice_get self.now at ≡ Some (result.0.now, result.1.now) }
     {
-        let pair = &self.list[at];
-        (pair.key.as_str(), pair.value.as_str())
+        self.list[at].parts()
     }
 
     /// The value of a key: that of the first pair with this key.
@@ -100,8 +124,9 @@ impl Pairs {
         ensures { option_map (λ value. value.now) result ≡ value_of key.now self.now }
     {
         for pair in &self.list {
-            if key == pair.key.as_str() {
-                return Some(pair.value.as_str());
+            let (found, value) = pair.parts();
+            if key == found {
+                return Some(value);
             }
         }
         None

@@ -1,23 +1,25 @@
 //! From pairs to their text.
 
-ghost use Rattle.std.specs.Prelude.{◌≡◌, ◌++◌, OnOk, IfOk, IsOkUnless};
+ghost use Rattle.std.specs.Prelude.{◌≡◌, ◌++◌, OnOk, OnErr, IfOk, IsOkUnless};
 ghost use Rattle.iscsi_text.specs.Pairs.{spelled, text_of};
 
 use crate::fault::TextFault;
 use crate::list::Pairs;
 use std::alloc::Global;
 
-/// Puts a pair behind a text.
-fn put(bytes: &mut Vec<u8>, key: &str, value: &str) -> Result<(), TextFault>
-    ensures put { OnOk result (bytes.new.items ≡ bytes.old.items ++ spelled (key.now, value.now)) }
+/// Puts a pair behind a text, as the text spells it. The one fault is out of memory, which leaves the
+/// text as it was.
+pub fn put_pair(text: &mut Vec<u8>, key: &str, value: &str) -> Result<(), TextFault>
+    ensures put { OnOk result (text.new.items ≡ text.old.items ++ spelled (key.now, value.now)) }
+    ensures unchanged { OnErr result (text.new.items ≡ text.old.items) }
     ensures memory { IsOkUnless result TextFault.Memory }
 {
-    // One request for all of it, in place of up to four.
-    bytes.reserve(key.len().saturating_add(value.len()).saturating_add(2))?;
-    bytes.extend_from_slice(key.as_bytes())?;
-    bytes.push(b'=')?;
-    bytes.extend_from_slice(value.as_bytes())?;
-    bytes.push(0)?;
+    // One request for all of it, so that nothing is put where there is no room for the rest.
+    text.reserve(key.len().saturating_add(value.len()).saturating_add(2))?;
+    text.extend_from_slice(key.as_bytes())?;
+    text.push(b'=')?;
+    text.extend_from_slice(value.as_bytes())?;
+    text.push(0)?;
     Ok(())
 }
 
@@ -29,7 +31,7 @@ pub fn text(alloc: Global, pairs: &Pairs) -> Result<Vec<u8>, TextFault>
     let mut bytes = Vec::new(alloc);
     for at in 0..pairs.len() {
         let (key, value) = pairs.pair(at);
-        put(&mut bytes, key, value)?;
+        put_pair(&mut bytes, key, value)?;
     }
     Ok(bytes)
 }
