@@ -7,3 +7,5 @@ pub mod Replying
 mod Dialogue
 pub mod FirstText
 pub mod Texts
+pub mod Declared
+pub mod Answered

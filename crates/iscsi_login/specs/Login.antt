@@ -1,5 +1,5 @@
 -- The dialogue of a login (RFC 7143 §6.3, §11.12, §11.13): what each request is answered, and what is remembered of it.
-use Rattle.std.specs.Prelude.{ℕ, ◌+◌, ◌^◌, ◌%◌, List, [], ◌∷◌, ◌++◌, length, take, drop, fold, Bool, true, false, ◌&&◌, ◌||◌, not, nat_lt, Option, Some, None, unwrap_or, option_map, codes, if◌then◌else◌, ⊤, ◌≡◌}
+use Rattle.std.specs.Prelude.{ℕ, ◌+◌, ◌^◌, ◌%◌, List, [], ◌∷◌, ◌++◌, length, take, drop, fold, Bool, true, false, ◌&&◌, ◌||◌, not, nat_lt, Option, Some, None, unwrap_or, option_map, option_to_list, codes, if◌then◌else◌, ⊤, ◌≡◌}
 use Rattle.std.specs.List.{filter_map}
 use Rattle.std.specs.Option.{option_or}
 use Rattle.iscsi_pdu.specs.Header.{initiator_task_tag}
@@ -15,7 +15,8 @@ use Rattle.iscsi_pdu.specs.declared.login_response.LoginStep.TheVariants as step
 use Rattle.iscsi_pdu.specs.declared.login_response.LoginReply.{LoginReply}
 use Rattle.iscsi_pdu.specs.declared.login_response.LoginReply.TheVariants as replies
 use Rattle.iscsi_text.specs.Pairs.{Pair, text_of}
-use Rattle.iscsi_login.specs.Keys.{key_result}
+use Rattle.iscsi_login.specs.Keys.{result_text, key_result}
+use Rattle.iscsi_login.specs.declared.keys.KeyResult.{KeyResult}
 use Rattle.iscsi_login.specs.Values.{AreInRange, with_pairs}
 use Rattle.iscsi_login.specs.declared.values.Values.{Values}
 use Rattle.iscsi_login.specs.Lookup.{Lookup}
@@ -35,6 +36,10 @@ longest_piece = 8192
 
 abbrev pub answered_pair : Pair → Option Pair
 answered_pair pair = option_map (λ text. (pair.0, text)) (key_result pair.0 pair.1)
+
+-- RFC 7143 §6.1, §6.2: what a key is answered by this result, as a text spells it; nothing where it is not answered
+abbrev pub answered_text : List ℕ → KeyResult → List ℕ
+answered_text key result = text_of (option_to_list (option_map (λ text. (key, text)) (result_text result)))
 
 -- RFC 7143 §13.9: the tag of the portal group, of which there is one
 abbrev pub portal_group : Bool → List Pair

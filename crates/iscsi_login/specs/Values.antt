@@ -48,6 +48,12 @@ is_segment_key key = bytes_eq key (codes "MaxRecvDataSegmentLength")
 abbrev pub segment_in : List ℕ → ℕ → ℕ
 segment_in value before = unwrap_or (number_in 512 16777215 value) before
 
+-- RFC 7143 §13.12: what a key declares is in force
+abbrev pub with_declared : List ℕ → List ℕ → Values → Values
+with_declared key value values =
+    if is_segment_key key then record values { max_recv_data_segment_length = segment_in value values.max_recv_data_segment_length }
+    else values
+
 -- the values in force after one more pair
 unfoldable pub with_pair : Values → Pair → Values
 with_pair values pair =

@@ -1,81 +1,88 @@
 //! The text of an answer.
 
-ghost use Rattle.std.specs.Prelude.{◌≡◌, ◌≤◌, ◌++◌, ◌∷◌, [], length, take, codes, IfOk, OnOk, if◌then◌else◌};
+ghost use Rattle.std.specs.Prelude.{◌≡◌, ◌≤◌, ◌++◌, ◌∷◌, [], length, take, IfOk, OnOk, if◌then◌else◌};
 ghost use Rattle.std.specs.List.{filter_map};
-ghost use Rattle.iscsi_text.specs.Pairs.{text_of};
-ghost use Rattle.iscsi_login.specs.Login.{longest_piece, answered_pair, portal_group, declaration, answer_pairs};
+ghost use Rattle.iscsi_text.specs.Pairs.{spelled, text_of};
+ghost use Rattle.iscsi_login.specs.Values.{with_pairs};
+ghost use Rattle.iscsi_login.specs.Login.{longest_piece, answered_pair, answered_text, answer_pairs};
 
-use crate::keys::settle_key;
-use bytes::BytesMut;
-use iscsi_text::{Pairs, text};
+use crate::keys::{KeyResult, boolean_word, settled};
+use crate::values::Values;
+use iscsi_text::{Pairs, put_pair};
+use itoa::Buffer;
 use out_of_memory::Memory;
 use std::alloc::Global;
 
 /// The longest piece of an answer's text, in bytes.
 pub(crate) const LONGEST_PIECE: usize = 8192;
 
-/// Puts a pair behind an answer.
-fn put(answer: &mut Pairs, key: &str, value: &str) -> Result<(), Memory>
-    ensures { OnOk result (answer.new ≡ answer.old ++ (key.now, value.now) ∷ []) }
+/// Puts a pair behind an answer's text.
+fn put(text: &mut Vec<u8>, key: &str, value: &str) -> Result<(), Memory>
+    ensures { OnOk result (text.new.items ≡ text.old.items ++ spelled (key.now, value.now)) }
 {
-    if answer.push(key, value).is_err() {
+    if put_pair(text, key, value).is_err() {
         return Err(Memory);
     }
     Ok(())
 }
 
-/// Puts the result of an offer behind an answer, where it has one.
-fn put_result(alloc: Global, answer: &mut Pairs, key: &str, offer: &str) -> Result<(), Memory>
-    ensures { OnOk result (answer.new ≡ answer.old ++ filter_map answered_pair ((key.now, offer.now) ∷ [])) }
+/// Puts a pair behind an answer's text, where it is told.
+fn put_told(text: &mut Vec<u8>, is_told: bool, key: &str, value: &str) -> Result<(), Memory>
+    ensures { OnOk result (text.new.items ≡ text.old.items ++ text_of (if is_told then (key.now, value.now) ∷ [] else [])) }
 {
-    match settle_key(alloc, key, offer)? {
-        Some(value) => put(answer, key, value.as_str()),
-        None => Ok(()),
-    }
-}
-
-/// Puts the results of offers behind an answer, in their order.
-fn put_results(alloc: Global, answer: &mut Pairs, offers: &Pairs) -> Result<(), Memory>
-    ensures { OnOk result (answer.new ≡ answer.old ++ filter_map answered_pair offers.now) }
-{
-    for at in 0..offers.len() {
-        let (key, offer) = offers.pair(at);
-        put_result(alloc, answer, key, offer)?;
+    if is_told {
+        put(text, key, value)?;
     }
     Ok(())
 }
 
-/// The pairs of a whole answer.
-#[tactic(auto, unfolding(crate::specs::Login::answer_pairs))]
-fn answer(alloc: Global, tells_group: bool, is_told: bool, offers: &Pairs) -> Result<Pairs, Memory>
-    ensures { IfOk result (λ answer. answer ≡ answer_pairs tells_group is_told offers.now) }
+/// Puts what an offer comes to behind an answer's text, where it is answered.
+fn put_result(text: &mut Vec<u8>, key: &str, answer: KeyResult) -> Result<(), Memory>
+    ensures { OnOk result (text.new.items ≡ text.old.items ++ answered_text key.now answer) }
 {
-    let mut answer = Pairs::new(alloc);
-    if tells_group {
-        put(&mut answer, "TargetPortalGroupTag", "1")?;
+    match answer {
+        KeyResult::NoAnswer => Ok(()),
+        KeyResult::Boolean(value) => put(text, key, boolean_word(value)),
+        KeyResult::Number(value) => put(text, key, Buffer::new().format(value)),
+        KeyResult::Word(word) => put(text, key, word.text()),
     }
-    put_results(alloc, &mut answer, offers)?;
-    if is_told {
-        put(&mut answer, "MaxRecvDataSegmentLength", "262144")?;
-    }
-    Ok(answer)
 }
 
-/// The text of a whole answer to these offers: the portal group's tag where it is told, and what the
-/// target takes in one PDU where that is told (RFC 7143 §13.9, §13.12).
+/// Puts the results of offers behind an answer's text, in their order. Gives the values in force after
+/// them, so that each offer is settled once.
+fn put_results(text: &mut Vec<u8>, offers: &Pairs, before: Values) -> Result<Values, Memory>
+    ensures text { OnOk result (text.new.items ≡ text.old.items ++ text_of (filter_map answered_pair offers.now)) }
+    ensures values { IfOk result (λ values. values ≡ with_pairs before offers.now) }
+{
+    let mut values = before;
+    for at in 0..offers.len() {
+        let (key, offer) = offers.pair(at);
+        let answer = settled(key, offer);
+        put_result(text, key, answer)?;
+        values = values.with_pair(key, offer, answer);
+    }
+    Ok(values)
+}
+
+/// The text of a whole answer to these offers, and the values in force after them: the portal group's
+/// tag where it is told, and what the target takes in one PDU where that is told (RFC 7143 §13.9,
+/// §13.12).
+#[tactic(auto, using(crate::proofs::Answered::answer_parts), unfolding(crate::specs::Login::answer_pairs))]
 pub(crate) fn answer_text(
     alloc: Global,
     tells_group: bool,
     is_told: bool,
     offers: &Pairs,
-) -> Result<Vec<u8>, Memory>
-    ensures { IfOk result (λ text. text.items ≡ text_of (answer_pairs tells_group is_told offers.now)) }
+    before: Values,
+) -> Result<(Vec<u8>, Values), Memory>
+    ensures text { IfOk result (λ answer. answer.0.items ≡ text_of (answer_pairs tells_group is_told offers.now)) }
+    ensures values { IfOk result (λ answer. answer.1 ≡ with_pairs before offers.now) }
 {
-    let answer = answer(alloc, tells_group, is_told, offers)?;
-    match text(alloc, &answer) {
-        Ok(text) => Ok(text),
-        Err(_) => Err(Memory),
-    }
+    let mut text = Vec::new(alloc);
+    put_told(&mut text, tells_group, "TargetPortalGroupTag", "1")?;
+    let values = put_results(&mut text, offers, before)?;
+    put_told(&mut text, is_told, "MaxRecvDataSegmentLength", "262144")?;
+    Ok((text, values))
 }
 
 /// The first piece of what is still to be sent.
@@ -85,13 +92,4 @@ pub(crate) fn first_piece(alloc: Global, due: &[u8]) -> Result<Vec<u8>, Memory>
 {
     let length = LONGEST_PIECE.min(due.len());
     Ok(Vec::from_slice(alloc, &due[..length])?)
-}
-
-/// The text of an answer, from which pieces are taken.
-pub(crate) fn buffer(alloc: Global, text: &[u8]) -> Result<BytesMut, Memory>
-    ensures { IfOk result (λ due. due.items ≡ text.now) }
-{
-    let mut due = BytesMut::new(alloc);
-    due.extend_from_slice(text)?;
-    Ok(due)
 }

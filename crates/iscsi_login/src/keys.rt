@@ -66,7 +66,7 @@ impl Word {
 }
 
 /// A boolean value as it is sent.
-fn boolean_word(value: bool) -> &'static str
+pub(crate) fn boolean_word(value: bool) -> &'static str
     ensures { result.now ≡ boolean_text value }
 {
     if value { "Yes" } else { "No" }
@@ -75,7 +75,7 @@ fn boolean_word(value: bool) -> &'static str
 /// The two are the same. Their lengths tell most texts apart, without a call.
 #[inline]
 #[tactic(auto, using(crate::proofs::Texts::lengths_differ))]
-fn same(text: &str, other: &str) -> bool
+pub(crate) fn same(text: &str, other: &str) -> bool
     ensures { result ≡ bytes_eq text.now other.now }
 {
     text.len() == other.len() && text == other
@@ -167,7 +167,7 @@ pub fn is_known(key: &str) -> bool
 fn is_listed(word: &str, offer: &str) -> bool
     ensures { result ≡ is_listed_word word.now offer.now }
 {
-    offer.split(',').any(|listed| word == listed)
+    offer.split(',').any(|listed| same(word, listed))
 }
 
 /// Yes or No.
@@ -175,7 +175,7 @@ fn is_listed(word: &str, offer: &str) -> bool
 fn boolean(offer: &str) -> Option<bool>
     ensures { result ≡ boolean_of offer.now }
 {
-    match offer {
+    of_key! { offer;
         "Yes" => Some(true),
         "No" => Some(false),
         _ => None,

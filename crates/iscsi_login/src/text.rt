@@ -4,7 +4,7 @@ ghost use Rattle.std.specs.Prelude.{◌≡◌, ◌++◌, IfOk, option_map};
 ghost use Rattle.std.specs.List.{list_any};
 ghost use Rattle.iscsi_login.specs.Rules.{is_again_after, is_segment_refused as is_refused_segment};
 
-use crate::keys::{is_answer, is_name};
+use crate::keys::{is_answer, is_name, same};
 use crate::number::number_in;
 use crate::values::{LEAST_SEGMENT, MOST_SEGMENT};
 use iscsi_text::Pairs;
@@ -35,7 +35,7 @@ pub(crate) fn is_again(before: Option<&str>, key: &str, value: &str) -> bool
 fn is_segment_refused(key: &str, value: &str) -> bool
     ensures { result ≡ is_refused_segment (key.now, value.now) }
 {
-    key == "MaxRecvDataSegmentLength"
+    same(key, "MaxRecvDataSegmentLength")
         && !is_answer(value)
         && number_in(value, LEAST_SEGMENT, MOST_SEGMENT).is_none()
 }

@@ -1,11 +1,11 @@
 //! The values in force after a login.
 
-ghost use Rattle.std.specs.Prelude.{◌≡◌, ℕ, List};
-ghost use Rattle.iscsi_login.specs.Values.{default_values, with_boolean as boolean_with, with_number as number_with, with_result as result_with, with_pair as pair_with, with_pairs as pairs_with};
+ghost use Rattle.std.specs.Prelude.{◌≡◌};
+ghost use Rattle.iscsi_login.specs.Keys.{settled as settled_of};
+ghost use Rattle.iscsi_login.specs.Values.{default_values, with_boolean as boolean_with, with_number as number_with, with_declared as declared_with, with_pair as pair_with};
 
-use crate::keys::{KeyResult, settled};
+use crate::keys::{KeyResult, same};
 use crate::number::number_in;
-use iscsi_text::Pairs;
 
 /// The values of the keys that a session works by, lengths in bytes and times in seconds. What
 /// cannot differ is not here: HeaderDigest, DataDigest and AuthMethod are None, MaxConnections is 1,
@@ -59,10 +59,10 @@ impl Values {
         ensures { result ≡ boolean_with key.now value self }
     {
         let mut values = self;
-        match key {
-            "InitialR2T" => values.initial_r2t = value,
-            "ImmediateData" => values.immediate_data = value,
-            _ => {}
+        if same(key, "InitialR2T") {
+            values.initial_r2t = value;
+        } else if same(key, "ImmediateData") {
+            values.immediate_data = value;
         }
         values
     }
@@ -72,36 +72,26 @@ impl Values {
         ensures { result ≡ number_with key.now value self }
     {
         let mut values = self;
-        match key {
-            "MaxBurstLength" => values.max_burst_length = value,
-            "FirstBurstLength" => values.first_burst_length = value,
-            "DefaultTime2Wait" => values.default_time2wait = value,
-            "DefaultTime2Retain" => values.default_time2retain = value,
-            "MaxOutstandingR2T" => values.max_outstanding_r2t = value,
-            _ => {}
+        if same(key, "MaxBurstLength") {
+            values.max_burst_length = value;
+        } else if same(key, "FirstBurstLength") {
+            values.first_burst_length = value;
+        } else if same(key, "DefaultTime2Wait") {
+            values.default_time2wait = value;
+        } else if same(key, "DefaultTime2Retain") {
+            values.default_time2retain = value;
+        } else if same(key, "MaxOutstandingR2T") {
+            values.max_outstanding_r2t = value;
         }
         values
     }
 
-    /// The result of a key is in force.
-    #[tactic(auto, unfolding(crate::specs::Values::with_result))]
-    fn with_result(self, key: &str, settled: KeyResult) -> Values
-        ensures { result ≡ result_with key.now settled self }
+    /// What a key declares is in force.
+    fn with_declared(self, key: &str, value: &str) -> Values
+        ensures { result ≡ declared_with key.now value.now self }
     {
-        match settled {
-            KeyResult::Boolean(value) => self.with_boolean(key, value),
-            KeyResult::Number(value) => self.with_number(key, value),
-            KeyResult::NoAnswer | KeyResult::Word(_) => self,
-        }
-    }
-
-    /// The values after one more pair.
-    #[tactic(auto, unfolding(crate::specs::Values::with_pair))]
-    fn with_pair(self, key: &str, value: &str) -> Values
-        ensures { result ≡ pair_with self (key.now, value.now) }
-    {
-        if key != "MaxRecvDataSegmentLength" {
-            return self.with_result(key, settled(key, value));
+        if !same(key, "MaxRecvDataSegmentLength") {
+            return self;
         }
         match number_in(value, LEAST_SEGMENT, MOST_SEGMENT) {
             Some(length) => Values {
@@ -112,15 +102,17 @@ impl Values {
         }
     }
 
-    /// The values after more pairs.
-    pub(crate) fn with_pairs(self, pairs: &Pairs) -> Values
-        ensures { result ≡ pairs_with self pairs.now }
+    /// The values after one more pair, whose offer comes to this.
+    #[tactic(auto, using(crate::proofs::Declared::pair_by_result))]
+    pub(crate) fn with_pair(self, key: &str, value: &str, settled: KeyResult) -> Values
+        requires { settled ≡ settled_of key.now value.now }
+        ensures { result ≡ pair_with self (key.now, value.now) }
     {
-        let mut values = self;
-        for at in 0..pairs.len() {
-            let (key, value) = pairs.pair(at);
-            values = values.with_pair(key, value);
+        match settled {
+            KeyResult::NoAnswer => self.with_declared(key, value),
+            KeyResult::Boolean(value) => self.with_boolean(key, value),
+            KeyResult::Number(value) => self.with_number(key, value),
+            KeyResult::Word(_) => self,
         }
-        values
     }
 }

@@ -1,17 +1,18 @@
 //! How a login takes the text of its requests.
 
-ghost use Rattle.std.specs.Prelude.{◌≡◌, ◌≤◌, ℕ, length, take, false, Some, None, IfOk, IfErr, OnOk, OnErr};
+ghost use Rattle.std.specs.Prelude.{◌≡◌, ◌≤◌, ℕ, length, take, false, Some, None, IfOk, IfErr, OnOk, OnErr, is_err, if◌then◌else◌};
 ghost use Rattle.std.specs.List.{list_any};
-ghost use Rattle.iscsi_text.specs.Pairs.{text_of};
+ghost use Rattle.iscsi_text.specs.Pairs.{text_pairs, text_of};
 ghost use Rattle.iscsi_pdu.specs.declared.login_response.LoginRefusal.TheVariants.{InitiatorError};
 ghost use Rattle.iscsi_login.specs.declared.fault.Fault.TheVariants as faults;
 ghost use Rattle.iscsi_login.specs.Directory.{KnownTargets};
 ghost use Rattle.iscsi_login.specs.Lookup.{lookup_in};
 ghost use Rattle.iscsi_login.specs.LoginState.{AsksBelow};
-ghost use Rattle.iscsi_login.specs.Rules.{text_fault, session_refusal, text_refusal, pairs_with, asked_by, is_again, Tells};
+ghost use Rattle.iscsi_login.specs.Rules.{text_fault, session_refusal, text_refusal, pairs_read, pairs_with, asked_by, is_again, Tells};
+ghost use Rattle.iscsi_login.specs.Values.{with_pairs};
 ghost use Rattle.iscsi_login.specs.Login.{longest_piece, answer_pairs, tells_group, declares, kept_with, heard};
 
-use crate::answer::{answer_text, buffer, first_piece};
+use crate::answer::{answer_text, first_piece};
 use crate::directory::Directory;
 use crate::fault::Fault;
 use crate::login::Login;
@@ -20,10 +21,25 @@ use crate::params::Params;
 use crate::request::is_operational;
 use crate::session::Session;
 use crate::text::{joined, says_no_segment};
+use crate::values::Values;
 use bytes::BytesMut;
 use iscsi_pdu::{Frame, Header, LoginRefusal};
 use iscsi_text::{Pairs, TextFault, pairs};
 use out_of_memory::Memory;
+use std::alloc::Global;
+
+/// The pairs of a whole text, or why it is refused.
+fn read_text(alloc: Global, text: &[u8]) -> Result<Pairs, Fault>
+    ensures pairs { IfOk result (λ pairs. pairs ≡ pairs_read (text_pairs text.now)) }
+    ensures whole { OnOk result (is_err (text_pairs text.now) ≡ false) }
+    ensures refused { IfErr result (Tells (if is_err (text_pairs text.now) then Some InitiatorError else None)) }
+{
+    match pairs(alloc, text) {
+        Ok(pairs) => Ok(pairs),
+        Err(TextFault::Memory) => Err(Fault::Memory),
+        Err(_) => Err(Fault::Refused(LoginRefusal::InitiatorError)),
+    }
+}
 
 impl Login {
     /// The text that a request completes, read: its pairs, or why it is refused.
@@ -33,12 +49,11 @@ impl Login {
         ensures whole { OnOk result (text_fault self.now request.now ≡ None) }
         ensures refused { IfErr result (Tells (text_fault self.now request.now)) }
     {
-        let text = joined(self.alloc, self.kept.as_slice(), request.body.as_slice())?;
-        match pairs(self.alloc, text.as_slice()) {
-            Ok(pairs) => Ok(pairs),
-            Err(TextFault::Memory) => Err(Fault::Memory),
-            Err(_) => Err(Fault::Refused(LoginRefusal::InitiatorError)),
+        if self.kept.is_empty() {
+            return read_text(self.alloc, request.body.as_slice());
         }
+        let text = joined(self.alloc, self.kept.as_slice(), request.body.as_slice())?;
+        read_text(self.alloc, text.as_slice())
     }
 
     /// The session that a whole text asks for, where it is the first.
@@ -61,18 +76,23 @@ impl Login {
         Ok(Some(session))
     }
 
-    /// The text of the answer to a whole text with these pairs, and its first piece.
-    fn answer_to(&self, header: &Header, pairs: &Pairs) -> Result<(BytesMut, Vec<u8>), Memory>
+    /// The text of the answer to a whole text with these pairs, its first piece, and the values in force
+    /// after them.
+    fn answer_to(
+        &self,
+        header: &Header,
+        pairs: &Pairs,
+    ) -> Result<(BytesMut, Vec<u8>, Values), Memory>
         ensures due { IfOk result (λ answer. answer.0.items ≡ text_of (answer_pairs (tells_group self.now.session pairs.now) (declares self.now header.now) pairs.now)) }
         ensures piece { IfOk result (λ answer. answer.1.items ≡ take longest_piece answer.0.items) }
         ensures short { IfOk result (λ answer. length answer.1.items ≤ longest_piece) }
+        ensures values { IfOk result (λ answer. answer.2 ≡ with_pairs self.now.values pairs.now) }
     {
         let is_told = is_operational(header) && !self.declared;
         let tells_group = self.session.is_none() && is_normal_session(pairs);
-        let text = answer_text(self.alloc, tells_group, is_told, pairs)?;
+        let (text, values) = answer_text(self.alloc, tells_group, is_told, pairs, self.values)?;
         let piece = first_piece(self.alloc, text.as_slice())?;
-        let due = buffer(self.alloc, text.as_slice())?;
-        Ok((due, piece))
+        Ok((BytesMut::from(text), piece, values))
     }
 
     /// A whole text is remembered by its pairs and the session that it asks for, and its answer is
@@ -84,8 +104,10 @@ impl Login {
         pairs: Pairs,
         asked: Option<Session>,
         due: BytesMut,
+        values: Values,
     ) -> Result<(), Fault>
-        requires { due.items ≡ text_of (answer_pairs (tells_group self.old.session pairs) (declares self.old header.now) pairs) }
+        requires after { values ≡ with_pairs self.old.values pairs }
+        requires answer { due.items ≡ text_of (answer_pairs (tells_group self.old.session pairs) (declares self.old header.now) pairs) }
         ensures ok { OnOk result ((directory : KnownTargets) → asked ≡ asked_by self.old.session directory header.now pairs
             → self.new ≡ heard directory self.old header.now pairs) }
         ensures due { OnOk result (self.new.due ≡ due.items) }
@@ -95,7 +117,6 @@ impl Login {
         ensures told { IfErr result (Tells (Some InitiatorError)) }
         ensures err { OnErr result (self.new ≡ self.old) }
     {
-        let values = self.values.with_pairs(&pairs);
         if !self.earlier.append(pairs)? {
             return Err(Fault::Refused(LoginRefusal::InitiatorError));
         }
@@ -128,8 +149,8 @@ impl Login {
         if says_no_segment(&pairs) {
             return Err(Fault::Refused(LoginRefusal::InitiatorError));
         }
-        let (due, piece) = self.answer_to(&request.header, &pairs)?;
-        self.remember(&request.header, pairs, asked, due)?;
+        let (due, piece, values) = self.answer_to(&request.header, &pairs)?;
+        self.remember(&request.header, pairs, asked, due, values)?;
         Ok(piece)
     }
 
