@@ -1,5 +1,5 @@
 -- What a Text Request in full feature phase is answered (RFC 7143 §6.2, §11.10, §11.11).
-use Rattle.std.specs.Prelude.{ℕ, ◌≤◌, List, [], ◌++◌, length, take, drop, min, Bool, ◌&&◌, ◌||◌, ◌==◌, nat_lt, Option, Some, None, Result, Ok, Err, if◌then◌else◌, ⊤}
+use Rattle.std.specs.Prelude.{ℕ, ◌≡◌, ◌+◌, ◌≤◌, List, [], ◌++◌, length, take, drop, min, Bool, ◌&&◌, ◌||◌, ◌==◌, not, nat_lt, Option, Some, None, Result, Ok, Err, if◌then◌else◌, ⊤}
 use Rattle.iscsi_pdu.specs.Frames.{Frame}
 use Rattle.iscsi_pdu.specs.Segment.{most_data}
 use Rattle.iscsi_pdu.specs.DataOut.{target_transfer_tag}
@@ -82,3 +82,20 @@ IsShort (Some piece) = length piece.text ≤ most_data
 unfoldable pub hears : ExchangeState → Frame → Params → ToldState
 hears exchange request params =
     if begins request || is_of_exchange exchange request then hears_in (exchange_of exchange request) request params else rejects
+
+-- own: how much text answers a request that only takes its exchange on: a piece of a text that is kept, or the wish for
+-- a piece of an answer behind which more is due
+unfoldable pub text_on : ExchangeState → Frame → Params → Option ℕ
+text_on exchange request params =
+    if not (is_of_exchange exchange request) then None
+    else if nat_lt 0 (length exchange.due) then (
+    if nat_lt (piece_limit params) (length exchange.due) && length request.body == 0 then Some (piece_limit params) else None
+    )
+    else if is_continued request.header && not (nat_lt longest_text (length exchange.kept + length request.body)) then Some 0
+    else None
+
+-- the piece bears so much text
+abbrev pub IsLongAs : Option ℕ → Option TextPiece → Type 0
+IsLongAs (Some n) (Some piece) = length piece.text ≡ n
+IsLongAs (Some n) None = ⊥
+IsLongAs None piece = ⊥

@@ -1,8 +1,8 @@
 //! An exchange of texts.
 
-ghost use Rattle.std.specs.Prelude.{◌≡◌, ◌≤◌, [], IfOk};
+ghost use Rattle.std.specs.Prelude.{◌≡◌, ◌≤◌, ◌<◌, ◌++◌, [], length, take, drop, is_some, true, Some, IfOk, IfSome, OnOk, OnErr};
 ghost use Rattle.iscsi_exchange.specs.ExchangeState.{no_exchange, open_with};
-ghost use Rattle.iscsi_exchange.specs.Exchange.{begins, is_of_exchange, rejects, tells, piece_limit as limit_of, sends, keeps, answers_to, hears_in, hears, IsShort};
+ghost use Rattle.iscsi_exchange.specs.Exchange.{begins, is_of_exchange, rejects, tells, piece_limit as limit_of, sends, keeps, answers_to, hears_in, hears, text_on, IsLongAs, IsShort};
 ghost use Rattle.iscsi_pdu.specs.Segment.{most_data};
 ghost use Rattle.iscsi_text.specs.Pairs.{text_pairs};
 
@@ -25,15 +25,20 @@ pub struct Exchange {
     alloc: Global,
     is_open: bool,
     kept: Vec<u8>,
-    due: Vec<u8>,
+    /// The answer, of which the first bytes were sent, so many.
+    answer: Vec<u8>,
+    sent: usize,
 }
 
 impl Model for Exchange {
+    ghost use Rattle.std.specs.Prelude.{◌≤◌, length, drop};
     ghost use Rattle.iscsi_exchange.specs.ExchangeState.{ExchangeState};
 
     ghost Value = { ExchangeState };
 
-    ghost view = { λ e. record { is_open = e.is_open; kept = e.kept.items; due = e.due.items } };
+    ghost view = { λ e. record { is_open = e.is_open; kept = e.kept.items; due = drop e.sent e.answer.items } };
+
+    ghost invariant = { λ e. e.sent ≤ length e.answer.items };
 }
 
 /// The most text that one answer bears, in bytes: what the initiator takes (RFC 7143 §13.12), and no
@@ -54,8 +59,16 @@ impl Exchange {
             alloc,
             is_open: false,
             kept: Vec::new(alloc),
-            due: Vec::new(alloc),
+            answer: Vec::new(alloc),
+            sent: 0,
         }
+    }
+
+    /// What is still to be sent of the answer.
+    fn due(&self) -> &[u8]
+        ensures { result.now ≡ self.now.due }
+    {
+        &self.answer[self.sent..]
     }
 
     /// What a Text Request in a session of these parameters is answered, and the exchange behind it. The
@@ -81,11 +94,12 @@ impl Exchange {
         ensures told { IfOk result (λ told. told ≡ hears_in self.now request.now params.now) }
         ensures short { IfOk result (λ told. IsShort told.piece) }
     {
-        if !self.due.is_empty() {
+        let due = self.due();
+        if !due.is_empty() {
             if !request.body.is_empty() {
                 return Ok(rejected(self.alloc));
             }
-            return send(self.alloc, params, request, self.due.as_slice());
+            return send(self.alloc, params, request, due);
         }
         let mut text = Vec::from_slice(self.alloc, self.kept.as_slice())?;
         text.extend_from_slice(request.body.as_slice())?;
@@ -93,6 +107,65 @@ impl Exchange {
             return Ok(keep(self.alloc, text));
         }
         answer(self.alloc, params, request, text.as_slice())
+    }
+
+    /// How much text answers a request that only takes its exchange on, which [`Exchange::go_on`] hears: none for a piece
+    /// of a text that goes on, and as much as the initiator takes of an answer that is longer.
+    #[tactic(auto, unfolding(crate::specs::Exchange::text_on))]
+    pub fn text_on(&self, request: &Frame, params: &Params) -> Option<usize>
+        ensures text { result ≡ text_on self.now request.now params.now }
+        ensures short { IfSome result (λ length. length ≤ most_data) }
+    {
+        let header = &request.header;
+        if !self.is_open || header.target_transfer_tag() != EXCHANGE_TAG {
+            return None;
+        }
+        let due = self.due().len();
+        if due > 0 {
+            let limit = piece_limit(params);
+            return (due > limit && request.body.is_empty()).then_some(limit);
+        }
+        let is_kept = header.is_continued() && self.kept.len() + request.body.len() <= LONGEST_TEXT;
+        is_kept.then_some(0)
+    }
+
+    /// As [`Exchange::hear`], for a request of which [`Exchange::text_on`] says how much text answers it: the exchange is
+    /// changed where it stands, and what it keeps is not copied. The one fault is out of memory, and nothing changes then.
+    pub fn go_on(&mut self, request: &Frame, params: &Params) -> Result<Option<Piece>, Memory>
+        requires { is_some (text_on self.old request.now params.now) ≡ true }
+        ensures told { IfOk result (λ piece. record { exchange = self.new; piece = piece } ≡ hears self.old request.now params.now) }
+        ensures text { IfOk result (λ piece. IsLongAs (text_on self.old request.now params.now) piece) }
+        ensures err { OnErr result (self.new ≡ self.old) }
+    {
+        if self.due().is_empty() {
+            self.kept.extend_from_slice(request.body.as_slice())?;
+            let text = Vec::new(self.alloc);
+            let step = TextStep::GoesOn;
+            return Ok(Some(Piece { step, text }));
+        }
+        let limit = piece_limit(params);
+        let text = Vec::from_slice(self.alloc, &self.due()[..limit])?;
+        self.skip(limit)?;
+        self.kept = Vec::new(self.alloc);
+        let step = TextStep::Continued;
+        Ok(Some(Piece { step, text }))
+    }
+
+    /// So many bytes of the answer are sent. Where more was sent than is left, what is left moves, so that no more than
+    /// twice of it is kept: all of an answer is copied once or less on its way.
+    fn skip(&mut self, count: usize) -> Result<(), Memory>
+        requires { count < length self.old.due }
+        ensures skipped { OnOk result (self.new ≡ record self.old { due = drop count self.old.due }) }
+        ensures err { OnErr result (self.new ≡ self.old) }
+    {
+        let sent = self.sent + count;
+        if sent <= self.answer.len() - sent {
+            self.sent = sent;
+            return Ok(());
+        }
+        self.answer = Vec::from_slice(self.alloc, &self.answer[sent..])?;
+        self.sent = 0;
+        Ok(())
     }
 }
 
@@ -120,7 +193,8 @@ fn keep(alloc: Global, text: Vec<u8>) -> Told
             alloc,
             is_open: true,
             kept: text,
-            due: Vec::new(alloc),
+            answer: Vec::new(alloc),
+            sent: 0,
         },
         piece: Some(Piece {
             step: TextStep::GoesOn,
@@ -153,7 +227,8 @@ fn told(alloc: Global, due: Vec<u8>, step: TextStep, text: Vec<u8>) -> Told
             alloc,
             is_open: true,
             kept: Vec::new(alloc),
-            due,
+            answer: due,
+            sent: 0,
         },
         piece: Some(Piece { step, text }),
     }

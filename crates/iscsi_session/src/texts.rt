@@ -3,6 +3,7 @@
 ghost use Rattle.std.specs.Prelude.{◌≡◌, ◌≤◌, ◌<◌, ◌+◌, ◌++◌, ◌∷◌, ℕ, List, length, flat_map, true, IfOk, OnOk, OnErr};
 ghost use Rattle.iscsi_pdu.specs.Answer.{spelling};
 ghost use Rattle.iscsi_pdu.specs.Segment.{most_data};
+ghost use Rattle.iscsi_exchange.specs.ExchangeState.{ExchangeState};
 ghost use Rattle.iscsi_exchange.specs.Exchange.{IsShort, hears};
 ghost use Rattle.iscsi_session.specs.Requests.{Past, frame_of, due};
 ghost use Rattle.iscsi_session.specs.Texts.{is_text as is_text_in, text_answer};
@@ -13,7 +14,7 @@ ghost use Rattle.iscsi_session.specs.Runs.{ActsAs, output};
 use crate::act::Act;
 use crate::answers::rejected;
 use crate::session::Session;
-use iscsi_exchange::{Piece, Told};
+use iscsi_exchange::Piece;
 use iscsi_outbox::Outbox;
 use iscsi_pdu::{Answer, Frame, Opcode, RejectReason, Stamp, TextResponse};
 use out_of_memory::Memory;
@@ -74,19 +75,26 @@ impl Session {
         let Some(frame) = self.tasks.due() else {
             return Ok(Act::Idle);
         };
+        if let Some(length) = self.exchange.text_on(frame, &self.params) {
+            out.reserve(length + ROOM_TO_TELL)?;
+            let piece = self.exchange.go_on(frame, &self.params)?;
+            return Ok(self.answer_told(out, &piece));
+        }
         let told = self.exchange.hear(frame, &self.params)?;
         out.reserve(text_length(&told.piece) + ROOM_TO_TELL)?;
-        Ok(self.answer_told(out, told))
+        self.exchange = told.exchange;
+        Ok(self.answer_told(out, &told.piece))
     }
 
-    /// The first request that is due, a Text, is finished and answered so. There must be room for its answer, so
-    /// it takes no memory.
-    fn answer_told(&mut self, out: &mut Outbox, told: Told) -> Act
-        requires short { IsShort told.piece }
-        requires room { room_to_tell told.piece ≤ out.old.spare }
+    /// The first request that is due, a Text, is finished and answered so: the exchange has heard it. There must be room
+    /// for its answer, so it takes no memory.
+    fn answer_told(&mut self, out: &mut Outbox, piece: &Option<Piece>) -> Act
+        requires short { IsShort piece.now }
+        requires room { room_to_tell piece.now ≤ out.old.spare }
         ensures taken { 0 < length self.old.tasks.due → result ≡ Act.Taken }
-        ensures acts { (luns : List ℕ) (past : Past) (k : ℕ) (others : List ℕ) → Stands past self.old → due past ≡ k ∷ others
-            → is_text_in (frame_of past.came k) ≡ true → told ≡ hears self.old.exchange (frame_of past.came k) self.old.params
+        ensures acts { (luns : List ℕ) (past : Past) (k : ℕ) (others : List ℕ) (before : ExchangeState)
+            → Stands past (record self.old { exchange = before }) → due past ≡ k ∷ others → is_text_in (frame_of past.came k) ≡ true
+            → record { exchange = self.old.exchange; piece = piece.now } ≡ hears before (frame_of past.came k) self.old.params
             → (orders : List (List ℕ)) → ActsAs luns k past result self.new (output out.old.items orders) (output out.new.items orders) }
         ensures grows { (more : List ℕ) × (out.new.items ≡ out.old.items ++ more) }
         ensures fewer { result ≡ Act.Taken → waiting self.new.tasks < waiting self.old.tasks }
@@ -95,9 +103,8 @@ impl Session {
         let Some(frame) = self.tasks.finish_due() else {
             return Act::Idle;
         };
-        self.exchange = told.exchange;
         let stamp = self.next_stamp();
-        put_told(out, stamp, &told.piece, &frame);
+        put_told(out, stamp, piece, &frame);
         Act::Taken
     }
 }

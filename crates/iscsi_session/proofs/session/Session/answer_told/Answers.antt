@@ -7,18 +7,20 @@ use Rattle.iscsi_session.specs.Requests.{frame_of, moved, answering, stamp}
 use Rattle.iscsi_session.specs.Texts.{text_answer}
 use Rattle.iscsi_session.specs.State.{SessionState, Stands}
 use Rattle.iscsi_session.proofs.Parts.{text_kind}
-use Rattle.iscsi_session.proofs.Answered.{seen, text_here, text_same, text_bears, goes_on_act, some_due, one_spelled, none_ordered, stands_plain, text_no_function}
+use Rattle.iscsi_session.proofs.Answered.{text_here, text_same, text_bears, goes_on_act, some_due, one_spelled, none_ordered, stands_plain, text_no_function}
 use Rattle.iscsi_session.proofs.session.Session.answer_told.Goals as goal
 
 pub returns-in_default-clause-acts : goal.returns-in_default-clause-acts
-returns-in_default-clause-acts c luns past k rest s is e heard orders =
-    absurd (some_due past _ k rest (seen c.self.view_is s) is c.in_default.ensures.none)
+returns-in_default-clause-acts c luns past k rest before s is e heard orders =
+    let known = subst (λ (x : SessionState). Stands past (record x { exchange = before })) (sym c.self.view_is) s in
+    absurd (some_due past _ k rest known is c.in_default.ensures.none)
 
 pub returns-clause-acts : goal.returns-clause-acts
-returns-clause-acts c luns past k rest s is e heard orders =
-    let known = seen c.self.view_is s in
-    let given : ToldState = record { exchange = c.told.inside.exchange; piece = c.told.inside.piece } in
-    let told = c.told.view_is ∙ heard ∙ ap (λ (x : SessionState). hears x.exchange (frame_of past.came k) x.params) (sym c.self.view_is) in
+returns-clause-acts c luns past k rest before s is e heard orders =
+    let known = subst (λ (x : SessionState). Stands past (record x { exchange = before })) (sym c.self.view_is) s in
+    let given : ToldState = record { exchange = c.self.inside.exchange; piece = c.args.piece.now } in
+    let told = ap (λ (x : SessionState). record { exchange = x.exchange; piece = c.args.piece.now }) c.self.view_is ∙ heard
+    ∙ ap (λ (x : SessionState). hears before (frame_of past.came k) x.params) (sym c.self.view_is) in
     let t = text_here past _ k rest known is c.in-Some.frame _ given e c.in-Some.ensures.some c.in-Some.ensures.same told in
     let same = text_same luns k past c.in-Some.frame given t.0 t.1 e in
     record {
