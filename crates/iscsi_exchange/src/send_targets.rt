@@ -1,19 +1,19 @@
-//! What the pairs of a text are answered.
+//! What the pairs of a text are answered. It is written as its text at once.
 
 ghost use Rattle.std.specs.Prelude.{◌≡◌, ◌<◌, ◌++◌, ◌∷◌, [], None, Some, codes, length, slice_get, string_bytes, IfOk, OnOk};
 ghost use Rattle.iscsi_text.specs.Pairs.{text_of};
 ghost use Rattle.iscsi_exchange.specs.SendTargets.{target_pairs, asked_pairs, told_of, discovery_answer, normal_answer, send_targets as targets_sent, pair_answer, pairs_answer};
 
 use iscsi_login::{Directory, Params, is_known, is_passed_over, position};
-use iscsi_text::{Pairs, text};
+use iscsi_text::{Pairs, put_pair};
 use out_of_memory::Memory;
 use std::alloc::Global;
 
-/// Puts a pair behind an answer.
-fn put(answer: &mut Pairs, key: &str, value: &str) -> Result<(), Memory>
-    ensures { OnOk result (answer.new ≡ answer.old ++ (key.now, value.now) ∷ []) }
+/// Puts a pair behind the text of an answer.
+fn put(answer: &mut Vec<u8>, key: &str, value: &str) -> Result<(), Memory>
+    ensures { OnOk result (answer.new.items ≡ answer.old.items ++ text_of ((key.now, value.now) ∷ [])) }
 {
-    if answer.push(key, value).is_err() {
+    if put_pair(answer, key, value).is_err() {
         return Err(Memory);
     }
     Ok(())
@@ -46,11 +46,11 @@ fn count(directory: &Directory) -> usize
 /// Puts a target behind an answer.
 fn put_target(
     alloc: Global,
-    answer: &mut Pairs,
+    answer: &mut Vec<u8>,
     directory: &Directory,
     name: &str,
 ) -> Result<(), Memory>
-    ensures { OnOk result (answer.new ≡ answer.old ++ target_pairs directory.now.portal name.now) }
+    ensures { OnOk result (answer.new.items ≡ answer.old.items ++ text_of (target_pairs directory.now.portal name.now)) }
 {
     let address = address(alloc, directory)?;
     put(answer, "TargetName", name)?;
@@ -60,12 +60,12 @@ fn put_target(
 /// Puts a target behind an answer, where its name is the one that is asked for.
 fn put_asked(
     alloc: Global,
-    answer: &mut Pairs,
+    answer: &mut Vec<u8>,
     directory: &Directory,
     name: &str,
     asked: &str,
 ) -> Result<(), Memory>
-    ensures { OnOk result (answer.new ≡ answer.old ++ asked_pairs directory.now.portal (Some asked.now) (name.now ∷ [])) }
+    ensures { OnOk result (answer.new.items ≡ answer.old.items ++ text_of (asked_pairs directory.now.portal (Some asked.now) (name.now ∷ []))) }
 {
     if asked == name {
         return put_target(alloc, answer, directory, name);
@@ -75,8 +75,8 @@ fn put_asked(
 
 /// Puts all targets behind an answer, in their order.
 #[tactic(auto, unfolding(crate::specs::SendTargets::told_of))]
-fn put_all(alloc: Global, answer: &mut Pairs, directory: &Directory) -> Result<(), Memory>
-    ensures { OnOk result (answer.new ≡ answer.old ++ told_of directory.now None) }
+fn put_all(alloc: Global, answer: &mut Vec<u8>, directory: &Directory) -> Result<(), Memory>
+    ensures { OnOk result (answer.new.items ≡ answer.old.items ++ text_of (told_of directory.now None)) }
 {
     for at in 0..count(directory) {
         put_target(alloc, answer, directory, name(directory, at))?;
@@ -88,11 +88,11 @@ fn put_all(alloc: Global, answer: &mut Pairs, directory: &Directory) -> Result<(
 #[tactic(auto, unfolding(crate::specs::SendTargets::told_of))]
 fn put_named(
     alloc: Global,
-    answer: &mut Pairs,
+    answer: &mut Vec<u8>,
     directory: &Directory,
     asked: &str,
 ) -> Result<(), Memory>
-    ensures { OnOk result (answer.new ≡ answer.old ++ told_of directory.now (Some asked.now)) }
+    ensures { OnOk result (answer.new.items ≡ answer.old.items ++ text_of (told_of directory.now (Some asked.now))) }
 {
     for at in 0..count(directory) {
         put_asked(alloc, answer, directory, name(directory, at), asked)?;
@@ -103,11 +103,11 @@ fn put_named(
 /// Puts the answer to SendTargets in a discovery session behind an answer.
 fn put_discovery(
     alloc: Global,
-    answer: &mut Pairs,
+    answer: &mut Vec<u8>,
     directory: &Directory,
     value: &str,
 ) -> Result<(), Memory>
-    ensures { OnOk result (answer.new ≡ answer.old ++ discovery_answer directory.now value.now) }
+    ensures { OnOk result (answer.new.items ≡ answer.old.items ++ text_of (discovery_answer directory.now value.now)) }
 {
     if value.is_empty() {
         return put(answer, "SendTargets", "Reject");
@@ -121,11 +121,11 @@ fn put_discovery(
 /// Puts the answer to SendTargets in a normal session behind an answer.
 fn put_own(
     alloc: Global,
-    answer: &mut Pairs,
+    answer: &mut Vec<u8>,
     directory: &Directory,
     value: &str,
 ) -> Result<(), Memory>
-    ensures { OnOk result (answer.new ≡ answer.old ++ normal_answer directory.now value.now) }
+    ensures { OnOk result (answer.new.items ≡ answer.old.items ++ text_of (normal_answer directory.now value.now)) }
 {
     if value.is_empty() || position(directory.targets.as_slice(), value).is_some() {
         return put_all(alloc, answer, directory);
@@ -137,11 +137,11 @@ fn put_own(
 #[tactic(auto, unfolding(crate::specs::SendTargets::send_targets))]
 fn put_send_targets(
     alloc: Global,
-    answer: &mut Pairs,
+    answer: &mut Vec<u8>,
     params: &Params,
     value: &str,
 ) -> Result<(), Memory>
-    ensures { OnOk result (answer.new ≡ answer.old ++ targets_sent params.now value.now) }
+    ensures { OnOk result (answer.new.items ≡ answer.old.items ++ text_of (targets_sent params.now value.now)) }
 {
     if params.target.is_none() {
         return put_discovery(alloc, answer, &params.directory, value);
@@ -153,12 +153,12 @@ fn put_send_targets(
 #[tactic(auto, unfolding(crate::specs::SendTargets::pair_answer))]
 fn put_answer(
     alloc: Global,
-    answer: &mut Pairs,
+    answer: &mut Vec<u8>,
     params: &Params,
     key: &str,
     value: &str,
 ) -> Result<(), Memory>
-    ensures { OnOk result (answer.new ≡ answer.old ++ pair_answer params.now (key.now, value.now)) }
+    ensures { OnOk result (answer.new.items ≡ answer.old.items ++ text_of (pair_answer params.now (key.now, value.now))) }
 {
     if is_passed_over(key, value) {
         return Ok(());
@@ -172,25 +172,14 @@ fn put_answer(
     put(answer, key, "NotUnderstood")
 }
 
-/// What the pairs of a text are answered, in their order.
-fn answers(alloc: Global, params: &Params, said: &Pairs) -> Result<Pairs, Memory>
-    ensures { IfOk result (λ answer. answer ≡ pairs_answer params.now said.now) }
+/// The text of what the pairs of a text are answered, in their order.
+pub(crate) fn answer_text(alloc: Global, params: &Params, said: &Pairs) -> Result<Vec<u8>, Memory>
+    ensures { IfOk result (λ text. text.items ≡ text_of (pairs_answer params.now said.now)) }
 {
-    let mut answer = Pairs::new(alloc);
+    let mut answer = Vec::new(alloc);
     for at in 0..said.len() {
         let (key, value) = said.pair(at);
         put_answer(alloc, &mut answer, params, key, value)?;
     }
     Ok(answer)
-}
-
-/// The text of what the pairs of a text are answered.
-pub(crate) fn answer_text(alloc: Global, params: &Params, said: &Pairs) -> Result<Vec<u8>, Memory>
-    ensures { IfOk result (λ text. text.items ≡ text_of (pairs_answer params.now said.now)) }
-{
-    let answer = answers(alloc, params, said)?;
-    match text(alloc, &answer) {
-        Ok(text) => Ok(text),
-        Err(_) => Err(Memory),
-    }
 }
