@@ -96,13 +96,17 @@ pub(crate) fn push_run(runs: &mut VecDeque<Run>, run: Run)
     runs.push_back_reserved(run);
 }
 
-/// Keeps the larger of two buffers. The other goes back to the system.
+/// A spare buffer has no more room than this, in bytes: more than 32 READs of 4 KiB are answered by.
+const MOST_SPARE: usize = 262_144;
+
+/// Keeps the larger of two buffers, where it has no more room than a spare one may. The other goes back to the system.
 fn keep_larger(spare: &mut BytesMut, mut buffer: BytesMut)
     requires { spare.old.items ≡ [] }
     ensures { spare.new.items ≡ [] }
 {
     buffer.clear();
-    if spare.capacity() < buffer.capacity() {
+    let room = buffer.capacity();
+    if spare.capacity() < room && room <= MOST_SPARE {
         *spare = buffer;
     }
 }
