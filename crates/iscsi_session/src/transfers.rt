@@ -204,7 +204,7 @@ fn start(alloc: Global, frame: &Frame, values: &Values) -> Result<Task, Memory>
 {
     let command = Frame {
         header: frame.header,
-        body: frame.body.clone()?,
+        body: Vec::from_slice(alloc, frame.body.as_slice())?,
     };
     match Task::start(alloc, command, values) {
         Ok(task) => Ok(task),
