@@ -4,11 +4,13 @@
 //! ```text
 //!   Text Request ──> Exchange::hear ──> Told { exchange, piece: Some(piece) }   a Text Response
 //!                                       Told { exchange, piece: None }          a Reject, 09h
+//!   Text Request ──> Exchange::go_on ─> Some(piece)     the same, where it only takes the exchange on
 //! ```
 //!
 //! Promised, and proved: [`Exchange::hear`] tells what `hears` (`specs/Exchange.antt`) says of what is
 //! remembered of the exchange so far. A text in parts is joined, a long answer is cut to what the
-//! initiator takes, and each pair is answered as `specs/SendTargets.antt` says.
+//! initiator takes, and each pair is answered as `specs/SendTargets.antt` says. [`Exchange::go_on`]
+//! does the same in place, for a request of which [`Exchange::text_on`] says that it only goes on.
 #![tactic(auto)]
 
 mod exchange;
