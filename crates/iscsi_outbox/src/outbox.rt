@@ -13,9 +13,6 @@ use std::collections::VecDeque;
 use std::marker::Model;
 use std::mem;
 
-/// Where room is made, it is for so many bytes, so that it does not grow answer by answer as a session begins.
-const LEAST_ROOM: usize = 1024;
-
 /// What waits to be sent: runs of data, each with the small answers in front of it, and the small answers behind
 /// them. Clauses see the bytes, joined, and the room that was reserved.
 #[derive(Drop)]
@@ -64,12 +61,7 @@ impl Outbox {
         ensures items { self.new.items ≡ self.old.items }
         ensures runs { self.new.runs ≡ self.old.runs }
     {
-        // Where there is no memory for more, it is for these alone.
-        if self.tail.capacity() - self.tail.len() < room
-            && self.tail.reserve(room.max(LEAST_ROOM)).is_err()
-        {
-            self.tail.reserve(room)?;
-        }
+        self.tail.reserve(room)?;
         self.runs.reserve(1)?;
         Ok(())
     }
