@@ -5,7 +5,7 @@ ghost use Rattle.iscsi_pdu.specs.Answer.{spelling};
 
 use crate::data_ins::DataIns;
 use crate::put::put;
-use crate::run::{Run, copy_runs, front_of, left_behind, lift, push_run, skip_in};
+use crate::run::{Run, copy_runs, front_of, left_behind, push_run, skip_in};
 use bytes::BytesMut;
 use iscsi_pdu::Answer;
 use std::alloc::{AllocError, Global};
@@ -19,13 +19,10 @@ use std::mem;
 pub struct Outbox {
     runs: VecDeque<Run>,
     tail: BytesMut,
-    /// The largest buffer in which small answers stood that were sent in front of a run. The next tail stands in it, so
-    /// that it does not grow from nothing behind each run.
-    spare: BytesMut,
 }
 
 impl Model for Outbox {
-    ghost use Rattle.std.specs.Prelude.{◌≡◌, ◌-◌, ◌++◌, [], flat_map};
+    ghost use Rattle.std.specs.Prelude.{◌-◌, ◌++◌, flat_map};
     ghost use Rattle.std.specs.VecDeque.{deque_len, deque_capacity};
     ghost use Rattle.iscsi_outbox.specs.Outbox.{Waits, run_bytes, AreRunning};
 
@@ -38,7 +35,7 @@ impl Model for Outbox {
       slots = deque_capacity o.runs - deque_len o.runs;
     } };
 
-    ghost invariant = { λ o. AreRunning o.runs.items × (o.spare.items ≡ []) };
+    ghost invariant = { λ o. AreRunning o.runs.items };
 }
 
 impl Outbox {
@@ -50,7 +47,6 @@ impl Outbox {
         Outbox {
             runs: VecDeque::new(alloc),
             tail: BytesMut::new(alloc),
-            spare: BytesMut::new(alloc),
         }
     }
 
@@ -98,8 +94,7 @@ impl Outbox {
         ensures items { self.new.items ≡ self.old.items ++ data_ins }
         ensures runs { self.new.runs ≡ self.old.runs + 1 }
     {
-        let before = lift(&mut self.tail, &mut self.spare, alloc);
-        push_run(&mut self.runs, Run { before, data_ins });
+        push_run(&mut self.runs, &mut self.tail, alloc, data_ins);
     }
 
     /// Nothing waits.
@@ -142,7 +137,7 @@ impl Outbox {
         ensures spent { IfSome result.1 (λ buffer. buffer.items ≡ []) }
     {
         if !self.runs.is_empty() {
-            return skip_in(&mut self.runs, &mut self.spare, n);
+            return skip_in(&mut self.runs, n);
         }
         let step = n.min(self.tail.len());
         self.tail.advance(step);
@@ -161,17 +156,12 @@ impl Outbox {
         bytes.extend_from_slice(self.tail.as_slice())
     }
 
-    /// Where nothing waits, and there is room for more bytes than this, the room goes back to the system, and so does that
-    /// of the spare buffer.
+    /// Where nothing waits, and there is room for more bytes than this, the room goes back to the system.
     pub fn rest(&mut self, alloc: Global, most: usize)
         ensures items { self.new.items ≡ self.old.items }
         ensures runs { self.new.runs ≡ self.old.runs }
     {
-        if !self.is_empty() {
-            return;
-        }
-        self.spare = BytesMut::new(alloc);
-        if self.tail.capacity() > most {
+        if self.is_empty() && self.tail.capacity() > most {
             self.tail = BytesMut::new(alloc);
         }
     }

@@ -67,59 +67,32 @@ pub(crate) fn front_of<'a>(runs: &'a VecDeque<Run>, tail: &'a BytesMut) -> &'a [
     }
 }
 
-/// The small answers at the end in their buffer, which are to stand in front of a run. A spare buffer takes its place,
-/// where there are any. It takes no memory.
-pub(crate) fn lift(tail: &mut BytesMut, spare: &mut BytesMut, alloc: Global) -> BytesMut
-    requires { spare.old.items ≡ [] }
-    ensures lifted { result.items ≡ tail.old.items }
-    ensures tail { tail.new.items ≡ [] }
-    ensures spare { spare.new.items ≡ [] }
-{
-    let none = BytesMut::new(alloc);
-    if tail.is_empty() {
-        return none;
-    }
-    mem::replace(tail, mem::replace(spare, none))
-}
-
-/// A run waits behind all others. It takes no memory.
+/// A run waits behind all others, with the small answers in front of it. It takes no memory.
 #[tactic(auto, using(crate::proofs::Runs::running_more, crate::proofs::Runs::bytes_more))]
-pub(crate) fn push_run(runs: &mut VecDeque<Run>, run: Run)
+pub(crate) fn push_run(
+    runs: &mut VecDeque<Run>,
+    tail: &mut BytesMut,
+    alloc: Global,
+    data_ins: DataIns,
+)
     requires slot { deque_len runs.old < deque_capacity runs.old }
     requires running { AreRunning runs.old.items }
-    requires some { 0 < length run.data_ins }
-    ensures bytes { flat_map run_bytes runs.new.items ≡ flat_map run_bytes runs.old.items ++ run_bytes run }
+    requires some { 0 < length data_ins }
+    ensures bytes { flat_map run_bytes runs.new.items ++ tail.new.items ≡ flat_map run_bytes runs.old.items ++ tail.old.items ++ data_ins }
     ensures running { AreRunning runs.new.items }
     ensures len { deque_len runs.new ≡ deque_len runs.old + 1 }
     ensures capacity { deque_capacity runs.new ≡ deque_capacity runs.old }
 {
-    runs.push_back_reserved(run);
-}
-
-/// A spare buffer has no more room than this, in bytes: more than 32 READs of 4 KiB are answered by.
-const MOST_SPARE: usize = 262_144;
-
-/// Keeps the larger of two buffers, where it has no more room than a spare one may. The other goes back to the system.
-fn keep_larger(spare: &mut BytesMut, mut buffer: BytesMut)
-    requires { spare.old.items ≡ [] }
-    ensures { spare.new.items ≡ [] }
-{
-    buffer.clear();
-    let room = buffer.capacity();
-    if spare.capacity() < room && room <= MOST_SPARE {
-        *spare = buffer;
+    let mut before = BytesMut::new(alloc);
+    if !tail.is_empty() {
+        before = mem::replace(tail, before);
     }
+    runs.push_back_reserved(Run { before, data_ins });
 }
 
 /// Of so many bytes that were sent, those that stood together in the first run are skipped. Says how many these are,
-/// and gives the buffer of the run's data where the run is spent. That of the small answers in front of it may become the
-/// spare one.
-pub(crate) fn skip_in(
-    runs: &mut VecDeque<Run>,
-    spare: &mut BytesMut,
-    n: usize,
-) -> (usize, Option<BytesMut>)
-    requires spare { spare.old.items ≡ [] }
+/// and gives the buffer of the run's data where the run is spent.
+pub(crate) fn skip_in(runs: &mut VecDeque<Run>, n: usize) -> (usize, Option<BytesMut>)
     requires runs { 0 < deque_len runs.old }
     requires running { AreRunning runs.old.items }
     ensures within { result.0 ≤ n }
@@ -130,19 +103,14 @@ pub(crate) fn skip_in(
     ensures capacity { deque_capacity runs.new ≡ deque_capacity runs.old }
     ensures len { deque_len runs.new ≤ deque_len runs.old }
     ensures spent { IfSome result.1 (λ buffer. buffer.items ≡ []) }
-    ensures spare { spare.new.items ≡ [] }
 {
     let run = &mut runs[0];
     let step = run.skip_some(n);
     if run.data_ins.rest() > 0 {
         return (step, None);
     }
-    let Some(run) = runs.pop_front() else {
-        return (step, None);
-    };
-    let Run { before, data_ins } = run;
-    keep_larger(spare, before);
-    (step, Some(data_ins.into_buffer()))
+    let spent = runs.pop_front().map(|run| run.data_ins.into_buffer());
+    (step, spent)
 }
 
 /// How many of so many bytes are left behind all runs, or none where the runs have more.
