@@ -130,7 +130,7 @@ impl Exchange {
     }
 
     /// As [`Exchange::hear`], for a request of which [`Exchange::text_on`] says how much text answers it: the exchange is
-    /// changed where it stands, and what it keeps is not copied. The one fault is out of memory, and nothing changes then.
+    /// changed where it stands, without a copy of it. The one fault is out of memory, and nothing changes then.
     pub fn go_on(&mut self, request: &Frame, params: &Params) -> Result<Option<Piece>, Memory>
         requires { is_some (text_on self.old request.now params.now) ≡ true }
         ensures told { IfOk result (λ piece. record { exchange = self.new; piece = piece } ≡ hears self.old request.now params.now) }

@@ -13,7 +13,7 @@
 //! - [`Login::take`] answers what `reply_of` (`specs/Login.antt`) says of all requests of the login
 //!   so far: the first rule that is broken refuses a request, and else the answer has the results
 //!   of its keys in order, in pieces where they are long.
-//! - [`settle_key`] answers an offer by the table of keys in `specs/Keys.antt`.
+//! - [`settle_key`] answers an offer by the table of keys in `specs/Keys.antt`, as a login does.
 //! - Where an allocation fails the login is as it was.
 #![tactic(auto)]
 

@@ -67,7 +67,7 @@ fn at_edge(toward: Direction, left: u32) -> Spaced
 
 impl Index {
     /// Spaces over so many records or filemarks from a position, or to where spacing ends before that, run by run
-    /// (SSC-4 "SPACE (6)").
+    /// (SSC-4 "SPACE (6)"). Over filemarks, all records up to the next one are passed at once.
     pub fn space(&self, toward: Direction, over: Over, from: u64, count: u32) -> Ended
         requires { from ≤ length self.now.sizes }
         ensures { HasEnded toward over count from self.now.sizes result }

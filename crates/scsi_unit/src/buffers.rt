@@ -30,8 +30,8 @@ const MOST_LONG: usize = MOST_ROOM / MIDDLE;
 const MOST_ROOM: usize = 4 * (HEADROOM + BLOCK_LENGTH * MOST_BLOCKS as usize + TAILROOM);
 
 /// Buffers in which commands gave their data, whose bytes are used no more, each with its room in bytes. Their bytes
-/// never leave the target. They stand apart by their room, so that a short READ does not take the buffer of a long one,
-/// which then has to be made, and filled, anew.
+/// never leave the target. They stand apart by their room, so that a short READ takes the buffer of a long one, which
+/// then has to be made, and filled, anew, only where no short one is kept.
 #[derive(Drop)]
 pub(crate) struct Buffers {
     short: Vec<(BytesMut, usize)>,
