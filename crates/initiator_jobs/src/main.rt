@@ -10,6 +10,7 @@
 //! clusters   64 hosts that start and share a disk: discovery, logins, questions, reservations
 //! tapes      backups on a tape, read back, and places looked for
 //! awkward    single bytes, small segments, commands out of order, aborted tasks, long texts
+//! hosts      64 hosts that log in as libiscsi and open-iscsi do, most of them with one ISID; tar's archives on a tape
 //! all        each of them
 //! ```
 //!
@@ -17,6 +18,7 @@
 #![tactic(auto)]
 
 mod answers;
+mod archives;
 mod awkward;
 mod clusters;
 mod copies;
@@ -25,6 +27,8 @@ mod digest;
 mod exchange;
 mod fault;
 mod host;
+mod hosts;
+mod logins;
 mod outcome;
 mod peer;
 mod peers;
@@ -38,6 +42,7 @@ use crate::awkward::awkward;
 use crate::clusters::clusters;
 use crate::copies::copies;
 use crate::fault::Fault;
+use crate::hosts::hosts;
 use crate::outcome::Outcome;
 use crate::served::{crowds, machines};
 use crate::tapes::tapes;
@@ -45,8 +50,8 @@ use std::env;
 use std::process::ExitCode;
 
 /// The names of the jobs.
-const JOBS: [&str; 6] = [
-    "machines", "copies", "crowds", "clusters", "tapes", "awkward",
+const JOBS: [&str; 7] = [
+    "machines", "copies", "crowds", "clusters", "tapes", "awkward", "hosts",
 ];
 
 /// Does a job so many times over, and prints its digest.
@@ -59,6 +64,7 @@ fn run_job(rt: &HostRuntime, job: &str, seed: u64, rounds: usize) -> Result<(), 
         "clusters" => clusters(alloc, seed, rounds)?,
         "tapes" => tapes(alloc, seed, rounds)?,
         "awkward" => awkward(alloc, seed, rounds)?,
+        "hosts" => hosts(alloc, seed, rounds)?,
         _ => return Err(Fault::Usage),
     };
     let Outcome {

@@ -1,0 +1,288 @@
+//! Logins as libiscsi and open-iscsi send them, and other ways to send the same keys.
+
+use crate::devices::Targets;
+use crate::exchange::{exchange, open};
+use crate::fault::Fault;
+use crate::host::Host;
+use crate::random::Random;
+use crate::requests::{Header, login, text};
+use crate::wire::Wire;
+use std::alloc::Global;
+
+/// The length of the longest data segment that both sides take.
+pub const SEGMENT: usize = 262_144;
+
+/// As much as the loop reads at a time.
+pub const CUT: usize = 65_536;
+
+/// T, CSG and NSG of a Login Request: from security to operational negotiation, from there to full feature phase, and no
+/// further for now.
+const TO_OPERATIONAL: u8 = 0x81;
+
+const TO_FULL_FEATURE: u8 = 0x87;
+
+const STAYS: u8 = 0x04;
+
+/// The ISID of each open-iscsi, which counts from 00023d000000 on each host.
+const OPEN_ISCSI_ISID: [u8; 6] = [0x00, 0x02, 0x3d, 0x00, 0x00, 0x01];
+
+/// The ISID of a libiscsi, which has bytes at random in place of three zeros.
+const LIBISCSI_ISID: [u8; 6] = [0x80, 0x00, 0x00, 0x00, 0x00, 0x00];
+
+/// What libiscsi 1.19.0 says after both names.
+const LIBISCSI_KEYS: &str =
+    "SessionType=Normal\0HeaderDigest=None,CRC32C\0DataDigest=None\0InitialR2T=No\0ImmediateData=Yes\0MaxBurstLength=262144\0FirstBurstLength=262144\0DefaultTime2Wait=2\0DefaultTime2Retain=0\0MaxOutstandingR2T=1\0ErrorRecoveryLevel=0\0IFMarker=No\0OFMarker=No\0MaxConnections=1\0MaxRecvDataSegmentLength=262144\0DataPDUInOrder=Yes\0DataSequenceInOrder=Yes\0";
+
+/// What open-iscsi 2.1.8 says after both names, its alias and the type of the session, up to the keys of bursts.
+const OPEN_ISCSI_FRONT: &str =
+    "HeaderDigest=None\0DataDigest=None\0DefaultTime2Wait=2\0DefaultTime2Retain=0\0IFMarker=No\0OFMarker=No\0ErrorRecoveryLevel=0\0InitialR2T=No\0ImmediateData=Yes\0";
+
+/// Its keys of bursts.
+const OPEN_ISCSI_BURSTS: &str = "MaxBurstLength=16776192\0FirstBurstLength=262144\0";
+
+/// What it says after them.
+const OPEN_ISCSI_END: &str =
+    "MaxOutstandingR2T=1\0MaxConnections=1\0DataPDUInOrder=Yes\0DataSequenceInOrder=Yes\0MaxRecvDataSegmentLength=262144\0";
+
+/// The keys of bursts of 64 KiB.
+const SHORT_BURSTS: &str = "MaxBurstLength=65536\0FirstBurstLength=65536\0";
+
+/// The keys of open-iscsi in seven texts, with bursts of 64 KiB.
+const SEVEN_TEXTS: [&str; 7] = [
+    "HeaderDigest=None\0DataDigest=None\0",
+    "DefaultTime2Wait=2\0DefaultTime2Retain=0\0IFMarker=No\0OFMarker=No\0",
+    "ErrorRecoveryLevel=0\0InitialR2T=No\0ImmediateData=Yes\0",
+    SHORT_BURSTS,
+    "MaxOutstandingR2T=1\0MaxConnections=1\0",
+    "DataPDUInOrder=Yes\0DataSequenceInOrder=Yes\0",
+    "MaxRecvDataSegmentLength=262144\0",
+];
+
+/// How an initiator logs in.
+#[derive(Clone, Copy)]
+enum Way {
+    /// As libiscsi: one text of 19 keys and 440 bytes.
+    Libiscsi,
+    /// The same with further keys, up to 39.
+    LibiscsiAndMore,
+    /// As open-iscsi: one text of 20 keys and 425 bytes.
+    OpenIscsi,
+    /// The same with a longer name, 437 bytes.
+    Guest,
+    /// The same with further keys, up to 40.
+    GuestAndMore,
+    /// By the keys of a guest in both stages.
+    BothStages,
+    /// By these keys in two texts of one stage.
+    TwoTexts,
+    /// By these keys in eight texts of one stage.
+    EightTexts,
+}
+
+/// The ways of eight initiators in turn.
+const WAYS: [Way; 8] = [
+    Way::Libiscsi,
+    Way::OpenIscsi,
+    Way::Guest,
+    Way::BothStages,
+    Way::TwoTexts,
+    Way::EightTexts,
+    Way::LibiscsiAndMore,
+    Way::GuestAndMore,
+];
+
+/// A Login Request: T, CSG and NSG, and a whole text.
+#[derive(Drop)]
+struct Part {
+    stages: u8,
+    text: Vec<u8>,
+}
+
+/// An initiator that always logs in the same way.
+#[derive(Drop)]
+pub struct Initiator {
+    pub host: Host,
+    isid: [u8; 6],
+    parts: Vec<Part>,
+    /// What it asks in full feature phase.
+    question: Vec<u8>,
+    alloc: Global,
+}
+
+impl Initiator {
+    /// Makes the initiator with this number, which logs in to a target in one of eight ways.
+    pub fn new(
+        alloc: Global,
+        number: usize,
+        target: &str,
+        random: &mut Random,
+    ) -> Result<Initiator, Fault> {
+        let mut initiator = Initiator {
+            host: Host::new(alloc, number % 64, number, random),
+            isid: OPEN_ISCSI_ISID,
+            parts: Vec::new(alloc),
+            question: further_keys(alloc, 17 + number % 24)?,
+            alloc,
+        };
+        match WAYS[number % 8] {
+            Way::Libiscsi => initiator.add_libiscsi(target, random, 0)?,
+            Way::LibiscsiAndMore => initiator.add_libiscsi(target, random, number / 8)?,
+            Way::OpenIscsi => initiator.add_open_iscsi(target)?,
+            Way::Guest => initiator.add_guest(target, 0)?,
+            Way::GuestAndMore => initiator.add_guest(target, number / 8)?,
+            Way::BothStages => initiator.add_both_stages(target)?,
+            Way::TwoTexts => initiator.add_two_texts(target)?,
+            Way::EightTexts => initiator.add_eight_texts(target)?,
+        }
+        Ok(initiator)
+    }
+
+    /// Adds a Login Request.
+    fn add(&mut self, stages: u8, texts: &[&str]) -> Result<(), Fault> {
+        let mut all = Vec::new(self.alloc);
+        for text in texts.iter() {
+            all.extend_from_slice(text.as_bytes())?;
+        }
+        self.parts.push(Part { stages, text: all })?;
+        Ok(())
+    }
+
+    /// Adds keys that nobody knows to the last Login Request, three for each unit of `more`, but at most 20.
+    fn add_further_keys(&mut self, more: usize) -> Result<(), Fault> {
+        let keys = further_keys(self.alloc, more.saturating_mul(3).min(20))?;
+        if let Some(part) = self.parts.last_mut() {
+            part.text.extend_from_slice(keys.as_slice())?;
+        }
+        Ok(())
+    }
+
+    /// Adds the login of libiscsi, which has an ISID of its own.
+    fn add_libiscsi(
+        &mut self,
+        target: &str,
+        random: &mut Random,
+        more: usize,
+    ) -> Result<(), Fault> {
+        let number = self.host.number;
+        let names = format!(in self.alloc;
+            "InitiatorName=iqn.2007-10.com.github:sahlberg:libiscsi:iscsi-inq{number:02}\0TargetName={target}\0"
+        )?;
+        self.isid = LIBISCSI_ISID;
+        self.isid[1..4].copy_from_slice(&random.number().to_be_bytes()[..3]);
+        self.add(TO_FULL_FEATURE, &[names.as_str(), LIBISCSI_KEYS])?;
+        self.add_further_keys(more)
+    }
+
+    /// Adds the login of open-iscsi.
+    fn add_open_iscsi(&mut self, target: &str) -> Result<(), Fault> {
+        let number = self.host.number;
+        let names = format!(in self.alloc;
+            "InitiatorName=iqn.2026-11.bench:{number:02}\0InitiatorAlias=(none)\0TargetName={target}\0SessionType=Normal\0"
+        )?;
+        self.add(
+            TO_FULL_FEATURE,
+            &[
+                names.as_str(),
+                OPEN_ISCSI_FRONT,
+                OPEN_ISCSI_BURSTS,
+                OPEN_ISCSI_END,
+            ],
+        )
+    }
+
+    /// Writes what a guest says of itself and of its session.
+    fn guest(&self, target: &str) -> Result<String, Fault> {
+        let number = self.host.number;
+        Ok(format!(in self.alloc;
+            "InitiatorName=iqn.2024-01.com.example:guest-{number:02}\0InitiatorAlias=(none)\0TargetName={target}\0SessionType=Normal\0"
+        )?)
+    }
+
+    /// Adds the login of a guest.
+    fn add_guest(&mut self, target: &str, more: usize) -> Result<(), Fault> {
+        let names = self.guest(target)?;
+        self.add(
+            TO_FULL_FEATURE,
+            &[
+                names.as_str(),
+                OPEN_ISCSI_FRONT,
+                OPEN_ISCSI_BURSTS,
+                OPEN_ISCSI_END,
+            ],
+        )?;
+        self.add_further_keys(more)
+    }
+
+    /// Adds the login of a guest through security and operational negotiation.
+    fn add_both_stages(&mut self, target: &str) -> Result<(), Fault> {
+        let names = self.guest(target)?;
+        self.add(TO_OPERATIONAL, &[names.as_str(), "AuthMethod=CHAP,None\0"])?;
+        self.add(
+            TO_FULL_FEATURE,
+            &[OPEN_ISCSI_FRONT, OPEN_ISCSI_BURSTS, OPEN_ISCSI_END],
+        )
+    }
+
+    /// Adds the login of a guest in two texts of one stage, with bursts of 64 KiB.
+    fn add_two_texts(&mut self, target: &str) -> Result<(), Fault> {
+        let names = self.guest(target)?;
+        self.add(STAYS, &[names.as_str(), OPEN_ISCSI_FRONT])?;
+        self.add(TO_FULL_FEATURE, &[SHORT_BURSTS, OPEN_ISCSI_END])
+    }
+
+    /// Adds the login of a guest in eight texts of one stage, with bursts of 64 KiB.
+    fn add_eight_texts(&mut self, target: &str) -> Result<(), Fault> {
+        let names = self.guest(target)?;
+        self.add(STAYS, &[names.as_str()])?;
+        for text in SEVEN_TEXTS {
+            self.add(STAYS, &[text])?;
+        }
+        if let Some(last) = self.parts.last_mut() {
+            last.stages = TO_FULL_FEATURE;
+        }
+        Ok(())
+    }
+
+    /// Opens a connection and logs in, each text after the answer to the one before.
+    pub fn log_in(&mut self, target: &mut Targets, wire: &mut Wire) -> Result<(), Fault> {
+        open(target, self.host.c)?;
+        for part in self.parts.iter() {
+            let header = part.header(self.isid, self.host.cmd_sn());
+            wire.begin(0);
+            wire.lay_text(&header, part.text.as_slice());
+            self.host.expect();
+            exchange(target, &mut self.host, wire, SEGMENT, CUT)?;
+        }
+        Ok(())
+    }
+
+    /// Sends a Text Request of 17 to 40 keys.
+    pub fn ask(&mut self, target: &mut Targets, wire: &mut Wire) -> Result<(), Fault> {
+        let (tag, cmd_sn) = (self.host.next_tag(), self.host.next_cmd_sn());
+        let asked = self.question.as_slice();
+        wire.begin(0);
+        wire.lay_text(&text(0x80, tag, 0xffff_ffff, cmd_sn, asked.len()), asked);
+        self.host.expect();
+        exchange(target, &mut self.host, wire, SEGMENT, CUT)
+    }
+}
+
+impl Part {
+    /// Makes the header of the Login Request.
+    fn header(&self, isid: [u8; 6], cmd_sn: u32) -> Header {
+        let mut header = login(0, cmd_sn, self.text.len());
+        header[1] = self.stages;
+        header[8..14].copy_from_slice(&isid);
+        header
+    }
+}
+
+/// Writes a text of keys that nobody knows.
+fn further_keys(alloc: Global, count: usize) -> Result<Vec<u8>, Fault> {
+    let mut all = Vec::new(alloc);
+    for number in 0..count {
+        let pair = format!(in alloc; "X-com.example.key{number:02}=value{number:02}\0")?;
+        all.extend_from_slice(pair.as_bytes())?;
+    }
+    Ok(all)
+}
