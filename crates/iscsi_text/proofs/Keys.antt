@@ -1,6 +1,6 @@
 -- The set of the keys that were read.
-use Rattle.std.proofs.Common.{◌≡◌, ℕ, Bool, true, false, cond, ◌||◌, List, [], ◌∷◌, ◌++◌, map, Option, Some, None, Bor, refl, sym, ap, ◌∙◌}
-use Rattle.std.specs.Prelude.{bytes_eq, is_some, option_map}
+use Rattle.std.proofs.Common.{◌≡◌, ℕ, Bool, true, false, cond, ◌||◌, List, [], ◌∷◌, ◌++◌, map, Bor, refl, sym, ap, ◌∙◌}
+use Rattle.std.specs.Prelude.{bytes_eq}
 use Rattle.std.specs.Ordering.{nat_cmp}
 use Rattle.std.specs.Cmp.Lexicographic.{slice_cmp}
 use Rattle.std.specs.BTreeSet.{BTreeSet, contains, Updates}
@@ -9,31 +9,13 @@ use Rattle.std.proofs.lemmas.Bool.Decides.{same_from_decides, Decides-like}
 use Rattle.std.proofs.lemmas.Map.Text.{is_eq-slice_cmp}
 use Rattle.std.proofs.lemmas.Slice.Eq.{bytes_eq-Decides}
 use Rattle.std.proofs.lemmas.List.{map_push}
-use Rattle.iscsi_text.specs.Pairs.{Pair, value_of}
+use Rattle.iscsi_text.specs.Pairs.{Pair}
 
 abbrev pub holds_key : BTreeSet (Bor (List ℕ)) → Bor (List ℕ) → Bool
 holds_key keys key = contains (λ x y. slice_cmp nat_cmp x.now y.now) keys key
 
 abbrev pub has_key_among : List Pair → List ℕ → Bool
 has_key_among pairs key = list_any (bytes_eq key) (map (λ pair. pair.0) pairs)
-
--- a key that a search finds stands among the keys
-found_among : (pairs : List Pair) (key : List ℕ) → is_some (value_of key pairs) ≡ has_key_among pairs key
-found_among [] key = refl
-found_among (pair ∷ pairs) key = go (bytes_eq key pair.0) (found_among pairs key)
-  where
-    go : (b : Bool) → is_some (value_of key pairs) ≡ has_key_among pairs key
-        → is_some (cond b (Some pair.1) (value_of key pairs)) ≡ (b || has_key_among pairs key)
-    go true rest = refl
-    go false rest = rest
-
-is_some_of : {X : Type 0} (f : X → List ℕ) (found : Option X) → is_some (option_map f found) ≡ is_some found
-is_some_of f None = refl
-is_some_of f (Some x) = refl
-
-pub search_tells : {X : Type 0} (f : X → List ℕ) (found : Option X) (pairs : List Pair) (key : List ℕ) → option_map f found ≡ value_of key pairs
-    → is_some found ≡ has_key_among pairs key
-search_tells f found pairs key e = sym (is_some_of f found) ∙ ap (λ (value : Option (List ℕ)). is_some value) e ∙ found_among pairs key
 
 bytes_eq-comm : (xs ys : List ℕ) → bytes_eq xs ys ≡ bytes_eq ys xs
 bytes_eq-comm xs ys = same_from_decides (bytes_eq xs ys) (bytes_eq ys xs) (bytes_eq-Decides xs ys)

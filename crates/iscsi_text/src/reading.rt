@@ -19,13 +19,6 @@ const LONGEST_KEY: usize = 63;
 /// The most bytes that a value may have (RFC 7143 §6.1).
 const LONGEST_VALUE: usize = 255;
 
-/// Keys of a text that is no longer than this, and has few pairs, are compared with one another: a set of them would
-/// take longer to fill.
-const SHORT_TEXT: usize = 1024;
-
-/// So many pairs are few.
-const FEW_PAIRS: usize = 16;
-
 /// Where the first zero byte stands.
 fn first_zero(text: &[u8]) -> Option<usize>
     ensures { result ≡ position is_zero text.now }
@@ -78,11 +71,6 @@ fn pair_in(piece: &[u8], ended: bool) -> Result<(&str, &str), TextFault>
     Ok((key, value))
 }
 
-/// Whether a text is short and has few pairs, by its zero bytes. Nothing but time hangs on it.
-fn has_few_pairs(text: &[u8]) -> bool {
-    text.len() <= SHORT_TEXT && text.iter().filter(|byte| **byte == 0).count() <= FEW_PAIRS
-}
-
 /// The pairs of a text (RFC 7143 §6.1), or what is wrong with it: first whether it is too long, and
 /// then the first fault of its first faulty piece. An allocation may fail as well.
 #[tactic(auto, unfolding(crate::specs::Pairs::text_pairs))]
@@ -92,7 +80,6 @@ pub fn pairs(alloc: Global, text: &[u8]) -> Result<Pairs, TextFault>
     if LONGEST_TEXT < text.len() {
         return Err(TextFault::TooLong);
     }
-    let is_short = has_few_pairs(text);
     let mut pairs = Pairs::new(alloc);
     let mut keys = BTreeSet::new(alloc);
     let mut rest = text;
@@ -100,11 +87,7 @@ pub fn pairs(alloc: Global, text: &[u8]) -> Result<Pairs, TextFault>
         let (piece, ended, after) = first_piece(rest);
         if !piece.is_empty() {
             let (key, value) = pair_in(piece, ended)?;
-            if is_short {
-                if pairs.get(key).is_some() {
-                    return Err(TextFault::KeyTwice);
-                }
-            } else if !keys.insert(key)? {
+            if !keys.insert(key)? {
                 return Err(TextFault::KeyTwice);
             }
             pairs.push(key, value)?;

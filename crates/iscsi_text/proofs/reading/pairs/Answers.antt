@@ -1,16 +1,11 @@
-use Rattle.std.proofs.Common.{true, false, ◌≡◌, ◌<◌, ℕ, List, Bor, length, sym, ◌∙◌, arith, inr}
-use Rattle.std.proofs.lemmas.Bool.{false≢true}
+use Rattle.std.proofs.Common.{true, false, ◌≡◌, ◌<◌, length, arith, inr}
 use Rattle.std.proofs.lemmas.Bool.Decides.{nat_tests}
 use Rattle.std.proofs.lemmas.Result.{err_from_is_err_and}
 use Rattle.std.specs.Prelude.{bytes_eq}
 use Rattle.std.specs.List.{list_any}
 use Rattle.iscsi_text.proofs.Pieces.{keys_of, fault_of-own, fault_of-twice, fault_of-none, ends_with_fault, goes_on, passes_over, ends}
-use Rattle.iscsi_text.proofs.Keys.{search_tells, keys_more}
+use Rattle.iscsi_text.proofs.Keys.{keys_more}
 use Rattle.iscsi_text.proofs.reading.pairs.Goals as goal
-use Rattle.iscsi_text.proofs.reading.pairs.Goals.{then-is_short+else-is_some, else-is_short+in_ok-insert+else-not-branch}
-
-abbrev now : Bor (List ℕ) → List ℕ
-now value = value.now
 
 pub returns-in_err-key : goal.returns-in_err-key
 returns-in_err-key c =
@@ -19,40 +14,22 @@ returns-in_err-key c =
     rw (p.1, p.2) (inr (ends_with_fault _ _ _ _ _ _ c.loop-rest.invariant.read (c.first_piece-ended.ensures.piece some)
     (fault_of-own _ _ _ c.in_err-key.ensures.fault)))
 
-pub returns-then-is_some : goal.returns-then-is_some
-returns-then-is_some c =
-    let some : 0 < length c.first_piece-ended.result.0.now = grind (arith, nat_tests) in
-    let held : list_any (bytes_eq c.in_ok-key.key.now) (keys_of c.loop-rest.pairs) ≡ true =
-    sym (c.is_some.ensures ∙ search_tells now c.get.result c.loop-rest.pairs c.in_ok-key.key.now c.get.ensures) ∙ c.if-is_some.true in
-    inr (ends_with_fault _ _ _ _ _ _ c.loop-rest.invariant.read (c.first_piece-ended.ensures.piece some)
-    (fault_of-twice _ _ c.in_ok-key.ensures.whole (rw (← c.in_ok-key.ensures.key) held)))
-
 pub returns-then-not-branch : goal.returns-then-not-branch
 returns-then-not-branch c =
     let some : 0 < length c.first_piece-ended.result.0.now = grind (arith, nat_tests) in
-    let held : list_any (bytes_eq c.in_ok-key.key.now) (keys_of c.loop-rest.pairs) ≡ true = grind (arith, c.loop-rest.invariant.keys c.if-is_short.false c.in_ok-key.key) in
+    let held : list_any (bytes_eq c.in_ok-key.key.now) (keys_of c.loop-rest.pairs) ≡ true = grind (arith, c.loop-rest.invariant.keys c.in_ok-key.key) in
     inr (ends_with_fault _ _ _ _ _ _ c.loop-rest.invariant.read (c.first_piece-ended.ensures.piece some)
     (fault_of-twice _ _ c.in_ok-key.ensures.whole (rw (← c.in_ok-key.ensures.key) held)))
 
 pub loop-rest-preserved-in_ok-push : goal.loop-rest-preserved-in_ok-push
 loop-rest-preserved-in_ok-push c =
-    let key = c.in_ok-key.key in
-    let pairs = c.loop-rest.pairs in
     let some : 0 < length c.first_piece-ended.result.0.now = grind (arith, nat_tests) in
-    let new : list_any (bytes_eq key.now) (keys_of pairs) ≡ false =
-    elim c.if-is_short.branch [
-      | then-is_short+else-is_some w ↦ sym (w.is_some.ensures ∙ search_tells now w.get.result pairs key.now w.get.ensures) ∙ w.if-is_some.false
-      | else-is_short+in_ok-insert+else-not-branch w ↦ grind (arith, c.loop-rest.invariant.keys w.if-is_short.false key)
-    ] in
+    let new : list_any (bytes_eq c.in_ok-key.key.now) (keys_of c.loop-rest.pairs) ≡ false = grind (arith, c.loop-rest.invariant.keys c.in_ok-key.key) in
     record {
       read = rw (c.in_ok-push.ensures.added, c.in_ok-key.ensures.key, c.in_ok-key.ensures.value)
           (goes_on _ _ _ _ _ c.loop-rest.invariant.read (c.first_piece-ended.ensures.piece some)
           (fault_of-none _ _ c.in_ok-key.ensures.whole (rw (← c.in_ok-key.ensures.key) new)));
-      keys = elim c.if-is_short.branch [
-        | then-is_short+else-is_some w ↦ λ long. absurd (false≢true (sym long ∙ w.if-is_short.true))
-        | else-is_short+in_ok-insert+else-not-branch w ↦ λ long. rw (w.keys-is, c.in_ok-push.ensures.added)
-            (keys_more _ _ key pairs c.in_ok-key.value.now (c.loop-rest.invariant.keys long) w.in_ok-insert.ensures.updates)
-      ];
+      keys = rw c.in_ok-push.ensures.added (keys_more _ _ c.in_ok-key.key _ _ c.loop-rest.invariant.keys c.in_ok-insert.ensures.updates);
     }
 
 pub loop-rest-preserved : goal.loop-rest-preserved

@@ -1,4 +1,4 @@
-use Rattle.std.proofs.Common.{◌≡◌, List, ℕ, length, Bor, false}
+use Rattle.std.proofs.Common.{◌≡◌, List, ℕ, length, Bor}
 use Rattle.iscsi_text.proofs.Pieces.{IsReadUpTo}
 use Rattle.iscsi_text.proofs.Keys.{holds_key, has_key_among}
 use Rattle.iscsi_text.proofs.reading.pairs.Given as goal
@@ -6,7 +6,7 @@ use Rattle.iscsi_text.proofs.reading.pairs.Given as goal
 abbrev pub invariant-loop-rest : goal.invariant-loop-rest
 invariant-loop-rest l = record {
   read : IsReadUpTo l.text l.pairs l.rest;
-  keys : l.is_short ≡ false → (key : Bor (List ℕ)) → holds_key l.keys key ≡ has_key_among l.pairs key.now;
+  keys : (key : Bor (List ℕ)) → holds_key l.keys key ≡ has_key_among l.pairs key.now;
 }
 
 abbrev pub decreases-loop-rest : goal.decreases-loop-rest
