@@ -1,6 +1,6 @@
 //! The pairs of the texts before, in which a key is found among many.
 
-ghost use Rattle.std.specs.Prelude.{◌≡◌, ◌≤◌, ◌++◌, ℕ, List, [], Some, None, true, false, not, length, IfOk, IfErr, OnOk, OnErr, bytes_eq, option_map, if◌then◌else◌};
+ghost use Rattle.std.specs.Prelude.{◌≡◌, ◌≤◌, ◌++◌, ℕ, List, [], Some, None, true, false, not, length, IfOk, IfErr, IsOk, OnOk, OnErr, bytes_eq, option_map, if◌then◌else◌};
 ghost use Rattle.std.specs.List.{list_any};
 ghost use Rattle.std.specs.BTreeMap.{get_by_text};
 ghost use Rattle.iscsi_text.specs.Pairs.{value_of};
@@ -19,14 +19,13 @@ use std::marker::Model;
 pub(crate) struct Earlier {
     alloc: Global,
     pairs: Pairs,
-    /// Where each key stands first, once it is noted. Of a key that does not stand among the pairs it may tell any place.
-    places: BTreeMap<String, usize>,
-    /// The keys are noted: not before a second text comes, since most logins have one.
-    is_noted: bool,
+    /// Where each key stands first, from the second text with keys on: most logins have one. Of a key that does not
+    /// stand among the pairs it may tell any place.
+    places: Option<BTreeMap<String, usize>>,
 }
 
 impl Model for Earlier {
-    ghost use Rattle.std.specs.Prelude.{◌≡◌, ℕ, List, true};
+    ghost use Rattle.std.specs.Prelude.{ℕ, List, IfSome};
     ghost use Rattle.std.specs.BTreeMap.{get_by_text};
     ghost use Rattle.iscsi_login.specs.Earlier.{TellsPlaces};
 
@@ -34,7 +33,7 @@ impl Model for Earlier {
 
     ghost view = { λ earlier. earlier.pairs };
 
-    ghost invariant = { λ earlier. earlier.is_noted ≡ true → TellsPlaces earlier.pairs (get_by_text earlier.places) };
+    ghost invariant = { λ earlier. IfSome earlier.places (λ places. TellsPlaces earlier.pairs (get_by_text places)) };
 }
 
 /// The value of a key among pairs, that of the first pair with this key, where this place is told of it.
@@ -100,23 +99,14 @@ fn note(
     Ok(true)
 }
 
-/// Notes where the keys of pairs stand, unless they are noted.
-fn note_unless(
-    alloc: Global,
-    places: &mut BTreeMap<String, usize>,
-    pairs: &Pairs,
-    is_noted: bool,
-) -> Result<(), Memory>
-    requires { is_noted ≡ true → TellsPlaces pairs.now (get_by_text places.old) }
-    ensures noted { OnOk result (TellsPlaces pairs.now (get_by_text places.new)) }
-    ensures kept { is_noted ≡ true → TellsPlaces pairs.now (get_by_text places.new) }
+/// Returns where each key of these pairs stands first.
+fn places_of(alloc: Global, pairs: &Pairs) -> Result<BTreeMap<String, usize>, Memory>
+    ensures { IfOk result (λ places. TellsPlaces pairs.now (get_by_text places)) }
 {
-    if is_noted {
-        return Ok(());
-    }
+    let mut places = BTreeMap::new(alloc);
     // No key stands before the first text, so none comes again.
-    let _ = note(alloc, places, &Pairs::new(alloc), pairs)?;
-    Ok(())
+    let _ = note(alloc, &mut places, &Pairs::new(alloc), pairs)?;
+    Ok(places)
 }
 
 impl Earlier {
@@ -124,29 +114,42 @@ impl Earlier {
     pub fn new(alloc: Global) -> Earlier
         ensures { result ≡ [] }
     {
+        Earlier::first(alloc, Pairs::new(alloc))
+    }
+
+    /// The pairs of one text.
+    fn first(alloc: Global, pairs: Pairs) -> Earlier
+        ensures { result ≡ pairs }
+    {
         Earlier {
             alloc,
-            pairs: Pairs::new(alloc),
-            places: BTreeMap::new(alloc),
-            is_noted: false,
+            pairs,
+            places: None,
         }
     }
 
-    /// Puts pairs behind these, where none of them says a key again that it may not. Otherwise, and where an allocation
-    /// fails, the pairs are as they were.
+    /// Appends pairs, if none of them says a key again that it may not. Otherwise, and where an allocation fails, the
+    /// pairs are as they were. An empty text asks for no memory.
     pub fn append(&mut self, more: Pairs) -> Result<bool, Memory>
         ensures value { IfOk result (λ is_new. is_new ≡ not (list_any (is_said_again self.old) more)) }
         ensures added { IfOk result (λ is_new. self.new ≡ (if is_new then self.old ++ more else self.old)) }
         ensures unchanged { OnErr result (self.new ≡ self.old) }
+        ensures empty { more ≡ [] → IsOk result }
     {
-        if self.pairs.is_empty() {
-            self.pairs = more;
-            self.is_noted = false;
+        if more.is_empty() {
             return Ok(true);
         }
-        note_unless(self.alloc, &mut self.places, &self.pairs, self.is_noted)?;
-        self.is_noted = true;
-        if !note(self.alloc, &mut self.places, &self.pairs, &more)? {
+        if self.pairs.is_empty() {
+            *self = Earlier::first(self.alloc, more);
+            return Ok(true);
+        }
+        let mut places = match self.places.take() {
+            Some(places) => places,
+            None => places_of(self.alloc, &self.pairs)?,
+        };
+        let noted = note(self.alloc, &mut places, &self.pairs, &more);
+        self.places = Some(places);
+        if !noted? {
             return Ok(false);
         }
         if self.pairs.append(more).is_err() {

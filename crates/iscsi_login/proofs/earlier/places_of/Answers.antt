@@ -1,9 +1,9 @@
 use Rattle.std.proofs.Common.{◌≡◌, true}
 use Rattle.iscsi_login.proofs.FirstText.{none_again}
-use Rattle.iscsi_login.proofs.earlier.note_unless.Goals as goal
+use Rattle.iscsi_login.proofs.earlier.places_of.Goals as goal
 
-pub returns-clause-noted : goal.returns-clause-noted
-returns-clause-noted c =
+pub returns : goal.returns
+returns c =
     let none = c.new.ensures in
     let is_new : c.in_ok-note.field-0 ≡ true = rw (none, none_again c.args.pairs.now) at c.in_ok-note.ensures.value in
     rw none at (c.in_ok-note.ensures.noted is_new)
