@@ -25,20 +25,21 @@ pub struct Exchange {
     alloc: Global,
     is_open: bool,
     kept: Vec<u8>,
-    /// The answer, of which the first bytes were sent, so many.
+    /// The answer, of which no more was sent than is left.
     answer: Vec<u8>,
+    /// The number of its bytes that were sent.
     sent: usize,
 }
 
 impl Model for Exchange {
-    ghost use Rattle.std.specs.Prelude.{◌≤◌, length, drop};
+    ghost use Rattle.std.specs.Prelude.{◌≤◌, ◌+◌, length, drop};
     ghost use Rattle.iscsi_exchange.specs.ExchangeState.{ExchangeState};
 
     ghost Value = { ExchangeState };
 
     ghost view = { λ e. record { is_open = e.is_open; kept = e.kept.items; due = drop e.sent e.answer.items } };
 
-    ghost invariant = { λ e. e.sent ≤ length e.answer.items };
+    ghost invariant = { λ e. e.sent + e.sent ≤ length e.answer.items };
 }
 
 /// The most text that one answer bears, in bytes: what the initiator takes (RFC 7143 §13.12), and no
@@ -101,8 +102,12 @@ impl Exchange {
             }
             return send(self.alloc, params, request, due);
         }
+        let body = request.body.as_slice();
+        if self.kept.is_empty() && !request.header.is_continued() {
+            return answer(self.alloc, params, request, body);
+        }
         let mut text = Vec::from_slice(self.alloc, self.kept.as_slice())?;
-        text.extend_from_slice(request.body.as_slice())?;
+        text.extend_from_slice(body)?;
         if request.header.is_continued() {
             return Ok(keep(self.alloc, text));
         }
@@ -151,8 +156,8 @@ impl Exchange {
         Ok(Some(Piece { step, text }))
     }
 
-    /// So many bytes of the answer are sent. Where more was sent than is left, what is left moves, so that no more than
-    /// twice of it is kept: all of an answer is copied once or less on its way.
+    /// Skips a number of bytes of the answer, which were sent. If more was sent than is left, what is left moves, so
+    /// that no more than twice of it is kept: all of an answer is copied once or less on its way.
     fn skip(&mut self, count: usize) -> Result<(), Memory>
         requires { count < length self.old.due }
         ensures skipped { OnOk result (self.new ≡ record self.old { due = drop count self.old.due }) }
