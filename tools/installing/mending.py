@@ -2,7 +2,10 @@
 
 import fcntl
 import os
+import random
+import resource
 import signal
+import struct
 
 from installing.installation import LIMIT, MEND, installed, ran
 from running import server
@@ -26,6 +29,16 @@ TORN = [
 ]
 
 
+def cut_of(path):
+    """The file in which the bytes are kept that were cut off a tape."""
+    return path.with_name(f"{path.name}.cut")
+
+
+def cut_at(path, end, count):
+    """What is printed of a cut by which a number of bytes went."""
+    return f"{path}: cut at byte {end}; the {count} byte{' after it is' if count == 1 else 's after it are'} in {cut_of(path)}"
+
+
 def told(top, *words):
     """The status of targetd-mend-tape, the lines of what it prints, and its fault."""
     status, said, fault = ran(top / MEND, *words)
@@ -38,23 +51,100 @@ def counts_the_items_of_a_whole_tape_and_leaves_it():
                               (item(bytes(1 << 20)) * 2, "2 records and 0 filemarks in 2097168 bytes")):
             path = top / "tape"
             path.write_bytes(content)
-            for words in ([path], ["--cut", path]):
+            for words in ([path], ["--cut", path], ["--cut-at", str(len(content)), path]):
                 assert told(top, *words) == (0, [f"{path}: {said}"], ""), words
-                assert path.read_bytes() == content
+                assert path.read_bytes() == content and not cut_of(path).exists()
 
 
 def tells_what_stands_at_a_torn_end_and_cuts_it_when_asked():
     with installed() as top:
-        for front, said in ((WHOLE, SAID.format(len(WHOLE))), (b"", "0 records and 0 filemarks in 0 bytes")):
+        path = top / "tape"
+        for front, said, words in ((WHOLE, SAID.format(len(WHOLE)), ["--cut"]),
+                                   (b"", "0 records and 0 filemarks in 0 bytes", ["--cut-at", "0"])):
             for end, fault in TORN:
-                path = top / "tape"
                 path.write_bytes(front + end)
                 lines = [f"{path}: {said}",
                          f"{path}: no whole item begins at byte {len(front)} of {len(front + end)}: {fault}"]
                 assert told(top, path) == (1, lines, ""), fault
-                assert path.read_bytes() == front + end
-                assert told(top, "--cut", path) == (0, [*lines, f"{path}: cut at byte {len(front)}"], ""), fault
-                assert path.read_bytes() == front
+                assert path.read_bytes() == front + end and not cut_of(path).exists()
+                assert told(top, *words, path) == (0, [*lines, cut_at(path, len(front), len(end))], ""), fault
+                assert path.read_bytes() == front and cut_of(path).read_bytes() == end
+                cut_of(path).unlink()
+
+
+def cuts_what_is_longer_than_a_torn_end_only_where_it_is_told_to():
+    longest = item(bytes(1 << 20))[:-1]
+    noise = random.Random(9).randbytes(4 << 20)
+    with installed() as top:
+        path = top / "tape"
+        for front, end, why in (
+                (item(b"ab"), longest, None),
+                (item(b"ab"), longest[:-1] + b"\1\1", "1048584 bytes stand after byte 10, and a torn end has at most 1048583"),
+                (bytes(1024), noise, "4194304 bytes stand after byte 1024, and a torn end has at most 1048583"),
+                (b"", noise, "4194304 bytes stand after byte 0, and a torn end has at most 1048583"),
+                (b"", noise[:4000], "no item stands at its front, and all its 4000 bytes would go")):
+            path.write_bytes(front + end)
+            status, said, fault = told(top, "--cut", path)
+            hint = f": it may be no tape ('--cut-at {len(front)}' cuts it all the same)"
+            assert (status, fault) == ((1, f"{path}: not cut: {why}{hint}\n") if why else (0, "")), fault
+            if why:
+                assert path.read_bytes() == front + end and not cut_of(path).exists()
+                status, said, fault = told(top, "--cut-at", str(len(front)), path)
+            assert (status, said[-1], fault) == (0, cut_at(path, len(front), len(end)), ""), fault
+            assert path.read_bytes() == front and cut_of(path).read_bytes() == end
+            cut_of(path).unlink()
+
+
+def cuts_at_a_byte_at_which_an_item_ends_and_at_no_other():
+    ends = {0, 10, 18, 50, 58, 66}  # of WHOLE
+    with installed() as top:
+        path = top / "tape"
+        for content in (WHOLE, WHOLE + b"\0"):
+            for offset in sorted({max(0, end + near) for end in ends for near in (-1, 0, 1, 2)} | {10 ** 18}):
+                path.write_bytes(content)
+                status, said, fault = told(top, "--cut-at", str(offset), path)
+                gone = len(content) - offset
+                if offset not in ends:
+                    why = (f"byte {offset} is beyond its end: it has {len(content)} bytes" if gone < 0 else
+                           f"no item ends at byte {offset}: the last one before it ends at byte "
+                           f"{max(end for end in ends if end < offset)}")
+                    assert (status, fault) == (1, f"{path}: not cut: {why}\n"), fault
+                    assert path.read_bytes() == content and not cut_of(path).exists()
+                    continue
+                assert (status, fault) == (0, ""), fault
+                assert path.read_bytes() == content[:offset]
+                assert not gone or (said[-1], cut_of(path).read_bytes()) == (cut_at(path, offset, gone), content[offset:])
+                cut_of(path).unlink(missing_ok=True)
+
+
+def cuts_nothing_that_it_cannot_keep():
+    content = WHOLE + item(bytes(5000))[:-1]
+    fault = "{0}: not cut: what would go cannot be kept in tape.cut: {1}\n"
+    with installed() as top:
+        path = top / "tape"
+        path.write_bytes(content)
+        cut_of(path).write_bytes(b"of before")
+        assert told(top, "--cut", path)[::2] == (3, fault.format(path, "it is there already, and is not written over"))
+        assert (path.read_bytes(), cut_of(path).read_bytes()) == (content, b"of before")
+        cut_of(path).unlink()
+        # No file may be longer, as none could on a disk that is full.
+        status, _, said = ran(top / MEND, "--cut", path, preexec_fn=lambda: resource.setrlimit(
+            resource.RLIMIT_FSIZE, (1000, 1000)))
+        assert (status, said) == (3, fault.format(path, "File too large")), said
+        assert path.read_bytes() == content and not cut_of(path).exists()
+        assert told(top, "--cut", path)[0] == 0 and cut_of(path).read_bytes() == content[len(WHOLE):]
+
+
+def keeps_what_it_cuts_for_the_owner_of_the_tape_alone():
+    with installed() as top:
+        path = top / "tape"
+        path.write_bytes(WHOLE + b"\0")
+        path.chmod(0o644)
+        if os.geteuid() == 0:
+            os.chown(path, 65534, 65534)
+        assert told(top, "--cut", path)[0] == 0
+        tape, kept = path.stat(), cut_of(path).stat()
+        assert (kept.st_mode & 0o7777, kept.st_uid, kept.st_gid) == (0o600, tape.st_uid, tape.st_gid), kept
 
 
 def cuts_a_tape_so_that_targetd_serves_it():
@@ -82,7 +172,8 @@ def looks_at_no_file_that_is_locked_or_cannot_be_opened():
         assert path.read_bytes() == WHOLE + b"\0"
         for other in (top, top / "none", "/dev/null"):
             assert told(top, other)[:2] == (3, []), other
-        for words in ([], [path, path], ["--cut"], ["--mend", path]):
+        for words in ([], [path, path], ["--cut"], ["--mend", path], ["--cut-at", path], ["--cut-at", "x", path],
+                      ["--cut-at", "-1", path], ["--cut", "--cut", path], ["--cut", "--cut-at", "0", path]):
             assert told(top, *words)[:2] == (2, []), words
         assert told(top, "--help")[0] == 0
 
@@ -97,10 +188,30 @@ def reads_16_million_filemarks_in_a_few_seconds():
         assert told(top, path) == (0, [f"{path}: 1 record and 16777216 filemarks in 134217760 bytes"], "")
 
 
+def reads_20_gb_of_records_in_a_few_seconds():
+    record, count = 1 << 20, 20 * 1024
+    length = struct.pack(">I", record)
+    with installed() as top:
+        path = top / "tape"
+        with path.open("wb", buffering=0) as file:
+            file.write(length)
+            for number in range(1, count + 1):  # the data of the records is holes of the file
+                os.pwrite(file.fileno(), length * 2, number * (record + 8) - 4)
+        size = count * (record + 8)
+        assert told(top, path) == (1, [
+            f"{path}: {count} records and 0 filemarks in {size} bytes",
+            f"{path}: no whole item begins at byte {size} of {size + 4}: the length {record}, and 0 bytes of its data"], "")
+
+
 CHECKS = [
     counts_the_items_of_a_whole_tape_and_leaves_it,
     tells_what_stands_at_a_torn_end_and_cuts_it_when_asked,
+    cuts_what_is_longer_than_a_torn_end_only_where_it_is_told_to,
+    cuts_at_a_byte_at_which_an_item_ends_and_at_no_other,
+    cuts_nothing_that_it_cannot_keep,
+    keeps_what_it_cuts_for_the_owner_of_the_tape_alone,
     cuts_a_tape_so_that_targetd_serves_it,
     looks_at_no_file_that_is_locked_or_cannot_be_opened,
     reads_16_million_filemarks_in_a_few_seconds,
+    reads_20_gb_of_records_in_a_few_seconds,
 ]

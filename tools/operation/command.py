@@ -1,6 +1,7 @@
 """How an installed tool is called, what it prints, and how it ends where that cannot be written."""
 
 import os
+import signal
 import sys
 from pathlib import Path
 
@@ -62,3 +63,5 @@ def run(main):
     except Unwritten as why:
         tell(why)
         sys.exit(UNWRITTEN)
+    except KeyboardInterrupt:
+        sys.exit(128 + signal.SIGINT)

@@ -7,12 +7,13 @@ from typing import NamedTuple
 
 MOST_RECORD = 1_048_576
 LENGTH, LENGTHS = 4, 8
-PIECE = 65_536  # bytes that are read at once
+MOST_TORN = MOST_RECORD + LENGTHS - 1  # bytes that a write leaves of which not all was stored
+PIECE, JUMP = 65_536, 512  # bytes that are read at once where the last ones end, and beyond them
 ZEROS = re.compile(rb"\0*")
 
 
 class Items(NamedTuple):
-    """What a file holds. `end`: behind the last whole item. `fault`: what stands there in place of one, or nothing."""
+    """What a file holds. `end`: after the last whole item. `fault`: what stands there in place of one, or nothing."""
     records: int
     filemarks: int
     end: int
@@ -29,7 +30,8 @@ class Pieces:
     def at(self, place, count):
         """The bytes that are held, and where in them this place stands, with so many bytes behind it."""
         if not self.start <= place <= self.start + len(self.held) - count:
-            self.start, self.held = place, os.pread(self.file.fileno(), PIECE, place)
+            size = PIECE if place <= self.start + len(self.held) else JUMP
+            self.start, self.held = place, os.pread(self.file.fileno(), size, place)
         return self.held, place - self.start
 
     def number(self, place):
@@ -64,9 +66,9 @@ def fault_at(pieces, place, size, length):
     return f"{before} and the second length {again}" if again != length else ""
 
 
-def items_of(file):
-    """The items of a file that is open for reading."""
-    pieces, size = Pieces(file), file.seek(0, os.SEEK_END)
+def items_of(file, size=None):
+    """The items of a file that is open for reading, or of this many bytes at its front."""
+    pieces, size = Pieces(file), file.seek(0, os.SEEK_END) if size is None else size
     records = filemarks = end = 0
     while end < size:
         length = pieces.number(end)
@@ -76,6 +78,6 @@ def items_of(file):
         if length:
             records, end = records + 1, end + length + LENGTHS
         else:
-            found = max(1, pieces.filemarks(end))
+            found = max(1, min(pieces.filemarks(end), (size - end) // LENGTHS))
             filemarks, end = filemarks + found, end + found * LENGTHS
     return Items(records, filemarks, end, size, "")
