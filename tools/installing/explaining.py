@@ -91,12 +91,19 @@ def tells_why_a_file_is_no_disk_or_tape():
     tape = 'kind = "tape"\ncapacity = 100\nearly = 0\n'
     with installed() as top:
         for content, lines, told in (
-                (bytes(1000), 'kind = "disk"\n',
-                 "F has 1000 bytes, and not a positive multiple of 512: truncate -s %512 makes it one\n"),
+                *((content, 'kind = "disk"\n',
+                   f"F has {size}, and not a positive multiple of 512. What stands after the last whole block, {more} ({what}), "
+                   f"may belong to something else than a disk: look at it (tail -c {more.split()[0]}), and cut only what is known "
+                   "to be no data\n") for content, size, more, what in (
+                       (bytes(1000), "1000 bytes", "488 bytes", "zeros"),
+                       (bytes(1024) + b"x", "1025 bytes", "1 byte", "not all zeros"),
+                       (b"\0", "1 byte", "1 byte", "zeros"))),
                 (b"", 'kind = "disk"\n', "F is empty, and a disk has as many bytes as its file\n"),
                 (item(b"ab") + item()[:7], tape,
                  "F has no whole record or filemark at byte 10 of 17, but the length 0 and 3 bytes of its second "
                  "length: targetd-mend-tape can cut it there\n"),
+                (item()[:7], tape, "F has no whole record or filemark at byte 0 of 7, but the length 0 and 3 bytes of its "
+                 "second length: it may be no tape\n"),
                 (item(bytes(93)), tape, "F has 101 bytes, and more than the capacity of 100\n")):
             assert told_of_file(top, content, lines) == (1, told), told
         (top / "other").symlink_to(top / "unit")

@@ -9,7 +9,7 @@ from typing import NamedTuple
 
 from operation.addresses import addresses_of_host
 from operation.file_locks import holders, is_served_by, is_taken, words_of
-from operation.tape_items import items_of
+from operation.tape_items import MOST_TORN, counted, items_of
 from operation.toml_lines import NotToml, read
 
 MOST_BYTES, BLOCK = 1_048_576, 512
@@ -251,17 +251,23 @@ class Configuration:
 def disk_fault(file):
     """Why a file is no disk, or nothing."""
     size = file.seek(0, os.SEEK_END)
-    if size % BLOCK:
-        return f"has {size} bytes, and not a positive multiple of {BLOCK}: truncate -s %{BLOCK} makes it one"
-    return None if size else "is empty, and a disk has as many bytes as its file"
+    more = size % BLOCK
+    if not more:
+        return None if size else "is empty, and a disk has as many bytes as its file"
+    rest = os.pread(file.fileno(), more, size - more)
+    what = "zeros" if not any(rest) else "not all zeros"
+    return (f"has {counted(size, 'byte')}, and not a positive multiple of {BLOCK}. What stands after the last whole block, "
+            f"{counted(more, 'byte')} ({what}), may belong to something else than a disk: look at it (tail -c {more}), and cut "
+            "only what is known to be no data")
 
 
 def tape_fault(file, capacity):
     """Why a file is no tape of this capacity, or nothing."""
     found = items_of(file)
     if found.fault:
+        may_be_torn = found.end and found.size - found.end <= MOST_TORN
         return (f"has no whole record or filemark at byte {found.end} of {found.size}, but {found.fault}: "
-                "targetd-mend-tape can cut it there")
+                + ("targetd-mend-tape can cut it there" if may_be_torn else "it may be no tape"))
     return f"has {found.size} bytes, and more than the capacity of {capacity}" if found.size > capacity else None
 
 
