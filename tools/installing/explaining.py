@@ -6,7 +6,7 @@ import re
 import socket
 
 from installing.installation import EXPLAIN, SOUND, TOP, installed, ran
-from operation import configuration
+from operation import configuration, trying
 from replay import program, transcript
 from running import server
 from sockets.tape_files import item
@@ -66,6 +66,8 @@ def explains_where_a_log_cannot_be_written():
         units = SOUND.replace("blocks = 8", f'file = "{disk}"')
         for log, told in (
                 (f'"{top}/log"', f"{config}: targetd takes it"), ('"-"', f"{config}: targetd takes it"),
+                ('""', f'{config}:1: stream fault: the configuration: "log" is empty, and no path'),
+                (f'"{top}/none/"', f'{config}:1: stream fault: the log "{top}/none/" cannot be written to: its folder is not there'),
                 (f'"{top}"', f'{config}:1: stream fault: the log "{top}" cannot be written to: it is a folder'),
                 (f'"{top}/none/log"',
                  f'{config}:1: stream fault: the log "{top}/none/log" cannot be written to: its folder is not there'),
@@ -130,15 +132,77 @@ def tells_who_has_a_file_locked():
                     0, f"{mine}:8: note: {lock}, which serves this configuration\n{mine}: targetd takes it\n", "")
 
 
+def told_of_address(top, listen, **settings):
+    """The status of targetd-explain-config for an address, and what it says of it."""
+    config = top / "my.toml"
+    config.write_text(SOUND.replace("127.0.0.1:0", listen), encoding="utf-8")
+    status, told, fault = ran(top / EXPLAIN, config, **settings)
+    assert fault == "", fault
+    return status, told.replace(f'{config}:1: socket fault: "listen" is "{listen}", ', "F ")
+
+
+def tells_why_an_address_cannot_be_listened_on():
+    with installed() as top:
+        with socket.create_server(("127.0.0.1", 0)) as other:
+            port = other.getsockname()[1]
+            for host in ("127.0.0.1", "0.0.0.0"):
+                status, told = told_of_address(top, f"{host}:{port}")
+                assert status == 1 and re.search(rf"^F where process {os.getpid()} \(.*\) listens already$", told, re.MULTILINE), told
+            assert told_of_address(top, f"127.0.0.2:{port}")[0] == 0
+        assert told_of_address(top, f"127.0.0.1:{port}") == (0, f"{top}/my.toml: targetd takes it\n")
+        try:
+            socket.create_server(("192.0.2.1", 0)).close()  # nobody's, but a system may be told to let it be (ip(7))
+        except OSError:
+            status, told = told_of_address(top, "192.0.2.1:3260")
+            assert status == 1 and told.startswith("F which is no address of this host. Name one"), told
+        if os.geteuid() == 0 and trying.free_ports() > 860:
+            top.chmod(0o755)
+            assert told_of_address(top, "127.0.0.1:860", user=65534) == (
+                1, f"F and a port below {trying.free_ports()} wants a right that this user does not have "
+                "(CAP_NET_BIND_SERVICE)\n")
+
+
+def notes_an_address_on_which_this_configuration_is_served():
+    with installed() as top:
+        mine, other = top / "my.toml", top / "other.toml"
+        for config in (mine, other):
+            config.write_text(SOUND.replace("127.0.0.1:0", f"127.0.0.1:{server.free_port()}"), encoding="utf-8")
+        other.write_text(mine.read_text(encoding="utf-8"), encoding="utf-8")
+        with server.listening(top / "sbin/targetd", "serve", "--config", mine) as running:
+            words = f'"listen" is "127.0.0.1:{running.port}", where process {running.process.pid} (targetd) listens already'
+            assert ran(top / EXPLAIN, other) == (1, f"{other}:1: socket fault: {words}\n", "")
+            assert ran(top / EXPLAIN, mine) == (
+                0, f"{mine}:1: note: {words}, which serves this configuration\n{mine}: targetd takes it\n", "")
+
+
+def takes_the_files_that_the_program_takes_and_changes_none():
+    kinds = ('kind = "disk"', 'kind = "tape"\ncapacity = 100\nearly = 0')
+    with installed() as top:
+        config, plain = top / "my.toml", top / "plain"
+        plain.write_bytes(bytes(512))
+        os.mkfifo(top / "fifo")
+        before = plain.stat()
+        for path in ("plain", "fifo", "none", ".", "plain/", "", "/dev/zero", "/dev/full"):
+            for kind in kinds:
+                config.write_text(SOUND.replace('kind = "disk"', kind).replace("blocks = 8", f'file = "{path}"'), encoding="utf-8")
+                status, told, fault = ran(top / EXPLAIN, config, cwd=top)
+                served, _, says = ran(top / "sbin/targetd", "serve", "--config", config, "--turns", "0", cwd=top)
+                assert (status, fault) == (int(served != 0), "") and ("device fault" in told) == ("device fault" in says), told
+                assert status == 0 or path in ("", "/dev/zero", "/dev/full") or f'"{path}", tried in {top},' in told, told
+        after = plain.stat()
+        assert (after.st_size, after.st_mtime_ns, after.st_ctime_ns) == (before.st_size, before.st_mtime_ns, before.st_ctime_ns)
+        assert not (top / "none").exists()
+
+
 def names_the_addresses_of_this_host_in_place_of_all():
     with installed() as top:
-        for listen in ("0.0.0.0:3260", "[::]:3260"):
-            config = top / "my.toml"
+        for listen in (f"0.0.0.0:{server.free_port()}", f"[::]:{server.free_port()}"):
+            config, port = top / "my.toml", listen.rpartition(":")[2]
             config.write_text(SOUND.replace("127.0.0.1:0", listen), encoding="utf-8")
             status, told, _ = ran(top / EXPLAIN, config)
             front = f'{config}:1: note: "listen" is "{listen}", which discovery tells: no other host can log in by it. '
             assert status == 0 and told.startswith(f"{front}Name an address of this host"), told
-            named = re.findall(r"[ \[]([0-9a-f.:]+)\]?:3260(?= or |\n)", told.removeprefix(front))
+            named = re.findall(rf"[ \[]([0-9a-f.:]+)\]?:{port}(?= or |\n)", told.removeprefix(front))
             assert len(named) == told.count(" or ") + told.count("host: "), told
             for address in named:  # only an address of this host can be listened on
                 family = socket.AF_INET6 if ":" in address else socket.AF_INET
@@ -179,6 +243,9 @@ CHECKS = [
     explains_where_a_log_cannot_be_written,
     tells_why_a_file_is_no_disk_or_tape,
     tells_who_has_a_file_locked,
+    tells_why_an_address_cannot_be_listened_on,
+    notes_an_address_on_which_this_configuration_is_served,
+    takes_the_files_that_the_program_takes_and_changes_none,
     names_the_addresses_of_this_host_in_place_of_all,
     explains_every_configuration_of_the_cases_by_its_number,
 ]

@@ -1,18 +1,15 @@
 """What is wrong with a configuration of targetd, each fault at its line and key (docs/PROFILE.md, "Configuration")."""
 
 import difflib
-import ipaddress
 import os
-import re
 from pathlib import Path
 from typing import NamedTuple
 
-from operation.addresses import addresses_of_host
+from operation import trying
 from operation.file_locks import holders, is_served_by, is_taken, words_of
-from operation.tape_items import MOST_TORN, counted, items_of
 from operation.toml_lines import NotToml, read
 
-MOST_BYTES, BLOCK = 1_048_576, 512
+MOST_BYTES = 1_048_576
 MOST_TARGETS, MOST_UNITS, MOST_LUN = 8, 16, 255
 MOST_LISTEN, MOST_NAME, MOST_SERIAL = 253, 223, 32
 MOST_BLOCKS, MOST_CAPACITY = 1_048_576, 34_359_738_360
@@ -21,7 +18,6 @@ KEYS = {"the configuration": ["listen", "log", "target"], "target": ["name", "un
         "tape": ["lun", "kind", "serial", "capacity", "early", "file"]}
 EXAMPLE_SERIAL = "EXAMPLE1"
 STANDARD_ERROR = "-"
-ADDRESS = re.compile(r"(?:([0-9.]+)|\[([0-9A-Fa-f:.]+)(?:%[0-9]+)?\]):([0-9]+)")
 
 
 class Told(NamedTuple):
@@ -130,13 +126,25 @@ class Configuration:
 
     def listen(self, listen, line):
         """The address to listen on, which hosts that discover the targets are told."""
-        address = address_in(listen)
+        address = trying.address_in(listen)
         if address is None:
             self.tell(line, "socket", f'"listen" is "{listen}", and no address with a port, as "127.0.0.1:3260" or '
                       '"[::1]:3260": names are not looked up')
-        elif address.is_unspecified:
+            return
+        if address.host.is_unspecified:
             self.tell(line, None, f'"listen" is "{listen}", which discovery tells: no other host can log in by it. '
-                      f"Name an address of this host{own_addresses(address.version, listen.rpartition(':')[2])}")
+                      f"Name an address of this host{trying.own_addresses(address)}")
+        error = trying.bind_error(address)
+        if error:
+            words, processes = trying.unbound(address, error)
+            self.taken(line, "socket", f'"listen" is "{listen}", {words}', processes)
+
+    def taken(self, line, fault, words, processes):
+        """Processes have what is wanted, which is as it should be where they serve this configuration."""
+        if processes and all(is_served_by(process, self.path) for process in processes):
+            self.tell(line, None, f"{words}, which serves this configuration")
+        else:
+            self.tell(line, fault, words)
 
     def log(self, place):
         """Where the log is written to. Another value than a text is not looked at."""
@@ -146,10 +154,16 @@ class Configuration:
         line = place.table.lines["log"]
         if value.kind != "text":
             self.tell(line, None, f'{place.name}: "log" is no text, so there is no log')
-        elif value.held in self.files:
-            self.tell(line, "stream", f'the log "{value.held}" is the file of a unit')
-        elif value.held != STANDARD_ERROR and (why := closed_log(Path(self.folder, value.held))):
-            self.tell(line, "stream", f'the log "{value.held}" cannot be written to: {why}')
+        elif not value.held:
+            self.tell(line, "stream", f'{place.name}: "log" is empty, and no path')
+        elif value.held != STANDARD_ERROR:
+            fault = trying.log_fault(os.path.join(self.folder, value.held), self.inodes)
+            if fault:
+                self.tell(line, "stream", f'the log "{value.held}"{self.tried(value.held)} {fault}')
+
+    def tried(self, path):
+        """In which folder a path was tried that names none of its own, in words."""
+        return "" if Path(path).is_absolute() else f", tried in {Path(self.folder).resolve()},"
 
     def target(self, place):
         """A target with its units."""
@@ -201,7 +215,7 @@ class Configuration:
         """A disk, in a file or in memory."""
         keys = KEYS["disk"]
         if "file" in place.table.held:
-            self.file(place, disk_fault)
+            self.file(place, trying.disk_fault)
             keys = [key for key in keys if key != "blocks"]
         else:
             self.number(place, "blocks", 1, MOST_BLOCKS)
@@ -213,99 +227,44 @@ class Configuration:
         most = MOST_CAPACITY if capacity is None else capacity
         self.number(place, "early", 0, most)
         if "file" in place.table.held:
-            self.file(place, lambda file: tape_fault(file, most))
+            self.file(place, lambda file: trying.tape_fault(file, most))
         self.unread(place, KEYS["tape"])
 
     def file(self, place, fault_in):
-        """The file of a unit, as the program would open it, and what `fault_in` it is told of its content."""
+        """The file of a unit, tried as the program opens it, and what `fault_in` it is told of its content."""
         path = self.field(place, "file", "text")
         if path is None:
             return
+        line = place.table.lines["file"]
         self.twice(self.files, path, place, "file", f'the file "{path}" comes twice')
-        name = f'{place.name}: the file "{path}"'
+        if not path:
+            self.tell(line, "device", f'{place.name}: "file" is empty, and no path')
+            return
+        name = f'{place.name}: the file "{path}"{self.tried(path)}'
         try:
-            with open(Path(self.folder, path), "r+b", buffering=0) as file:
-                if not is_taken(file):
-                    self.locked(place.table.lines["file"], name, holders(file))
-                    return
-                fault = self.other_path(file, path) or fault_in(file)
+            with open(os.path.join(self.folder, path), "r+b", buffering=0) as file:
+                self.opened(file, path, line, name, fault_in)
         except (OSError, ValueError) as error:
-            fault = f"cannot be opened for reading and writing: {getattr(error, 'strerror', None) or error}"
-        if fault:
-            self.tell(place.table.lines["file"], "device", f"{name} {fault}")
+            self.tell(line, "device", f"{name} cannot be opened for reading and writing: {trying.why(error)}")
 
-    def other_path(self, file, path):
-        """Why a file may not be that of a unit beside those so far, which have other paths, or nothing."""
+    def opened(self, file, path, line, name, fault_in):
+        """The file of a unit that could be opened."""
         status = os.fstat(file.fileno())
         first = self.inodes.setdefault((status.st_dev, status.st_ino), path)
-        return f'is that of another unit, as "{first}"' if first != path else None
-
-    def locked(self, line, name, processes):
-        """A file is locked, which is as it should be where it is served by this configuration."""
-        if processes and all(is_served_by(process, self.path) for process in processes):
-            self.tell(line, None, f"{name} is locked by {words_of(processes)}, which serves this configuration")
-        else:
-            self.tell(line, "device", f"{name} is locked by {words_of(processes)}")
-
-
-def disk_fault(file):
-    """Why a file is no disk, or nothing."""
-    size = file.seek(0, os.SEEK_END)
-    more = size % BLOCK
-    if not more:
-        return None if size else "is empty, and a disk has as many bytes as its file"
-    rest = os.pread(file.fileno(), more, size - more)
-    what = "zeros" if not any(rest) else "not all zeros"
-    return (f"has {counted(size, 'byte')}, and not a positive multiple of {BLOCK}. What stands after the last whole block, "
-            f"{counted(more, 'byte')} ({what}), may belong to something else than a disk: look at it (tail -c {more}), and cut "
-            "only what is known to be no data")
-
-
-def tape_fault(file, capacity):
-    """Why a file is no tape of this capacity, or nothing."""
-    found = items_of(file)
-    if found.fault:
-        may_be_torn = found.end and found.size - found.end <= MOST_TORN
-        return (f"has no whole record or filemark at byte {found.end} of {found.size}, but {found.fault}: "
-                + ("targetd-mend-tape can cut it there" if may_be_torn else "it may be no tape"))
-    return f"has {found.size} bytes, and more than the capacity of {capacity}" if found.size > capacity else None
-
-
-def closed_log(path):
-    """Why the file of a log cannot be appended to, or nothing. None is made here."""
-    if "\0" in str(path):
-        return "it has a zero byte"
-    try:
-        if path.is_dir():
-            return "it is a folder"
-        if not path.parent.is_dir():
-            return "its folder is not there"
-        is_open = os.access(path if path.exists() else path.parent, os.R_OK | os.W_OK)
-    except (OSError, ValueError) as error:
-        return getattr(error, "strerror", None) or error
-    return None if is_open else "it may not be read and written"
+        if not is_taken(file):
+            processes = holders(file)
+            self.taken(line, "device", f"{name} is locked by {words_of(processes)}", processes)
+        elif first != path:
+            self.tell(line, "device", f'{name} is that of another unit, as "{first}"')
+        elif fault := fault_in(file):
+            self.tell(line, "device", f"{name} {fault}")
+        elif kind := trying.kind_of(file):
+            self.tell(line, None, f"{name} is {kind}, which may keep nothing of what is written to it")
 
 
 def article(kind):
     """A kind of value, in words."""
     return f"an {kind}" if kind[0] in "ai" else f"a {kind}"
-
-
-def address_in(listen):
-    """The IPv4 or IPv6 address of a text that spells it with a port, or nothing."""
-    found = ADDRESS.fullmatch(listen)
-    try:
-        return ipaddress.ip_address(found[1] or found[2]) if found and int(found[3]) < 2 ** 16 else None
-    except ValueError:
-        return None
-
-
-def own_addresses(version, port):
-    """What this host can be reached by, in words; who listens on all of version 6 is reached by version 4 too."""
-    found = [str(address) for address in addresses_of_host(4)]
-    if version == 6:
-        found += [f"[{address}]" for address in addresses_of_host(6)]
-    return f": {' or '.join(f'{address}:{port}' for address in found)}" if found else ""
 
 
 def explained(contents, path, folder):

@@ -57,13 +57,37 @@ def socket_in(line):
                   max(0, unread - 1) if state == "close-wait" else unread, untaken)
 
 
+def inodes_of(process):
+    """The inodes of the sockets that a process has open. Fails where they cannot be seen from here."""
+    return {int(found[1]) for link in Path(f"/proc/{process}/fd").iterdir() if (found := SOCKET.fullmatch(link_of(link)))}
+
+
 def sockets_of(process):
     """The sockets that a process has open, those that listen first. Fails where they cannot be seen from here."""
-    inodes = {int(found[1]) for link in Path(f"/proc/{process}/fd").iterdir()
-              if (found := SOCKET.fullmatch(link_of(link)))}
+    inodes = inodes_of(process)
     lines = [line for name in ("tcp", "tcp6") for line in lines_of(f"/proc/{process}/net/{name}")[1:]]
     found = [one for one in map(socket_in, lines) if one.inode in inodes]
     return sorted(found, key=lambda one: (one.state != LISTENING, one.remote))
+
+
+def is_at(local, host, port):
+    """A socket of this local address has a port of this host; an address of zeros is that of all."""
+    own, _, number = local.rpartition(":")
+    return number == str(port) and (own.strip("[]") == host or {own.strip("[]"), host} & {"0.0.0.0", "::"})
+
+
+def listeners(host, port):
+    """The processes that listen on a port of this host, as far as they can be seen from here."""
+    listening = {one.inode for name in ("tcp", "tcp6") for one in map(socket_in, lines_of(f"/proc/net/{name}")[1:])
+                 if one.state == LISTENING and is_at(one.local, host, port)}
+    found = []
+    for entry in Path("/proc").iterdir():
+        try:
+            if entry.name.isdecimal() and inodes_of(entry.name) & listening:
+                found.append(int(entry.name))
+        except OSError:
+            continue  # it has ended, or is another user's
+    return sorted(found)
 
 
 def link_of(path):
