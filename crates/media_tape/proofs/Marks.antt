@@ -1,16 +1,16 @@
 -- Past the runs of records between a position and the next run of filemarks.
-use Rattle.std.proofs.Common.{◌≡◌, ℕ, zero, suc, ◌+◌, ◌-◌, ◌≤◌, ◌<◌, ◌++◌, inl, inr, List, length, take, drop, reverse}
-use Rattle.std.proofs.Common.{max, min, ap, sym, ◌∙◌, refl, arith, add-one}
+use Rattle.std.proofs.Common.{◌≡◌, ℕ, zero, suc, ◌+◌, ◌-◌, ◌^◌, ◌≤◌, ◌<◌, ◌++◌, inl, inr, List, length, take, drop, reverse}
+use Rattle.std.proofs.Common.{max, min, ap, sym, ◌∙◌, refl, subst, arith, add-one}
 use Rattle.std.specs.Prelude.{replicate}
 use Rattle.std.proofs.Math.Nat.{eq-or-lt_of_le}
 use Rattle.std.proofs.lemmas.List.{drop_all}
-use Rattle.media_tape.specs.Index.{mark_size}
+use Rattle.media_tape.specs.Index.{mark_size, AreAhead}
 use Rattle.media_tape.specs.Runs.{no_run, run_before, run_size, sizes_of, AreRecords, AreRuns}
 use Rattle.media_tape.specs.SizeSpace.{past_records}
 use Rattle.media_tape.specs.declared.outcome.Direction.TheVariants.{Forward, Backward}
 use Rattle.media_tape.specs.declared.run.Run.{Run}
 use Rattle.media_tape.proofs.Alike.{alike-behind, alike-front, alike-back}
-use Rattle.media_tape.proofs.Runs.{HasRun, has_run, are_all}
+use Rattle.media_tape.proofs.Runs.{HasRun, has_run, are_all, around, ahead_on, ahead_back}
 use Rattle.media_tape.proofs.Spacing.{past-forward, past-backward, past-mark, past-none}
 
 -- from number to number
@@ -104,6 +104,33 @@ past_on runs at i j now are lt from to low le records mark now_is =
           here ∙ sym (gone.is ∙ on-end runs j are le mark)
     ]
 
+-- the filemarks where they end, which end after the position
+pub marks_end_after : (runs : List Run) (at i j : ℕ) → AreRuns no_run runs → (run_before runs i).count ≤ at
+    → at < (run_before runs (i + 1)).count → i ≤ j → j < length runs → AreRecords runs i j
+    → at < (run_before runs (j + 1)).count
+marks_end_after runs at i j are from to low less records = elim (eq-or-lt_of_le low) [
+  | inl same ↦ omega (arith, to, ap (λ k. count_to runs (k + 1)) same)
+  | inr more ↦
+      let gone = on-runs runs at i j are from (rw add-one at to) more (omega arith) records in
+      let longer = (has_run runs j are less).follows.some in
+      omega (arith, gone.behind, longer)
+]
+
+pub marks_on : (runs : List Run) (j at now near : ℕ) → AreRuns no_run runs → j < length runs
+    → run_size runs j ≡ mark_size → (run_before runs (j + 1)).count < 2 ^ 64 → at < (run_before runs (j + 1)).count
+    → now ≡ max (run_before runs j).count at
+    → AreAhead Forward now (sizes_of no_run runs)
+    (record { many = (run_before runs (j + 1)).count - now; size = mark_size; near = near })
+marks_on runs j at now near are less mark fits within now_is =
+    let sizes = sizes_of no_run runs in
+    let next = run_before runs (j + 1) in
+    let P : ℕ → Type 0 = λ n. AreAhead Forward now sizes (record { many = next.count - now; size = n; near = near }) in
+    let size_is : next.size ≡ mark_size = ap (λ k. (run_before runs k).size) (add-one j) ∙ mark in
+    let longer = (has_run runs j are less).follows.some in
+    let are_around = around runs j now (run_before runs j) next are less refl refl (omega (arith, now_is))
+    (omega (arith, now_is, within, longer)) in
+    subst P size_is (ahead_on sizes now near _ are_around fits)
+
 -- ---- before a position
 
 back-mark : (runs : List Run) (at i : ℕ) → AreRuns no_run runs → i < length runs → count_to runs i < at
@@ -174,3 +201,37 @@ past_back runs at i j now are lt some from to low records mark now_is =
           let here : now ≡ count_to runs j = omega (arith, now_is, gone.before) in
           here ∙ sym (gone.is ∙ back-end runs j are (omega arith) mark)
     ]
+
+-- the filemarks where they end, which begin before the position
+pub marks_begin_before : (runs : List Run) (at i j : ℕ) → AreRuns no_run runs → i < length runs → 0 < at
+    → (run_before runs i).count ≤ at - 1 → at - 1 < (run_before runs (i + 1)).count → j ≤ i + 1 → 0 < j
+    → AreRecords runs j (i + 1) → (run_before runs (j - 1)).count < at
+marks_begin_before runs at i j are lt some from to low one records =
+    let there : j - 1 + 1 ≡ j = omega arith in
+    elim (eq-or-lt_of_le low) [
+      | inl same ↦ let last : j - 1 ≡ i = omega arith in omega (arith, some, from, ap (count_to runs) last)
+      | inr less ↦
+          let high : at - 1 < count_to runs (suc i) = rw add-one at to in
+          let gone = back-runs runs at i j are lt (omega arith) (omega arith) (omega arith) (rw add-one at records) in
+          let longer = (has_run runs (j - 1) are (omega arith)).follows.some in
+          omega (arith, gone.before, longer, ap (count_to runs) there)
+    ]
+
+pub marks_back : (runs : List Run) (j at now near : ℕ) → AreRuns no_run runs → 0 < j → j ≤ length runs
+    → at ≤ length (sizes_of no_run runs) → run_size runs (j - 1) ≡ mark_size → (run_before runs (j - 1)).count < at
+    → now ≡ min (run_before runs j).count at
+    → AreAhead Backward now (sizes_of no_run runs)
+    (record { many = now - (run_before runs (j - 1)).count; size = mark_size; near = near })
+marks_back runs j at now near are one le within mark least now_is =
+    let sizes = sizes_of no_run runs in
+    let k : ℕ = j - 1 in
+    let there : k + 1 ≡ j = omega arith in
+    let first = count_to runs k in
+    let next = run_before runs (k + 1) in
+    let P : ℕ → Type 0 = λ n. AreAhead Backward now sizes (record { many = now - first; size = n; near = near }) in
+    let size_is : next.size ≡ mark_size = ap (λ n. (run_before runs n).size) (add-one k) ∙ mark in
+    let longer = (has_run runs k are (omega arith)).follows.some in
+    let next_is : next.count ≡ count_to runs j = ap (count_to runs) there in
+    let are_around = around runs k (now - 1) (run_before runs k) next are (omega arith) refl refl
+    (omega (arith, now_is, least, longer, next_is)) (omega (arith, now_is, least, longer, next_is)) in
+    subst P size_is (ahead_back sizes now near _ (omega (arith, now_is, least, longer, next_is)) (omega (arith, now_is)) are_around)

@@ -1,5 +1,5 @@
 -- Spacing goes on from one run to the next.
-use Rattle.std.proofs.Common.{◌≡◌, ℕ, zero, suc, ◌+◌, ◌-◌, ◌≤◌, ◌<◌, List, [], ◌++◌, ◌⊎◌, inl, inr}
+use Rattle.std.proofs.Common.{◌≡◌, ℕ, zero, suc, ◌+◌, ◌-◌, ◌≤◌, ◌<◌, List, [], ◌++◌}
 use Rattle.std.proofs.Common.{length, take, drop, reverse, ap, sym, ◌∙◌, arith}
 use Rattle.std.specs.Prelude.{replicate}
 use Rattle.std.proofs.Math.Seq.{take-add}
@@ -10,7 +10,7 @@ use Rattle.media_tape.specs.SizeSpace.{further, size_way, size_way_from, leading
 use Rattle.media_tape.specs.Space.{Way, edge, spaced_to}
 use Rattle.media_tape.specs.declared.index.Ahead.{Ahead}
 use Rattle.media_tape.specs.declared.outcome.Over.{Over}
-use Rattle.media_tape.specs.declared.outcome.Over.TheVariants.{Records, Filemarks}
+use Rattle.media_tape.specs.declared.outcome.Over.TheVariants.{Filemarks}
 use Rattle.media_tape.specs.declared.outcome.Direction.{Direction}
 use Rattle.media_tape.specs.declared.outcome.Direction.TheVariants.{Forward, Backward}
 use Rattle.media_tape.specs.declared.space.Ended.{Ended}
@@ -101,37 +101,30 @@ drop-sizes_ahead Backward at many sizes within few =
     ∙ ap (drop many) (reverse-append front back)
     ∙ drop_at (reverse back) (reverse front) many (length-reverse back ∙ length-take-le many (drop first sizes) long)
 
--- from where it was, or past the records next to it
-abbrev pub IsPast : Direction → Over → ℕ → ℕ → List ℕ → Type 0
-IsPast toward over at now sizes = (now ≡ at) ⊎ ((over ≡ Filemarks) × (now ≡ past_records toward at sizes))
-
-pub on_past : (toward : Direction) (over : Over) (count from : ℕ) (sizes : List ℕ) (left at now : ℕ) → 0 < left
-    → IsOn toward over count from sizes left at → IsPast toward over at now sizes
-    → IsOn toward over count from sizes left now
-on_past direction over count from sizes left at now some on (inl is) = rw is on
-on_past direction Records count from sizes left at now some on (inr is) = let e = is.0 in absurd cc
-on_past direction Filemarks count from sizes left at now some on (inr is) =
+pub on_past : (toward : Direction) (count from : ℕ) (sizes : List ℕ) (left at now : ℕ) → 0 < left
+    → IsOn toward Filemarks count from sizes left at → now ≡ past_records toward at sizes
+    → IsOn toward Filemarks count from sizes left now
+on_past direction count from sizes left at now some on is =
     let ahead = sizes_ahead direction at sizes in
     let many = leading_records ahead in
     let few = leading_few ahead in
     record {
       gone = on.gone + many;
-      at_is = is.1 ∙ ap (λ n. spaced_to direction n many) on.at_is ∙ spaced-spaced direction from on.gone many;
-      within = rw is.1 (long-ahead direction at many sizes on.within few);
-      way = rw is.1 (on.way ∙ ap (further on.gone) (past-leading direction left ahead some)
+      at_is = is ∙ ap (λ n. spaced_to direction n many) on.at_is ∙ spaced-spaced direction from on.gone many;
+      within = rw is (long-ahead direction at many sizes on.within few);
+      way = rw is (on.way ∙ ap (further on.gone) (past-leading direction left ahead some)
           ∙ ap (λ l. further on.gone (further many (size_way direction Filemarks left l)))
           (drop-sizes_ahead direction at many sizes on.within few)
           ∙ further-further on.gone many (size_way_from direction Filemarks left (spaced_to direction at many) sizes));
     }
 
-pub no_longer : (toward : Direction) (over : Over) (at now : ℕ) (sizes : List ℕ) → at ≤ length sizes
-    → IsPast toward over at now sizes
+pub no_longer : (toward : Direction) (at now : ℕ) (sizes : List ℕ) → at ≤ length sizes
+    → now ≡ past_records toward at sizes
     → length (sizes_ahead toward now sizes) ≤ length (sizes_ahead toward at sizes)
-no_longer direction over at now sizes within (inl is) = rw is (omega arith)
-no_longer direction over at now sizes within (inr is) =
+no_longer direction at now sizes within is =
     let ahead = sizes_ahead direction at sizes in
     let many = leading_records ahead in
-    rw (is.1, ← drop-sizes_ahead direction at many sizes within (leading_few ahead))
+    rw (is, ← drop-sizes_ahead direction at many sizes within (leading_few ahead))
     (omega (arith, length-drop many ahead))
 
 -- past a run of records

@@ -5,7 +5,7 @@ ghost use Rattle.media_tape.specs.Index.{mark_size, most_size, Joins, HasRoom, I
 ghost use Rattle.media_tape.specs.SizeSpace.{past_records};
 
 use crate::outcome::Direction;
-use crate::run::{Run, marks_before, marks_from, run_before, run_of};
+use crate::run::{MARK_SIZE, Run, marks_before, marks_from, run_before, run_of};
 use std::alloc::{AllocError, Global};
 use std::marker::Model;
 
@@ -159,29 +159,42 @@ impl Index {
         }
     }
 
-    /// Where the records next to a position end, and the run there. Of each run of them only the size is read.
-    /// It stays a call, which keeps the loop over records in [`Index::space`] short.
-    #[inline(never)]
-    pub fn past_records(&self, toward: Direction, at: u64, near: usize) -> (u64, usize)
+    /// Passes the records next to a position, and returns where they end and the filemarks of one run there. Of each run
+    /// of records only the size is read.
+    pub fn marks_ahead(&self, toward: Direction, at: u64, near: usize) -> (u64, Option<Ahead>)
         requires { at ≤ length self.now.sizes }
-        ensures { result.0 ≡ past_records toward at self.now.sizes }
+        ensures past { result.0 ≡ past_records toward at self.now.sizes }
+        ensures ahead { MatchOption result.1 (sizes_ahead toward result.0 self.now.sizes ≡ [])
+            (λ ahead. AreAhead toward result.0 self.now.sizes ahead) }
     {
+        let size = MARK_SIZE;
         match toward {
             Direction::Forward => {
-                if at == self.count() {
-                    return (at, near);
+                let count = self.count();
+                if at == count {
+                    return (at, None);
                 }
                 let run = marks_from(&self.runs, run_of(&self.runs, at, near));
-                let start = run_before(&self.runs, run).count;
-                (start.max(at), run)
+                if run == self.runs.len() {
+                    return (count, None);
+                }
+                let start = run_before(&self.runs, run).count.max(at);
+                let near = run + 1;
+                let many = run_before(&self.runs, near).count - start;
+                (start, Some(Ahead { many, size, near }))
             }
             Direction::Backward => {
                 if at == 0 {
-                    return (at, near);
+                    return (at, None);
                 }
-                let many = marks_before(&self.runs, run_of(&self.runs, at - 1, near) + 1);
-                let end = run_before(&self.runs, many).count;
-                (end.min(at), many.saturating_sub(1))
+                let runs = marks_before(&self.runs, run_of(&self.runs, at - 1, near) + 1);
+                if runs == 0 {
+                    return (0, None);
+                }
+                let start = run_before(&self.runs, runs).count.min(at);
+                let many = start - run_before(&self.runs, runs - 1).count;
+                let near = runs.saturating_sub(2);
+                (start, Some(Ahead { many, size, near }))
             }
         }
     }

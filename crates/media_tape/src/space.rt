@@ -67,23 +67,31 @@ fn at_edge(toward: Direction, left: u32) -> Spaced
 
 impl Index {
     /// Spaces over so many records or filemarks from a position, or to where spacing ends before that, run by run
-    /// (SSC-4 "SPACE (6)"). Over filemarks, all records up to the next one are passed at once.
+    /// (SSC-4 "SPACE (6)").
     pub fn space(&self, toward: Direction, over: Over, from: u64, count: u32) -> Ended
         requires { from ≤ length self.now.sizes }
         ensures { HasEnded toward over count from self.now.sizes result }
+    {
+        match over {
+            Over::Records => self.space_records(toward, from, count),
+            Over::Filemarks => self.space_marks(toward, from, count),
+        }
+    }
+
+    /// Spaces over so many records.
+    fn space_records(&self, toward: Direction, from: u64, count: u32) -> Ended
+        requires { from ≤ length self.now.sizes }
+        ensures { HasEnded toward Over.Records count from self.now.sizes result }
     {
         let mut at = from;
         let mut left = count;
         let mut near = 0;
         while left > 0 {
-            if over == Over::Filemarks {
-                (at, near) = self.past_records(toward, at, near);
-            }
             let Some(ahead) = self.ahead(toward, at, near) else {
                 let told = at_edge(toward, left);
                 return Ended { number: at, told };
             };
-            match within_run(over, left, ahead.size, ahead.many) {
+            match within_run(Over::Records, left, ahead.size, ahead.many) {
                 Within::All(rest) => {
                     at = moved(toward, at, ahead.many);
                     left = rest;
@@ -91,6 +99,39 @@ impl Index {
                 }
                 Within::Part(passed, told) => {
                     let number = moved(toward, at, passed);
+                    return Ended { number, told };
+                }
+            }
+        }
+        let told = Spaced::Whole;
+        Ended { number: at, told }
+    }
+
+    /// Spaces over so many filemarks, and passes all records up to the next one at once.
+    fn space_marks(&self, toward: Direction, from: u64, count: u32) -> Ended
+        requires { from ≤ length self.now.sizes }
+        ensures { HasEnded toward Over.Filemarks count from self.now.sizes result }
+    {
+        let mut at = from;
+        let mut left = count;
+        let mut near = 0;
+        while left > 0 {
+            let (start, marks) = self.marks_ahead(toward, at, near);
+            let Some(ahead) = marks else {
+                let told = at_edge(toward, left);
+                return Ended {
+                    number: start,
+                    told,
+                };
+            };
+            match within_run(Over::Filemarks, left, ahead.size, ahead.many) {
+                Within::All(rest) => {
+                    at = moved(toward, start, ahead.many);
+                    left = rest;
+                    near = ahead.near;
+                }
+                Within::Part(passed, told) => {
+                    let number = moved(toward, start, passed);
                     return Ended { number, told };
                 }
             }
