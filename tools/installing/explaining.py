@@ -15,7 +15,7 @@ from sockets.tape_files import item
 TOLD = [
     ('lun = 1\nkind = "disk"\nserial = "B"\nblocks = 9\n', 0, ["C: targetd takes it"]),
     ('lun = 1\nkind = "disk"\nserial = "B"\nblock = 10\n', 1,
-     ['C:9: fault 3: unit 2 of target 1: "blocks" is missing',
+     ['C:9: fault 3: unit 2 of target 1: "file" or "blocks" is missing',
       'C:13: note: unit 2 of target 1: nothing reads "block": is "blocks" meant?',
       "targetd says: configuration fault 3"]),
     ('lun = 1\nkind = "disk"\nserial = "B"\nblocks = 10\nblock = 10\n', 0,
@@ -42,6 +42,15 @@ TOLD = [
     ('lun = 1\nkind = "tape"\nserial = "B"\ncapacity = 5\nearly = 5\nfile = "/none/t"\n', 1,
      ['C:15: device fault: unit 2 of target 1: the file "/none/t" cannot be opened for reading and writing: '
       "No such file or directory"]),
+    ('lun = "1"\nkind = "disk"\nserial = "B"\nblocks = 10\n[[target]]\nname = "u"\n[[target.unit]]\nlun = "0"\nkind = "disk"\n'
+     'serial = "C"\nblocks = 10\n[[target]]\nname = "iqn.2024-01.com.Example:my disk"\n[[target.unit]]\nlun = 1\n'
+     'kind = "disk"\nserial = "D"\nblocks = 10\n', 1,
+     ['C:10: fault 3: unit 2 of target 1: "lun" is to be an integer, and is a text',
+      'C:17: fault 3: unit 1 of target 2: "lun" is to be an integer, and is a text',
+      'C:21: fault 6: target 3: no unit of it has "lun" 0',
+      'C:22: note: target 3: the name "iqn.2024-01.com.Example:my disk" has capitals and blanks, and initiators may ask for it in '
+      "lower case and without blanks alone",
+      "targetd says: configuration fault 3"]),
     ('lun = 1\nkind = disk\n', 2, ["C:11: fault 2: disk is no value: a text stands between quotes",
                                    "targetd says: configuration fault 2"]),
 ]

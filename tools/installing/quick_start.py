@@ -37,7 +37,7 @@ def own_tree():
 def served_by(lines, room):
     """Runs lines of which the last serves, and gives what they printed before it."""
     with subprocess.Popen(["bash", "-e", "-c", lines], cwd=room, stdin=subprocess.DEVNULL, stdout=subprocess.PIPE, text=True,
-                          start_new_session=True) as process:
+                          start_new_session=True, env={**os.environ, "HOME": str(room.parent)}) as process:
         late = threading.Timer(LIMIT_OF_DEMO, os.killpg, (process.pid, signal.SIGKILL))
         late.start()
         printed = []
@@ -77,11 +77,13 @@ def runs_as_readme_has_it_line_by_line():
     start, *others = blocks()
     name = re.search('name = "(.*)"', start)[1]
     with own_tree() as room:
+        before = set(os.listdir(room))
         with served_by(start, room) as printed:
             assert logs_in_to(name) and not logs_in_to(f"{name}2")
             if shutil.which("qemu-img"):
                 status, _, fault = ran(*others[0].split())
                 assert status == 0 or "Unknown protocol" in fault, fault  # QEMU has its iSCSI in a package of its own
+        assert set(os.listdir(room)) == before, "it leaves files in the tree"
         shows(printed, next(block for block in others if block.startswith("> open 0\n")).splitlines())
 
 

@@ -170,16 +170,28 @@ class Configuration:
         name = self.named(place, "name", MOST_NAME)
         if name is not None:
             self.twice(self.names, name, place, "name", f'the name "{name}" comes twice')
-        units = self.tables(place, "unit", f"unit {{}} of {place.name}", MOST_UNITS)
-        luns = {}
-        for unit in units:
-            self.unit(unit, luns)
-        if "unit" in place.table.held and 0 not in luns:
-            self.tell(place.line, 6, f'{place.name}: no unit of it has "lun" 0')
+            self.spelled(name, place)
+        self.units(place)
         self.unread(place, KEYS["target"])
 
+    def spelled(self, name, place):
+        """The name of a target, for which initiators ask in lower case and without blanks (RFC 7143 §4.2.7.2)."""
+        found = [what for what, is_there in (("capitals", name != name.lower()), ("blanks", any(map(str.isspace, name))))
+                 if is_there]
+        if found:
+            self.tell(place.table.lines["name"], None, f'{place.name}: the name "{name}" has {" and ".join(found)}, and '
+                      "initiators may ask for it in lower case and without blanks alone")
+
+    def units(self, place):
+        """The units of a target. Where the LUN of one cannot be read, it may be 0."""
+        luns, units = {}, self.tables(place, "unit", f"unit {{}} of {place.name}", MOST_UNITS)
+        are_read = [self.unit(unit, luns) for unit in units]
+        value = place.table.held.get("unit")
+        if value is not None and value.kind == "array" and are_read.count(True) == len(value.held) and 0 not in luns:
+            self.tell(place.line, 6, f'{place.name}: no unit of it has "lun" 0')
+
     def unit(self, place, luns):
-        """A unit, beside the LUNs of its target so far."""
+        """A unit, beside the LUNs of its target so far. Whether its own could be read."""
         lun = self.field(place, "lun", "integer")
         if lun is not None and not 0 <= lun <= MOST_LUN:
             self.tell(place.table.lines["lun"], 4, f'{place.name}: "lun" is {lun}, and not from 0 to {MOST_LUN}')
@@ -193,6 +205,7 @@ class Configuration:
             self.tape(place)
         elif kind is not None:
             self.tell(place.table.lines["kind"], 3, f'{place.name}: "kind" is "{kind}", and neither "disk" nor "tape"')
+        return lun is not None
 
     def serial(self, place):
         """The serial of a unit. Hosts take two units of one serial for one."""
@@ -217,8 +230,10 @@ class Configuration:
         if "file" in place.table.held:
             self.file(place, trying.disk_fault)
             keys = [key for key in keys if key != "blocks"]
-        else:
+        elif "blocks" in place.table.held:
             self.number(place, "blocks", 1, MOST_BLOCKS)
+        else:
+            self.tell(place.line, 3, f'{place.name}: "file" or "blocks" is missing')
         self.unread(place, keys)
 
     def tape(self, place):
