@@ -9,6 +9,7 @@ from typing import NamedTuple
 
 from operation import toml_lines
 from operation.connections import LISTENING, sockets_of
+from operation.log_sessions import STANDARD_ERROR
 
 STARTED = 19  # the place of the time of the start among the fields behind the name
 ROUNDED = 0.1  # seconds by which that time may be too early
@@ -34,8 +35,8 @@ class Target(NamedTuple):
 
 class Process(NamedTuple):
     """A process that serves. `started`: seconds since 1970. `memory` and `most_memory`: bytes. `sockets`: what it has
-    open, or nothing where that cannot be seen. `log`: the path of its log, or nothing where it has none in a file. `notes`:
-    what cannot be seen or may be otherwise."""
+    open, or nothing where that cannot be seen. `log`: the path of its log, `-` where it is standard error, or nothing where it
+    has none. `notes`: what cannot be seen or may be otherwise."""
     number: int
     configuration: str
     started: float
@@ -108,6 +109,12 @@ def held(table, key, other=None):
     return other if value is None else value.held
 
 
+def scalar(table, key):
+    """The text or the number of a key, or nothing where its value is another."""
+    value = held(table, key)
+    return value if isinstance(value, (str, int)) else None
+
+
 def unit_of(table, folder, opened):
     """A unit, whose file is looked for from a folder."""
     name, size, is_open = held(table, "file"), None, False
@@ -118,18 +125,18 @@ def unit_of(table, folder, opened):
             size, is_open = size_of(status), identity(status) in opened
         except OSError:
             pass  # it was moved or removed, and may be open all the same
-    return Unit(held(table, "lun"), held(table, "kind"), held(table, "serial"), name, size, is_open)
+    return Unit(*(scalar(table, key) for key in ("lun", "kind", "serial")), name, size, is_open)
 
 
 def log_of(document, folder):
-    """The path of the log in a file, or nothing."""
+    """The path of the log, or what stands for standard error, or nothing."""
     log = held(document, "log")
-    return str(Path(folder, log)) if isinstance(log, str) and log != "-" else None
+    return log if log == STANDARD_ERROR else str(Path(folder, log)) if isinstance(log, str) else None
 
 
 def targets_of(document, folder, opened):
     """The targets of a configuration, with their units."""
-    return [Target(held(target, "name"), [unit_of(unit, folder, opened) for unit in held(target, "unit", [])])
+    return [Target(scalar(target, "name"), [unit_of(unit, folder, opened) for unit in held(target, "unit", [])])
             for target in held(document, "target", [])]
 
 
