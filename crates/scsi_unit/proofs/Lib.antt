@@ -10,3 +10,4 @@ pub mod Found
 pub mod Sound
 pub mod TapeDone
 pub mod Room
+pub mod Rooms

@@ -1,8 +1,10 @@
 -- What commands do to the tape of a unit, by how they came out (SSC-4 "Command descriptions").
-use Rattle.std.specs.Prelude.{ℕ, List, Bool, false, not, if◌then◌else◌}
+use Rattle.std.specs.Prelude.{ℕ, ◌+◌, List, Bool, false, not, if◌then◌else◌}
 use Rattle.scsi_sense.specs.Done.{Outcome, check_condition}
+use Rattle.scsi_sense.specs.Given.{headroom, tailroom}
 use Rattle.scsi_sense.specs.Nexus.{NexusName}
 use Rattle.scsi_sense.specs.declared.condition.Attention.TheVariants.{NotReadyToReadyChange}
+use Rattle.scsi_cdb.specs.FixedBlocks.{bytes_of}
 use Rattle.scsi_cdb.specs.Fault.{invalid_operation_code}
 use Rattle.scsi_cdb.specs.declared.tape.TapeCommand.{TapeCommand}
 use Rattle.scsi_cdb.specs.declared.tape.TapeCommand.TheVariants.{Rewind, ReadBlockLimits, Read, ReadFixed, Write, WriteFixed, WriteFilemarks, Space}
@@ -27,6 +29,12 @@ loads Erase is_loaded = false
 loads (LoadUnload load) is_loaded = if load then not is_loaded else false
 loads (Locate number) is_loaded = false
 loads ReadPosition is_loaded = false
+
+-- own: the room of a buffer for all that READ (6) asks for, in bytes, with what is sent in front of it and behind it
+abbrev pub likely_room : TapeCommand → ℕ
+likely_room (Read asked incorrect) = headroom + asked + tailroom
+likely_room (ReadFixed blocks) = headroom + bytes_of blocks + tailroom
+likely_room other = 0
 
 -- a command with this data to the tape of a unit, by how it came out; where it loads the tape the others are to be told (NOT
 -- READY TO READY CHANGE, MEDIUM MAY HAVE CHANGED)

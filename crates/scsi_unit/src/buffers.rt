@@ -1,7 +1,7 @@
 //! Buffers for the data that commands give, which are used again.
 
-ghost use Rattle.std.specs.Prelude.{◌≡◌, ◌≤◌, ◌+◌, [], true, false, IfOk, IfSome, IfNone};
-ghost use Rattle.scsi_unit.specs.Buffers.{rooms};
+ghost use Rattle.std.specs.Prelude.{◌≡◌, ◌<◌, ◌≤◌, ◌++◌, ◌∷◌, ◌+◌, [], true, false, length, nat_lt, nat_le, ◌==◌, if◌then◌else◌, vec_len, vec_capacity, IfOk, IfSome, IfNone};
+ghost use Rattle.scsi_unit.specs.Buffers.{most_short, rooms, no_places, all_places, kept_with, Takes, TakesAny, TakesLeast, IsLeast, GivesBack};
 
 use bytes::BytesMut;
 use media_block::BLOCK_LENGTH;
@@ -11,51 +11,52 @@ use scsi_sense::{HEADROOM, TAILROOM};
 use std::alloc::{AllocError, Global};
 use std::marker::Model;
 
+/// A buffer with more room than this is long: with more than a connection keeps for its answers. The buffer of a short
+/// READ may become that of the answers, and a long one is then given back to the system, to be made, and filled, anew.
+const SHORT: usize = 65_536;
+
 /// How many short buffers are kept at most.
 const MOST_SHORT: usize = 256;
 
-/// A buffer with more room than this is middle: with more than a READ of 64 KiB takes.
-const SHORT: usize = HEADROOM + 65_536 + TAILROOM;
-
-/// A buffer with more room than this is long: with more than a READ of 512 KiB takes.
-const MIDDLE: usize = HEADROOM + 524_288 + TAILROOM;
-
-/// How many middle buffers are kept at most: as many as there may be room for.
-const MOST_MIDDLE: usize = MOST_ROOM / SHORT;
-
 /// How many long buffers are kept at most: as many as there may be room for.
-const MOST_LONG: usize = MOST_ROOM / MIDDLE;
+const MOST_LONG: usize = MOST_ROOM / SHORT;
 
 /// How many bytes of room they have together at most: that of four of the longest READs.
 const MOST_ROOM: usize = 4 * (HEADROOM + BLOCK_LENGTH * MOST_BLOCKS as usize + TAILROOM);
 
 /// Buffers in which commands gave their data, whose bytes are used no more, each with its room in bytes. Their bytes
-/// never leave the target. They stand apart by their room, so that a short READ takes the buffer of a long one, which
-/// then has to be made, and filled, anew, only where no short one is kept.
+/// never leave the target. Of the long ones a READ takes the smallest that has its room, so that none is made anew
+/// where one would do, and a larger one is left for a longer READ. Clauses see the room of each.
 #[derive(Drop)]
 pub(crate) struct Buffers {
     short: Vec<(BytesMut, usize)>,
-    middle: Vec<(BytesMut, usize)>,
     long: Vec<(BytesMut, usize)>,
     /// Of all, in bytes.
     room: usize,
 }
 
 impl Model for Buffers {
-    ghost use Rattle.std.specs.Prelude.{◌+◌, ℕ};
-    ghost use Rattle.scsi_unit.specs.Buffers.{IsWithin, rooms};
+    ghost use Rattle.std.specs.Prelude.{vec_capacity};
+    ghost use Rattle.scsi_unit.specs.Buffers.{Kept, IsWithin, rooms};
 
-    ghost Value = { ℕ };
+    ghost Value = { Kept };
 
-    ghost view = { λ buffers. buffers.room };
+    ghost view = { λ buffers. record {
+      short = rooms buffers.short.items;
+      long = rooms buffers.long.items;
+      short_places = vec_capacity buffers.short;
+      long_places = vec_capacity buffers.long;
+    } };
 
-    ghost invariant = { λ buffers. IsWithin buffers.room (rooms buffers.short.items + rooms buffers.middle.items + rooms buffers.long.items) };
+    ghost invariant = { λ buffers. IsWithin buffers.room (rooms buffers.short.items) (rooms buffers.long.items) };
 }
 
-/// A buffer is kept, where there is a place for it: whether it was.
+/// Keeps a buffer, where there is a place for it: whether there was.
 fn put(kept: &mut Vec<(BytesMut, usize)>, buffer: BytesMut, room: usize) -> bool
-    ensures put { result ≡ true → rooms kept.new.items ≡ rooms kept.old.items + room }
+    ensures place { result ≡ nat_lt (vec_len kept.old) (vec_capacity kept.old) }
+    ensures put { result ≡ true → rooms kept.new.items ≡ rooms kept.old.items ++ room ∷ [] }
     ensures full { result ≡ false → rooms kept.new.items ≡ rooms kept.old.items }
+    ensures places { vec_capacity kept.new ≡ vec_capacity kept.old }
 {
     if kept.len() == kept.capacity() {
         return false;
@@ -64,60 +65,85 @@ fn put(kept: &mut Vec<(BytesMut, usize)>, buffer: BytesMut, room: usize) -> bool
     true
 }
 
-/// The buffer that was kept last among the first of these that has any.
-fn take_first(
-    first: &mut Vec<(BytesMut, usize)>,
-    second: &mut Vec<(BytesMut, usize)>,
-    third: &mut Vec<(BytesMut, usize)>,
-) -> Option<(BytesMut, usize)>
-    ensures taken { IfSome result (λ taken. rooms first.new.items + rooms second.new.items + rooms third.new.items + taken.1
-        ≡ rooms first.old.items + rooms second.old.items + rooms third.old.items) }
-    ensures none { IfNone result (rooms first.new.items + rooms second.new.items + rooms third.new.items
-        ≡ rooms first.old.items + rooms second.old.items + rooms third.old.items) }
+/// Tells whether a buffer that has so much room suits better than one that was found: it has what is wanted, and no
+/// more than the other, or the other has too little.
+fn suits_better(has: usize, found: usize, wanted: usize) -> bool
+    ensures enough { result ≡ true → wanted ≤ has }
+    ensures smaller { result ≡ true → wanted ≤ found → has ≤ found }
+    ensures no { result ≡ false → wanted ≤ has → (wanted ≤ found) × (found < has) }
 {
-    if let Some(taken) = first.pop() {
-        return Some(taken);
+    has >= wanted && (has <= found || found < wanted)
+}
+
+/// Finds the smallest of these buffers that has this room, the last of several. Where none has it, finds the last of
+/// all.
+fn least(kept: &[(BytesMut, usize)], room: usize) -> usize
+    requires { 0 < length kept.now }
+    ensures within { result < length kept.now }
+    ensures least { IsLeast room (rooms kept.now) result }
+{
+    let mut found = kept.len() - 1;
+    for at in 0..kept.len() {
+        if suits_better(kept[at].1, kept[found].1, room) {
+            found = at;
+        }
     }
-    if let Some(taken) = second.pop() {
-        return Some(taken);
+    found
+}
+
+/// Takes the smallest of these buffers that has this room. Where none has it, takes the last, which will grow.
+fn take_least(kept: &mut Vec<(BytesMut, usize)>, room: usize) -> Option<(BytesMut, usize)>
+    ensures taken { IfSome result (λ taken. TakesLeast room (rooms kept.old.items) taken.1 (rooms kept.new.items)) }
+    ensures none { IfNone result ((rooms kept.old.items ≡ []) × (rooms kept.new.items ≡ [])) }
+    ensures places { vec_capacity kept.new ≡ vec_capacity kept.old }
+{
+    if kept.is_empty() {
+        return None;
     }
-    third.pop()
+    let at = least(kept.as_slice(), room);
+    Some(kept.remove(at))
+}
+
+/// Tells whether a short buffer is taken for this room, of so many short and long ones: where the room is short and
+/// there is one, or where there is no long one.
+fn is_from_short(room: usize, short: usize, long: usize) -> bool
+    ensures { result ≡ (if nat_le room most_short then nat_lt 0 short else long == 0) }
+{
+    if room <= SHORT { short > 0 } else { long == 0 }
 }
 
 impl Buffers {
-    ghost use Rattle.scsi_unit.specs.Buffers.{most_room};
-
     /// None, and no place for any. It takes no memory.
-    pub fn new(alloc: Global) -> Buffers {
+    pub fn new(alloc: Global) -> Buffers
+        ensures { result ≡ no_places }
+    {
         Buffers {
             short: Vec::new(alloc),
-            middle: Vec::new(alloc),
             long: Vec::new(alloc),
             room: 0,
         }
     }
 
     /// None, with their places, so that keeping one takes no memory.
-    pub fn with_places(alloc: Global) -> Result<Buffers, AllocError> {
+    pub fn with_places(alloc: Global) -> Result<Buffers, AllocError>
+        ensures { IfOk result (λ made. made ≡ all_places) }
+    {
         Ok(Buffers {
             short: Vec::with_capacity(alloc, MOST_SHORT)?,
-            middle: Vec::with_capacity(alloc, MOST_MIDDLE)?,
             long: Vec::with_capacity(alloc, MOST_LONG)?,
             room: 0,
         })
     }
 
-    /// A buffer with this room is kept, where there are a place and room for it.
+    /// Keeps a buffer with this room among those of its kind, where there are a place and room for it.
     fn keep(&mut self, buffer: BytesMut, room: usize)
-        ensures { self.new ≤ most_room }
+        ensures { self.new ≡ kept_with room self.old }
     {
         if room > MOST_ROOM - self.room {
             return;
         }
         let is_kept = if room <= SHORT {
             put(&mut self.short, buffer, room)
-        } else if room <= MIDDLE {
-            put(&mut self.middle, buffer, room)
         } else {
             put(&mut self.long, buffer, room)
         };
@@ -126,26 +152,27 @@ impl Buffers {
         }
     }
 
-    /// The last that was kept of those that have about this room. Where there is none it is one that has more, or else
-    /// one that has less, which will grow.
+    /// Takes a buffer for this room: of the short ones the one that was kept last, of the long ones the smallest that
+    /// has the room.
     fn take(&mut self, room: usize) -> Option<BytesMut>
-        ensures { self.new ≤ self.old }
+        ensures taken { IfSome result (λ _. Takes room self.old self.new) }
+        ensures none { IfNone result ((self.old.short ≡ []) × (self.old.long ≡ []) × (self.new ≡ self.old)) }
     {
-        let (buffer, had) = if room <= SHORT {
-            take_first(&mut self.short, &mut self.middle, &mut self.long)?
-        } else if room <= MIDDLE {
-            take_first(&mut self.middle, &mut self.long, &mut self.short)?
+        let (buffer, had) = if is_from_short(room, self.short.len(), self.long.len()) {
+            self.short.pop()?
         } else {
-            take_first(&mut self.long, &mut self.middle, &mut self.short)?
+            take_least(&mut self.long, room)?
         };
         self.room -= had;
         Some(buffer)
     }
 }
 
-/// An empty buffer, of those that are kept one that has about this room, or a new one with none. It takes no memory.
+/// Takes an empty buffer, of those that are kept the one that is taken for this room, or a new one with none. It takes
+/// no memory.
 pub(crate) fn take_like(alloc: Global, used: &mut Buffers, room: usize) -> BytesMut
-    ensures { result.items ≡ [] }
+    ensures items { result.items ≡ [] }
+    ensures taken { TakesAny room used.old used.new }
 {
     let mut buffer = match used.take(room) {
         Some(buffer) => buffer,
@@ -155,19 +182,23 @@ pub(crate) fn take_like(alloc: Global, used: &mut Buffers, room: usize) -> Bytes
     buffer
 }
 
-/// An empty buffer with this much room: one that was used before, or a new one.
+/// Takes an empty buffer with this much room: one that was used before, or a new one. Which one it is does not depend
+/// on whether there is memory.
 pub(crate) fn take(alloc: Global, used: &mut Buffers, room: usize) -> Result<BytesMut, Memory>
     ensures items { IfOk result (λ buffer. buffer.items ≡ []) }
     ensures spare { IfOk result (λ buffer. room ≤ buffer.spare) }
+    ensures taken { TakesAny room used.old used.new }
 {
     let mut buffer = take_like(alloc, used, room);
     buffer.reserve(room)?;
     Ok(buffer)
 }
 
-/// A buffer whose bytes are used no more is kept, where it holds a block at least: a smaller one saves no READ an
+/// Keeps a buffer whose bytes are used no more, where it holds a block at least: a smaller one saves no READ an
 /// allocation.
-pub(crate) fn give_back(used: &mut Buffers, mut buffer: BytesMut) {
+pub(crate) fn give_back(used: &mut Buffers, mut buffer: BytesMut)
+    ensures { GivesBack (length buffer.items + buffer.spare) used.old used.new }
+{
     buffer.clear();
     let room = buffer.capacity();
     if room >= BLOCK_LENGTH {

@@ -8,7 +8,7 @@ ghost use Rattle.scsi_sense.specs.declared.condition.Attention.TheVariants.{NotR
 ghost use Rattle.scsi_unit.specs.DiskCommands.{most_given};
 ghost use Rattle.scsi_unit.specs.CameOut.{tape_came};
 ghost use Rattle.scsi_unit.specs.Joined.{raised_for_others};
-ghost use Rattle.scsi_unit.specs.TapeCommands.{loads as loads_tape, tape_performed};
+ghost use Rattle.scsi_unit.specs.TapeCommands.{loads as loads_tape, likely_room, tape_performed};
 ghost use Rattle.scsi_unit.specs.Unit.{touch_by, IsPerformed};
 
 use crate::buffers::{Buffers, give_back, take_like};
@@ -23,9 +23,11 @@ use scsi_sense::{Attention, Done, HEADROOM, Nexus, TAILROOM};
 use scsi_tape::TapeUnit;
 use std::alloc::Global;
 
-/// About how much room the data that a command gives takes, with that in front of it and behind it. How much it gives is
-/// known once it was read.
-fn likely_room(command: &TapeCommand) -> usize {
+/// Tells how much room the data takes that a command asks for, with that in front of it and behind it. How much it gives
+/// is known once it was read.
+fn likely_room(command: &TapeCommand) -> usize
+    ensures { result ≡ likely_room command.now }
+{
     let data = match command {
         TapeCommand::Read { length, .. } => *length as usize,
         TapeCommand::ReadFixed(blocks) => blocks.count() as usize * blocks.block_length() as usize,
