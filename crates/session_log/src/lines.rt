@@ -214,6 +214,13 @@ pub(crate) fn left_out(alloc: Global, count: u64) -> Result<String, AllocError> 
     Ok(line)
 }
 
+/// Lines could not be written before this one, as on a full disk.
+pub(crate) fn lost(alloc: Global, count: u64) -> Result<String, AllocError> {
+    let mut line = String::new(alloc);
+    write!(line, "{count} lines could not be written")?;
+    Ok(line)
+}
+
 /// The program listens.
 pub(crate) fn listening(alloc: Global, address: SocketAddr) -> Result<String, AllocError> {
     let mut line = String::new(alloc);

@@ -17,12 +17,18 @@ use std::time::Duration;
 /// The text that stands for standard error.
 const STANDARD_ERROR: &str = "-";
 
+/// Which file a file is: that of a device with a number there.
+#[derive(Clone, Copy, PartialEq, Eq)]
+struct Identity {
+    device: u64,
+    inode: u64,
+}
+
 /// An open file, and which it is.
 #[derive(Drop)]
 struct Opened {
     file: File,
-    device: u64,
-    inode: u64,
+    identity: Identity,
 }
 
 /// A file of lines. A write to it never waits for a reader.
@@ -35,7 +41,9 @@ pub struct LogFile<'r, R: Files<File = File> + Clock> {
     /// Asks whether a descriptor takes a line.
     poll: Poll,
     events: Events,
-    /// Only a front of the last line was taken.
+    /// Which file was open last. `None`: none yet, or standard error.
+    last: Option<Identity>,
+    /// Of the last line in it only a front was taken.
     is_torn: bool,
 }
 
@@ -51,11 +59,11 @@ fn open_file(rt: &impl Files<File = File>, path: &str) -> io::Result<Opened> {
         return Err(ErrorKind::WouldBlock.into());
     }
     let metadata = file.metadata()?;
-    Ok(Opened {
+    let identity = Identity {
         device: metadata.dev(),
         inode: metadata.ino(),
-        file,
-    })
+    };
+    Ok(Opened { file, identity })
 }
 
 impl<'r, R: Files<File = File> + Clock> LogFile<'r, R> {
@@ -71,12 +79,17 @@ impl<'r, R: Files<File = File> + Clock> LogFile<'r, R> {
         } else {
             Some(open_file(rt, path.as_str())?)
         };
+        let last = match &opened {
+            Some(opened) => Some(opened.identity),
+            None => None,
+        };
         Ok(LogFile {
             rt,
             path,
             opened,
             poll: Poll::new(net)?,
             events: Events::with_capacity(alloc, 1)?,
+            last,
             is_torn: false,
         })
     }
@@ -89,21 +102,26 @@ impl<'r, R: Files<File = File> + Clock> LogFile<'r, R> {
         }
     }
 
-    /// Writes a line, if it is taken at once.
-    pub(crate) fn put(&mut self, line: &str) {
+    /// Writes a line, if it is taken at once, and ends the one before of which only a front was taken. Returns whether
+    /// the line was taken whole.
+    pub(crate) fn put(&mut self, line: &str) -> bool {
         let Some(descriptor) = self.descriptor() else {
-            return;
+            return false;
         };
         if !self.takes(descriptor) {
-            return;
+            return false;
         }
-        if self.is_torn {
-            self.is_torn = write(descriptor, b"\n") != 1;
+        if self.is_torn && write(descriptor, b"\n") != 1 {
+            self.opened = None;
+            return false;
         }
-        match usize::try_from(write(descriptor, line.as_bytes())) {
-            Ok(count) => self.is_torn |= 0 < count && count < line.len(),
-            Err(_) => self.opened = None,
-        }
+        self.is_torn = false;
+        let Ok(count) = usize::try_from(write(descriptor, line.as_bytes())) else {
+            self.opened = None;
+            return false;
+        };
+        self.is_torn = 0 < count && count < line.len();
+        count == line.len()
     }
 
     /// The descriptor to write to. A file that the path no longer names is closed, and the path opened again.
@@ -113,7 +131,9 @@ impl<'r, R: Files<File = File> + Clock> LogFile<'r, R> {
         }
         if !self.is_named() {
             self.opened = open_file(self.rt, self.path.as_str()).ok();
-            self.is_torn = false;
+            let identity = Some(self.opened.as_ref()?.identity);
+            self.is_torn = self.is_torn && self.last == identity;
+            self.last = identity;
         }
         let opened = self.opened.as_ref()?;
         Some(opened.file.as_raw_fd())
@@ -123,7 +143,7 @@ impl<'r, R: Files<File = File> + Clock> LogFile<'r, R> {
     fn is_named(&self) -> bool {
         match (&self.opened, fs::metadata(self.rt, self.path.as_str())) {
             (Some(opened), Ok(named)) => {
-                opened.device == named.dev() && opened.inode == named.ino()
+                opened.identity.device == named.dev() && opened.identity.inode == named.ino()
             }
             _ => false,
         }

@@ -49,6 +49,8 @@ pub struct SessionLog<'r, R: Files<File = File> + Clock> {
     failed: Vec<FailedUnit>,
     strangers: Limit,
     hosts: Limit,
+    /// The number of lines that could not be written since one was.
+    lost: u64,
 }
 
 /// A time in UTC, as RFC 3339 has it.
@@ -98,6 +100,7 @@ impl<'r, R: Files<File = File> + Clock> SessionLog<'r, R> {
             failed: Vec::new(alloc),
             strangers: Limit::new(MOST_OF_STRANGERS),
             hosts: Limit::new(MOST_OF_HOSTS),
+            lost: 0,
         };
         log.say_always(lines::listening(alloc, address));
         Ok(log)
@@ -131,13 +134,29 @@ impl<'r, R: Files<File = File> + Clock> SessionLog<'r, R> {
         }
     }
 
-    /// Writes a line with this time.
+    /// Writes a line with this time, after one that says how many could not be written before it, if any.
     fn put(&mut self, second: u64, text: &str) {
+        if self.lost > 0 {
+            let Ok(lost) = lines::lost(self.alloc, self.lost) else {
+                return;
+            };
+            if self.is_written(second, lost.as_str()) {
+                self.lost = 0;
+            }
+        }
+        if !self.is_written(second, text) {
+            self.lost = self.lost.saturating_add(1);
+        }
+    }
+
+    /// Writes a line with this time. Returns whether it was taken.
+    fn is_written(&mut self, second: u64, text: &str) -> bool {
         let Some(time) = utc(self.alloc, second) else {
-            return;
+            return false;
         };
-        if let Ok(line) = lines::timed(self.alloc, time.as_str(), text) {
-            self.file.put(line.as_str());
+        match lines::timed(self.alloc, time.as_str(), text) {
+            Ok(line) => self.file.put(line.as_str()),
+            Err(_) => false,
         }
     }
 
