@@ -8,6 +8,7 @@ use Rattle.std.proofs.KnownBytes.{Keeps-refl}
 use Rattle.std.proofs.lemmas.List.Elements.{All-cons}
 use Rattle.std.proofs.lemmas.Bool.{and_parts, le-leb}
 use Rattle.call_record.specs.Noted.{Noted}
+use Rattle.standard_streams.specs.Streams.{AreTaken, AreLacking}
 use Rattle.command_line.specs.Words.{Command, Replay, Serve}
 use Rattle.command_line.specs.declared.fault.WordsFault.{WordsFault}
 use Rattle.command_line.specs.declared.fault.WordsFault.TheVariants as words
@@ -23,7 +24,7 @@ use Rattle.iscsi_ports.specs.Log.{Entry, written}
 use Rattle.iscsi_serve.specs.Served.{MayHappen, MayComeOut, StaysServed, ComesOutServed}
 use Rattle.iscsi_serve.specs.declared.fault.ServeFault.{ServeFault}
 use Rattle.iscsi_serve.proofs.Keeping.{stays_same, been_served}
-use Rattle.target_config.specs.Configuration.{Document, MediumEntry, MemoryDisk, FileDisk, MemoryTape, FileTape, UnitEntry, TargetEntry, names_of, is_in_memory}
+use Rattle.target_config.specs.Configuration.{Document, MediumEntry, MemoryDisk, FileDisk, MemoryTape, FileTape, UnitEntry, TargetEntry, is_in_memory}
 use Rattle.target_config.specs.declared.fault.ConfigFault.{ConfigFault}
 use Rattle.target_config.specs.declared.fault.ConfigFault.TheVariants as why
 use Rattle.target_replay.specs.Printed.{all_sent, HasSentAll}
@@ -32,8 +33,8 @@ use Rattle.target_replay.specs.declared.fault.ReplayFault.{ReplayFault}
 use Rattle.target_replay.specs.declared.fault.ReplayFault.TheVariants as replays
 use Rattle.targetd.specs.declared.fault.Fault.{Fault}
 use Rattle.targetd.specs.declared.fault.Fault.TheVariants as faults
-use Rattle.targetd.specs.Fault.{words_fault, config_fault, replay_fault}
-use Rattle.target_config.specs.Loading.{Loads}
+use Rattle.targetd.specs.Fault.{config_fault, replay_fault}
+use Rattle.target_config.specs.Loading.{Loads, told_of}
 use Rattle.target_units.specs.Opened.{Held, IsMediumOf, IsUnitOf, AreEach, AreUnitsOf}
 use Rattle.targetd.specs.Help.{RefusesWords}
 use Rattle.targetd.specs.Serve.{listening_line, HasServed, Serves}
@@ -245,15 +246,29 @@ pub run_refused : (held : Held) (left : LeftState) (r w w_then : Option (List �
     → command ≡ None → RefusesWords w w_then help fault → Runs held left r r w w_then told help command (Err fault)
 run_refused held left r w w_then told help command fault none refused = rw none (Keeps-refl r, inl refused)
 
+-- nothing can stand in for a standard stream
+pub run_lacks_streams : (held : Held) (left : LeftState) (r w : Option (List ℕ)) (told : List Noted) (help : Bool) (command : Command)
+    (result : Result (Unit {0}) Fault) (fault : Fault)
+    → IsErrAnd result (λ seen. seen ≡ fault) → fault ≡ faults.Streams → AreLacking left.streams
+    → Runs held left r r w w told help (Some command) result
+run_lacks_streams held left r w told help command (Ok end) fault is e lacking = absurd is
+run_lacks_streams held left r w told help (Replay path) (Err seen) fault is e lacking =
+    inr (inl (ap (λ (f : Fault). Err f) (is ∙ e), lacking, (Keeps-refl r, Keeps-refl w)))
+run_lacks_streams held left r w told help (Serve path turns) (Err seen) fault is e lacking =
+    inr (inl (ap (λ (f : Fault). Err f) (is ∙ e), lacking, (Keeps-refl r, Keeps-refl w)))
+
 -- the configuration's file could not be read
-pub serve_unread : (held : Held) (left : LeftState) (r w : Option (List ℕ)) (told : List Noted) (help : Bool) (path : List ℕ) (turns : ℕ)
+pub serve_unread : (held : Held) (left : LeftState) (r w : Option (List ℕ)) (told earlier : List Noted) (help : Bool) (path : List ℕ) (turns : ℕ)
     (result : Result (Unit {0}) Fault) (fault : ConfigFault)
-    → IsErrAnd result (λ seen. seen ≡ config_fault fault) → Loads path told left.told (Err fault) → Runs held left r r w w told help (Some (Serve path turns)) result
-serve_unread held left r w told help path turns (Ok end) fault is loads = absurd is
-serve_unread held left r w told help path turns (Err seen) why.OutOfMemory is loads = inl (ap (λ (f : Fault). Err f) is, (Keeps-refl r, Keeps-refl w))
-serve_unread held left r w told help path turns (Err seen) why.Unreadable is loads = inr (Keeps-refl r, (None, loads, inl (Keeps-refl w, inr (inr is))))
-serve_unread held left r w told help path turns (Err seen) why.NotToml is loads = absurd loads
-serve_unread held left r w told help path turns (Err seen) why.Field is loads = absurd loads
-serve_unread held left r w told help path turns (Err seen) why.Limit is loads = absurd loads
-serve_unread held left r w told help path turns (Err seen) why.Twice is loads = absurd loads
-serve_unread held left r w told help path turns (Err seen) why.NoLunZero is loads = absurd loads
+    → IsErrAnd result (λ seen. seen ≡ config_fault fault) → earlier ≡ told → Loads path earlier left.told (Err fault) → AreTaken left.streams
+    → Runs held left r r w w told help (Some (Serve path turns)) result
+serve_unread held left r w told earlier help path turns (Ok end) fault is same loads taken = absurd is
+serve_unread held left r w told earlier help path turns (Err seen) why.OutOfMemory is same loads taken =
+    inl (ap (λ (f : Fault). Err f) is, (Keeps-refl r, Keeps-refl w))
+serve_unread held left r w told earlier help path turns (Err seen) why.Unreadable is same loads taken =
+    inr (inr (taken, (Keeps-refl r, (None, loads ∙ ap (λ (notes : List Noted). told_of path None notes) same, inl (Keeps-refl w, inr (inr is))))))
+serve_unread held left r w told earlier help path turns (Err seen) why.NotToml is same loads taken = absurd loads
+serve_unread held left r w told earlier help path turns (Err seen) why.Field is same loads taken = absurd loads
+serve_unread held left r w told earlier help path turns (Err seen) why.Limit is same loads taken = absurd loads
+serve_unread held left r w told earlier help path turns (Err seen) why.Twice is same loads taken = absurd loads
+serve_unread held left r w told earlier help path turns (Err seen) why.NoLunZero is same loads taken = absurd loads

@@ -1,6 +1,6 @@
 -- What a target is made with, by what was opened.
 use Rattle.std.proofs.Common.{◌≡◌, suc, List, [], ◌∷◌, length, map, refl, sym, ap, ◌∙◌}
-use Rattle.std.specs.Prelude.{ℕ, String, string_bytes, Result, Ok, Err, IsErrAnd}
+use Rattle.std.specs.Prelude.{String, string_bytes}
 use Rattle.std.specs.declared.alloc.Global.{Global}
 use Rattle.std.proofs.lemmas.List.{length-map}
 use Rattle.scsi_unit.specs.Units.{UnitStates}

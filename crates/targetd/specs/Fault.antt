@@ -23,6 +23,7 @@ status_of (Err (faults.Device target lun)) = 3
 status_of (Err faults.Socket) = 3
 status_of (Err faults.Input) = 3
 status_of (Err faults.Output) = 3
+status_of (Err faults.Streams) = 3
 status_of (Err faults.OutOfMemory) = 3
 
 -- why the words are no command

@@ -12,4 +12,4 @@ module _ {S : Type 0} (log : SocketPorts MioSockets → List Entry) where
   served_view served = record { log = log served.ports; target = served.target }
 
   abbrev pub left_view : Left S → LeftState
-  left_view left = record { told = left.told.calls; replayed = left.replayed; served = option_map served_view left.served }
+  left_view left = record { streams = left.streams; told = left.told.calls; replayed = left.replayed; served = option_map served_view left.served }

@@ -4,6 +4,7 @@ use Rattle.std.specs.Io.KnownBytes.{Keeps}
 use Rattle.std.specs.Net.Socket.{socket_ip, socket_port}
 use Rattle.std.specs.declared.net.socket_addr.SocketAddr.{SocketAddr}
 use Rattle.call_record.specs.Noted.{Noted}
+use Rattle.standard_streams.specs.Streams.{StreamsState, AreTaken, AreLacking}
 use Rattle.command_line.specs.Words.{Command, Replay, Serve}
 use Rattle.scsi_unit.specs.Units.{UnitStates}
 use Rattle.iscsi_login.specs.Directory.{KnownTargets}
@@ -20,7 +21,7 @@ use Rattle.target_config.specs.declared.fault.ConfigFault.TheVariants.{Unreadabl
 use Rattle.target_replay.specs.Replay.{Ends, EndsBy, EndsAsCame, EndsAsCameBy}
 use Rattle.target_replay.specs.declared.fault.ReplayFault.{ReplayFault}
 use Rattle.targetd.specs.declared.fault.Fault.{Fault}
-use Rattle.targetd.specs.declared.fault.Fault.TheVariants.{Socket, OutOfMemory}
+use Rattle.targetd.specs.declared.fault.Fault.TheVariants.{Socket, Streams, OutOfMemory}
 use Rattle.targetd.specs.Fault.{config_fault, replay_fault}
 use Rattle.target_config.specs.Loading.{told_of}
 use Rattle.target_units.specs.Opened.{Held, AreUnitsOf}
@@ -50,8 +51,9 @@ pub record ServedState : Type 0 where
   pub log : List Entry
   pub target : Machine
 
--- what a run left: what was told of the configuration's file, the target of a replay, what serving left
+-- what a run left: what stands in for standard streams, what was told of the configuration's file, the target of a replay, what serving left
 pub record LeftState : Type 0 where
+  pub streams : StreamsState
   pub told : List Noted
   pub replayed : Option Machine
   pub served : Option ServedState
@@ -135,12 +137,21 @@ module _ (held : Held) (left : LeftState) (unread unread_then printed printed_th
   Refuses help result = Keeps unread unread_then
       × IsErrAnd result (λ fault. RefusesWords printed printed_then help fault ⊎ ((fault ≡ OutOfMemory) × Keeps printed printed_then))
 
-  -- How a run by these words ends. What the file of the configuration holds is what was told of it, by its path.
+  -- nothing can stand in for a standard stream that was closed, and nothing was read or printed
+  abbrev pub LacksStreams : Result (Unit {0}) Fault → Type 0
+  LacksStreams result = (result ≡ Err Streams) × AreLacking left.streams × IsUntouched
+
+  -- a replay of the file at a path, which is what was told of it
+  abbrev pub ReplaysFile : List Noted → List ℕ → Result (Unit {0}) Fault → Type 0
+  ReplaysFile told path result = (file : Option (List ℕ)) × (left.told ≡ told_of path file told) × Replays (configured_by file) result
+
+  -- serving at the file at a path, which is what was told of it
+  abbrev pub ServesFile : List Noted → List ℕ → ℕ → Result (Unit {0}) Fault → Type 0
+  ServesFile told path turns result = Keeps unread unread_then × ((file : Option (List ℕ)) × (left.told ≡ told_of path file told)
+      × ServesAt held left printed printed_then turns (configured_by file) result)
+
+  -- How a run by these words ends. Before it opens a file the descriptors of the standard streams are taken.
   abbrev pub Runs : List Noted → Bool → Option Command → Result (Unit {0}) Fault → Type 0
   Runs told help None result = Refuses help result
-  Runs told help (Some (Replay path)) result = IsStarved result ⊎ ((file : Option (List ℕ)) × (left.told ≡ told_of path file told)
-      × Replays (configured_by file) result)
-  Runs told help (Some (Serve path turns)) result =
-      IsStarved result
-      ⊎ (Keeps unread unread_then × ((file : Option (List ℕ)) × (left.told ≡ told_of path file told)
-      × ServesAt held left printed printed_then turns (configured_by file) result))
+  Runs told help (Some (Replay path)) result = IsStarved result ⊎ (LacksStreams result ⊎ (AreTaken left.streams × ReplaysFile told path result))
+  Runs told help (Some (Serve path turns)) result = IsStarved result ⊎ (LacksStreams result ⊎ (AreTaken left.streams × ServesFile told path turns result))

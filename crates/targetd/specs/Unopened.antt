@@ -15,3 +15,4 @@ IsUnopened targets (faults.Refused line) = ⊥
 IsUnopened targets faults.Socket = ⊥
 IsUnopened targets faults.Input = ⊥
 IsUnopened targets faults.Output = ⊥
+IsUnopened targets faults.Streams = ⊥

@@ -38,6 +38,9 @@ pub enum Fault {
     /// Standard output failed.
     #[error("targetd: stream fault")]
     Output,
+    /// A standard stream was closed, and nothing can stand in for it.
+    #[error("targetd: stream fault")]
+    Streams,
     /// An allocation failed.
     #[error("targetd: out of memory")]
     OutOfMemory,
@@ -52,7 +55,7 @@ pub fn status_of(ended: &Result<(), Fault>) -> u8
         Err(Fault::Configuration { .. }) => 1,
         Err(Fault::Usage | Fault::Refused { .. }) => 2,
         Err(Fault::Device { .. } | Fault::Socket) => 3,
-        Err(Fault::Input | Fault::Output | Fault::OutOfMemory) => 3,
+        Err(Fault::Input | Fault::Output | Fault::Streams | Fault::OutOfMemory) => 3,
     }
 }
 

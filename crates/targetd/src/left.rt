@@ -6,6 +6,7 @@ use call_record::Record;
 use iscsi_ports::MioPorts;
 use iscsi_target::Target;
 use media_store::Start;
+use standard_streams::Streams;
 use target_units::SystemStore;
 
 /// Ports that were served, and the target that they were served by.
@@ -18,6 +19,8 @@ pub struct Served<S: Start> {
 /// What a run leaves behind, so that it can be said of it what was told, and whether the target is sound.
 #[derive(Drop)]
 pub struct Left<S: Start> {
+    /// What stands in for standard streams that were closed. It is held until the program ends.
+    pub streams: Streams,
     /// What the system told of the configuration's file.
     pub told: Record,
     /// The target of a replay.
@@ -33,6 +36,7 @@ impl<S: Start> Left<S> {
         ensures served { result.served ≡ None }
     {
         Left {
+            streams: Streams::none(),
             told: Record::new(),
             replayed: None,
             served: None,

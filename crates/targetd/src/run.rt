@@ -1,6 +1,7 @@
 //! A whole run: its words, its configuration, its target, its lines or its turns.
 
-ghost use Rattle.std.specs.Prelude.{◌≡◌, map, string_bytes};
+ghost use Rattle.std.specs.Prelude.{◌≡◌, OnOk, OnErr, IsOkUnless, map, string_bytes};
+ghost use Rattle.standard_streams.specs.Streams.{AreTaken, AreLacking};
 ghost use Rattle.command_line.specs.Help.{calls_for_help};
 ghost use Rattle.command_line.specs.Words.{mode_in};
 ghost use Rattle.target_config.specs.Config.{file_config_of};
@@ -16,12 +17,28 @@ use command_line::{Mode, WordsFault, as_texts, mode_of};
 use iscsi_ports::{MioPorts, Ports};
 use iscsi_target::Target;
 use media_store::Start;
+use standard_streams::Streams;
 use std::fs::File;
 use std::io::{Read, Write};
 use std::net::Net;
 use std::rt::{Clock, Files};
 use target_config::{file_config, load};
 use target_replay::{Engine, replay};
+
+/// Takes the descriptors of the standard streams, so that no file that is opened gets one of them.
+fn take_streams<S: Start>(rt: &impl Files<File = File>, left: &mut Left<S>) -> Result<(), Fault>
+    ensures told { left.new.told.calls ≡ left.old.told.calls }
+    ensures taken { OnOk result (AreTaken left.new.streams) }
+    ensures lacking { OnErr result (AreLacking left.new.streams) }
+    ensures fault { IsOkUnless result Fault.Streams }
+{
+    let (streams, taken) = Streams::take(rt);
+    left.streams = streams;
+    match taken {
+        Ok(()) => Ok(()),
+        Err(_) => Err(Fault::Streams),
+    }
+}
 
 /// Replays the input at the target of the configuration whose file has these contents.
 fn replay_at<S: Start, R: Read, W: Write>(
@@ -32,6 +49,7 @@ fn replay_at<S: Start, R: Read, W: Write>(
     writer: &mut W,
 ) -> Result<(), Fault>
     ensures told { left.new.told.calls ≡ left.old.told.calls }
+    ensures streams { left.new.streams ≡ left.old.streams }
     ensures ends { Replays S.held (left_view ⟦<MioPorts as Ports>⟧.log left.new) (R.remaining reader.old) (R.remaining reader.new)
         (W.contents writer.old) (W.contents writer.new) (file_config_of contents.now) result }
 {
@@ -55,6 +73,7 @@ fn serve_at<S: Start, W: Write>(
     writer: &mut W,
 ) -> Result<(), Fault>
     ensures told { left.new.told.calls ≡ left.old.told.calls }
+    ensures streams { left.new.streams ≡ left.old.streams }
     ensures ends { ServesAt S.held (left_view ⟦<MioPorts as Ports>⟧.log left.new) (W.contents writer.old) (W.contents writer.new) count
         (file_config_of contents.now) result }
 {
@@ -92,6 +111,7 @@ pub fn run<S: Start, R: Read, W: Write>(
         Err(WordsFault::Usage) => return Err(refuse_words(texts, writer)),
         Err(WordsFault::Memory) => return Err(Fault::OutOfMemory),
     };
+    take_streams(rt, left)?;
     match mode {
         Mode::Replay { config } => {
             let contents = load(rt, config, &mut left.told)?;
