@@ -5,7 +5,7 @@ import os
 import re
 import socket
 
-from installing.installation import EXPLAIN, SOUND, TOP, installed, ran
+from installing.installation import EXPLAIN, SOUND, installed, ran
 from operation import configuration, trying
 from replay import program, transcript
 from running import server
@@ -48,8 +48,8 @@ TOLD = [
      ['C:10: fault 3: unit 2 of target 1: "lun" is to be an integer, and is a text',
       'C:17: fault 3: unit 1 of target 2: "lun" is to be an integer, and is a text',
       'C:21: fault 6: target 3: no unit of it has "lun" 0',
-      'C:22: note: target 3: the name "iqn.2024-01.com.Example:my disk" has capitals and blanks, and initiators may ask for it in '
-      "lower case and without blanks alone",
+      'C:22: note: target 3: the name "iqn.2024-01.com.Example:my disk" has capitals and blanks, and initiators may ask for '
+      "it in lower case and without blanks alone",
       "targetd says: configuration fault 3"]),
     ('lun = 1\nkind = disk\n', 2, ["C:11: fault 2: disk is no value: a text stands between quotes",
                                    "targetd says: configuration fault 2"]),
@@ -76,7 +76,8 @@ def explains_where_a_log_cannot_be_written():
         for log, told in (
                 (f'"{top}/log"', f"{config}: targetd takes it"), ('"-"', f"{config}: targetd takes it"),
                 ('""', f'{config}:1: stream fault: the configuration: "log" is empty, and no path'),
-                (f'"{top}/none/"', f'{config}:1: stream fault: the log "{top}/none/" cannot be written to: its folder is not there'),
+                (f'"{top}/none/"',
+                 f'{config}:1: stream fault: the log "{top}/none/" cannot be written to: its folder is not there'),
                 (f'"{top}"', f'{config}:1: stream fault: the log "{top}" cannot be written to: it is a folder'),
                 (f'"{top}/none/log"',
                  f'{config}:1: stream fault: the log "{top}/none/log" cannot be written to: its folder is not there'),
@@ -103,9 +104,9 @@ def tells_why_a_file_is_no_disk_or_tape():
     with installed() as top:
         for content, lines, told in (
                 *((content, 'kind = "disk"\n',
-                   f"F has {size}, and not a positive multiple of 512. What stands after the last whole block, {more} ({what}), "
-                   f"may belong to something else than a disk: look at it (tail -c {more.split()[0]}), and cut only what is known "
-                   "to be no data\n") for content, size, more, what in (
+                   f"F has {size}, and not a positive multiple of 512. What stands after the last whole block, {more} "
+                   f"({what}), may belong to something else than a disk: look at it (tail -c {more.split()[0]}), and cut only "
+                   "what is known to be no data\n") for content, size, more, what in (
                        (bytes(1000), "1000 bytes", "488 bytes", "zeros"),
                        (bytes(1024) + b"x", "1025 bytes", "1 byte", "not all zeros"),
                        (b"\0", "1 byte", "1 byte", "zeros"))),
@@ -156,7 +157,8 @@ def tells_why_an_address_cannot_be_listened_on():
             port = other.getsockname()[1]
             for host in ("127.0.0.1", "0.0.0.0"):
                 status, told = told_of_address(top, f"{host}:{port}")
-                assert status == 1 and re.search(rf"^F where process {os.getpid()} \(.*\) listens already$", told, re.MULTILINE), told
+                listens = re.compile(rf"^F where process {os.getpid()} \(.*\) listens already$", re.MULTILINE)
+                assert status == 1 and listens.search(told), told
             assert told_of_address(top, f"127.0.0.2:{port}")[0] == 0
         assert told_of_address(top, f"127.0.0.1:{port}") == (0, f"{top}/my.toml: targetd takes it\n")
         try:
@@ -193,7 +195,8 @@ def takes_the_files_that_the_program_takes_and_changes_none():
         before = plain.stat()
         for path in ("plain", "fifo", "none", ".", "plain/", "", "/dev/zero", "/dev/full"):
             for kind in kinds:
-                config.write_text(SOUND.replace('kind = "disk"', kind).replace("blocks = 8", f'file = "{path}"'), encoding="utf-8")
+                units = SOUND.replace('kind = "disk"', kind).replace("blocks = 8", f'file = "{path}"')
+                config.write_text(units, encoding="utf-8")
                 status, told, fault = ran(top / EXPLAIN, config, cwd=top)
                 served, _, says = ran(top / "sbin/targetd", "serve", "--config", config, "--turns", "0", cwd=top)
                 assert (status, fault) == (int(served != 0), "") and ("device fault" in told) == ("device fault" in says), told

@@ -1,16 +1,18 @@
 """targetd-stop: a process that it ends has stopped before, and what it does not end goes on."""
 
 import os
+import re
 import signal
 import subprocess
 import time
+from pathlib import Path
 
-from installing.installation import LIMIT, SOUND, STOP, TOP, Skipped, installed, needs, ran
+from installing.installation import LIMIT, SOUND, STOP, Skipped, installed, needs, ran
 from operation import orderly_stop
 from running import server
 
 UNITS = SOUND.partition("\n")[2]
-SLEEP = 3  # seconds of a call that nothing but a signal that kills interrupts
+SLEEP = 5  # seconds of a call that nothing but a signal that kills interrupts
 # A process in vfork(2) does not stop until its child has ended, as one in a long sync does not.
 SLOW = f"int main(void) {{ if (vfork() == 0) {{ sleep({SLEEP}); _exit(0); }} pause(); }}"
 
@@ -47,6 +49,12 @@ def slow_program(folder):
     return path
 
 
+def is_to_stop(process):
+    """A process has SIGSTOP before it, which takes effect after its call."""
+    masks = re.findall(r"^(?:Sig|Shd)Pnd:\t(\w+)$", Path(f"/proc/{process}/status").read_text(encoding="ascii"), re.MULTILINE)
+    return any(int(mask, 16) >> (signal.SIGSTOP - 1) & 1 for mask in masks)
+
+
 def says_that_a_process_did_not_stop_in_time_and_ends_it():
     with installed() as top:
         words = [slow_program(top), "serve", "--config", "none"]
@@ -65,7 +73,9 @@ def lets_a_process_go_on_where_it_is_ended_itself():
         with subprocess.Popen([slow_program(top), "serve", "--config", "none"]) as process:
             assert orderly_stop.reaches(process.pid, ("D",), LIMIT), orderly_stop.state_of(process.pid)
             with subprocess.Popen([top / STOP, str(process.pid)]) as stopping:
-                time.sleep(SLEEP / 3)
+                while not is_to_stop(process.pid):
+                    assert stopping.poll() is None
+                    time.sleep(0.01)
                 stopping.send_signal(signal.SIGTERM)
                 assert stopping.wait(LIMIT) == 1
             assert orderly_stop.reaches(process.pid, ("S",), LIMIT), orderly_stop.state_of(process.pid)

@@ -70,7 +70,8 @@ def notes_what_may_be_otherwise_since_the_start():
             os.utime(config, (time.time() + SLACK, time.time() + SLACK))
             changed = "the configuration was changed since the start, and is not read again"
             assert changed in told_of(top, server.process.pid)[1]["notes"]
-            for values in ('name = 7\nunit = [{ lun = [1], kind = {}, serial = 1979-05-27 }]', "name = []\nunit = 7", "unit = [7]"):
+            for values in ("name = 7\nunit = [{ lun = [1], kind = {}, serial = 1979-05-27 }]", "name = []\nunit = 7",
+                           "unit = [7]"):
                 config.write_text(f"log = 7\n[[target]]\n{values}\n", encoding="ascii")
                 status, told = told_of(top, server.process.pid)
                 assert status == 3 and told["notes"], told
@@ -154,7 +155,8 @@ def tells_a_unit_that_is_not_ready():
             for _ in range(2):
                 status, told = told_of(top, process)
                 (unit,) = told["targets"][0]["units"]
-                assert (status, unit["failure"]) == (4, "03/0C00, a write failed") and began <= unit["not_ready_since"] <= time.time(), told
+                assert (status, unit["failure"]) == (4, "03/0C00, a write failed"), told
+                assert began <= unit["not_ready_since"] <= time.time(), told
                 assert tape.told(tape_files.READY) == tape_files.FAILED
             assert any(line.startswith("    unit 0: tape T0, /dev/full (0 bytes), not ready since ") and
                        line.endswith(": 03/0C00, a write failed") for line in lines_of(top, process))
