@@ -51,11 +51,15 @@ def closes_the_65th_and_goes_on_with_the_64():
             client.close()
 
 
-def connections_of(process):
-    """What targetd-status tells of the connections of a process, by the addresses of the hosts."""
+def status_of(process):
+    """What targetd-status tells of a process."""
     ran = subprocess.run([STATUS, "--json"], capture_output=True, text=True, timeout=LIMIT, check=False)
-    told = next(one for one in json.loads(ran.stdout)["processes"] if one["process"] == process.pid)
-    return {one["remote"]: one for one in told["connections"]}
+    return next(one for one in json.loads(ran.stdout)["processes"] if one["process"] == process.pid)
+
+
+def connections_of(process):
+    """What it tells of the connections of a process, by the addresses of the hosts."""
+    return {one["remote"]: one for one in status_of(process)["connections"]}
 
 
 def tells_64_clients_from_outside_and_those_that_are_left():
