@@ -6,7 +6,7 @@ import os
 import subprocess
 import tempfile
 import time
-from contextlib import contextmanager
+from contextlib import contextmanager, suppress
 from pathlib import Path
 from typing import NamedTuple
 
@@ -131,8 +131,11 @@ def is_refused(address):
 
 def links_of(process):
     """What each descriptor of a program is, by its number (proc(5))."""
-    folder = f"/proc/{process.pid}/fd"
-    return {int(number): os.readlink(f"{folder}/{number}") for number in os.listdir(folder)}
+    found = {}
+    for path in Path(f"/proc/{process.pid}/fd").iterdir():
+        with suppress(FileNotFoundError):  # it was closed meanwhile
+            found[int(path.name)] = os.readlink(path)
+    return found
 
 
 def has_streams_alone_below_three(process, closed, those):
