@@ -14,6 +14,7 @@ from concurrent.futures import ThreadPoolExecutor
 from contextlib import ExitStack, contextmanager, suppress
 from pathlib import Path
 
+from running import checks
 from sockets.endings import (BLOCKS, INITIATOR, TARGET, connect_in, disk_of_reads, ip, may_make_networks, reads,
                              rest_of, two_networks)
 from sockets.loopback import (CONNECTIONS, LIMIT, LOGIN, TOP, answer_of, connect, ended, is_answered,
@@ -31,7 +32,7 @@ SMALL = 65536  # bytes that a client lets the system keep for it
 SESSIONS = 100 - CONNECTIONS  # of peers that are gone: none has the name of one of those who come, of 100 names
 
 
-class Skipped(Exception):
+class Skipped(checks.Skipped):
     """What a check needs is not on this machine."""
 
 
