@@ -14,6 +14,7 @@ from sockets.logins import NAMES, request
 
 FEW, MANY = 20, 400  # keys of a text
 MOST = 16_415  # keys that a text of 65,536 bytes can have
+PAIRS = (15, 16, 17, 31, 32, 33)  # of a text, of which one comes again
 STEP = 997  # between two allocations of a long text that fail
 FAILING = {"call": "allocation", "error": errno.ENOMEM}
 ASCII = [chr(code) for code in range(1, 128) if chr(code) != "="]
@@ -83,6 +84,8 @@ class Texts:
 
 
 SWEEPS = [
+    ("each allocation fails in logins whose text says a key again",
+     lambda t: ", ".join(t.each(NAMES + keys(count - 3) + keys(1)) for count in PAIRS)),
     ("each allocation fails in a login whose second text has no keys",
      lambda t: t.each(NAMES + keys(FEW), b"", keys(1))),
     ("each allocation fails in a login whose second text has a key of the first",
