@@ -13,8 +13,8 @@ JOURNAL = "the journal"
 LISTENS = re.compile(r"\S+ listening on ")
 CAME = re.compile(r"\S+ connection (\d+) from (\S+)$")
 LOGGED_IN = re.compile(r"(\S+) connection (\d+) logged in: initiator (\S+), (?:target (\S+)|(discovery)), TSIH \d+$")
-# A unit is not ready once a write of it has failed, and 04/4400 tells the next who asks.
-FAILED = re.compile(r"(\S+) target (\S+), unit (\d+): (03/0C00, .*|04/4400, .*)$")
+# A unit is not ready once a write of it has failed, and 04/4400 tells the next who asks. After 03/0C00 stands who wrote what.
+FAILED = re.compile(r"(\S+) target (\S+), unit (\d+): (03/0C00, [^;]*|04/4400, [^;]*)(?:; .*)?$")
 ROTATED = r"[.-][0-9][0-9.-]*(?:\.gz)?"  # what logrotate(8) puts after the name of a log
 SLACK = 1  # seconds by which the start of a process is known
 LIMIT = 10  # seconds that journalctl may take

@@ -198,7 +198,8 @@ def tells_a_read_that_failed():
         os.truncate(disk, 512)
         client.sendall(read_10(125, 1, 1))
         assert len(read(client, 68)) == 68
-        assert lines_in(path, 4)[-1] == "target t1, unit 0: 03/1100, a read failed"
+        assert lines_in(path, 4)[-1] == (
+            "target t1, unit 0: 03/1100, a read failed; connection 0, initiator a, READ (10) of 1 blocks from 1")
 
 
 def tells_a_write_that_failed_and_once_that_the_unit_is_not_ready():
@@ -216,7 +217,7 @@ def tells_a_write_that_failed_and_once_that_the_unit_is_not_ready():
                 status_of(client, f"[TEST-UNIT-READY F ITT={number} CmdSN={number}]")
             client.sendall(notation.data(LOGOUT.replace("125", "128"), {}))
             assert lines_in(path, 6)[-3:] == [
-                "target t1, unit 0: 03/0C00, a write failed",
+                "target t1, unit 0: 03/0C00, a write failed; connection 0, initiator a, WRITE (10) of 1 blocks from 0",
                 "target t1, unit 0: 04/4400, it is not ready until the next start",
                 "session of connection 0 ended: logout"]
 

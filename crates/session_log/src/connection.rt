@@ -4,10 +4,11 @@ ghost use Rattle.std.specs.Prelude.{◌≤◌, length};
 
 use crate::answer::{Answer, answer_of};
 use crate::login_names::LoginNames;
+use crate::operation::CDB;
 use crate::pdu_stream::{Part, PduStream};
 use crate::sense::{SenseFront, Sensed};
-use crate::tasks::RecentTasks;
-use iscsi_pdu::{Header, Opcode, TaskFunction};
+use crate::tasks::{Command, RecentTasks};
+use iscsi_pdu::{HEADER_LENGTH, Header, Opcode, TaskFunction};
 use std::net::SocketAddr;
 
 /// How far a connection has come.
@@ -55,12 +56,8 @@ pub(crate) enum Told {
         response: u8,
         tag: u32,
     },
-    /// A command of this logical unit ended with this sense key, code and qualifier.
-    Sensed {
-        lun: [u8; 8],
-        key: u8,
-        code: u16,
-    },
+    /// A command ended so.
+    Sensed(Sensed),
 }
 
 /// So many bytes of a piece were heard, and what is to be told then.
@@ -87,6 +84,13 @@ pub(crate) struct Connection {
     answers: PduStream,
     tasks: RecentTasks,
     sense: SenseFront,
+}
+
+/// Returns the CDB of a SCSI Command by its header.
+fn cdb_of(header: &[u8; HEADER_LENGTH]) -> [u8; CDB] {
+    let mut cdb = [0; CDB];
+    cdb.copy_from_slice(&header[HEADER_LENGTH - CDB..]);
+    cdb
 }
 
 impl Connection {
@@ -138,7 +142,9 @@ impl Connection {
         if self.is_login {
             self.isid = header.isid();
         } else if opcode == Opcode::ScsiCommand {
-            self.tasks.note(tag, header.lun());
+            let lun = header.lun();
+            let cdb = cdb_of(self.requests.header());
+            self.tasks.note(tag, Command { lun, cdb });
         } else if opcode == Opcode::TaskManagement && self.state == State::LoggedIn {
             return Some(Told::Asked {
                 function: header.task_function(),
@@ -183,7 +189,7 @@ impl Connection {
             }
             Answer::Function { response, tag } => Some(Told::Answered { response, tag }),
             Answer::CheckCondition { tag } => {
-                self.sense.begin(self.tasks.lun_of(tag));
+                self.sense.begin(self.tasks.command_of(tag));
                 None
             }
             Answer::Other => None,
@@ -192,7 +198,7 @@ impl Connection {
 
     /// Sees data that was sent: the front of sense data, or what is passed over.
     fn see_sense(&mut self, data: &[u8]) -> Option<Told> {
-        let Sensed { lun, key, code } = self.sense.see(data)?;
-        Some(Told::Sensed { lun, key, code })
+        let sensed = self.sense.see(data)?;
+        Some(Told::Sensed(sensed))
     }
 }

@@ -17,6 +17,7 @@ mod lines;
 mod log_file;
 mod login_names;
 mod observed;
+mod operation;
 mod pdu_stream;
 mod sense;
 mod session_log;

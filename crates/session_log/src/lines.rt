@@ -2,6 +2,8 @@
 
 use crate::escape::put_escaped;
 use crate::login_names::LoginNames;
+use crate::operation::put_operation;
+use crate::sense::Sensed;
 use iscsi_pdu::TaskFunction;
 use std::alloc::{AllocError, Global};
 use std::net::SocketAddr;
@@ -191,19 +193,28 @@ pub(crate) fn answered(
 }
 
 /// A store failed.
-pub(crate) fn failed(
-    alloc: Global,
-    target: &[u8],
-    lun: [u8; 8],
-    key: u8,
-    code: u16,
-) -> Result<String, AllocError> {
+pub(crate) fn failed(alloc: Global, target: &[u8], sensed: &Sensed) -> Result<String, AllocError> {
     let mut line = String::new(alloc);
     put_name(&mut line, "target", target)?;
     line.push_str(", ")?;
-    put_unit(&mut line, lun)?;
+    put_unit(&mut line, sensed.command.lun)?;
     line.push_str(": ")?;
-    line.push_str(failure(key, code))?;
+    line.push_str(failure(sensed.key, sensed.code))?;
+    Ok(line)
+}
+
+/// A store failed at a command of a connection.
+pub(crate) fn failed_at(
+    alloc: Global,
+    c: usize,
+    names: &LoginNames,
+    sensed: &Sensed,
+) -> Result<String, AllocError> {
+    let mut line = failed(alloc, names.target.as_slice(), sensed)?;
+    write!(line, "; connection {c}, ")?;
+    put_name(&mut line, "initiator", names.initiator.as_slice())?;
+    line.push_str(", ")?;
+    put_operation(&mut line, &sensed.command.cdb)?;
     Ok(line)
 }
 

@@ -5,6 +5,7 @@ use crate::limit::Limit;
 use crate::lines;
 use crate::log_file::LogFile;
 use crate::observed::Observer;
+use crate::sense::Sensed;
 use connection_numbers::CONNECTIONS;
 use jiff::Timestamp;
 use std::alloc::{AllocError, Global};
@@ -195,20 +196,23 @@ impl<'r, R: Files<File = File> + Clock> SessionLog<'r, R> {
                 let line = lines::answered(self.alloc, c, response, tag);
                 self.say(Whose::Host, line);
             }
-            Told::Sensed { lun, key, code } => self.tell_sensed(c, lun, (key, code)),
+            Told::Sensed(sensed) => self.tell_sensed(c, sensed),
         }
     }
 
-    /// Tells that a store failed: of a unit that is not ready then once.
-    fn tell_sensed(&mut self, c: usize, lun: [u8; 8], sense: (u8, u16)) {
+    /// Tells that a store failed, and at which command: of a unit that is not ready then once.
+    fn tell_sensed(&mut self, c: usize, sensed: Sensed) {
         let Some(Some(connection)) = self.connections.get(c) else {
             return;
         };
         let target = connection.names.target.as_slice();
-        let line = lines::failed(self.alloc, target, lun, sense.0, sense.1);
+        let lun = sensed.command.lun;
+        let sense = (sensed.key, sensed.code);
         if sense == READ_FAILED || sense == WRITE_FAILED {
+            let line = lines::failed_at(self.alloc, c, &connection.names, &sensed);
             self.say(Whose::Host, line);
         } else if sense == NOT_READY && !is_noted(self.failed.as_slice(), target, lun) {
+            let line = lines::failed(self.alloc, target, &sensed);
             let mut name = Vec::new(self.alloc);
             let _ = name.extend_from_slice(target);
             let _ = self.failed.push(FailedUnit { target: name, lun });

@@ -1,9 +1,18 @@
-//! The logical units of the latest commands, by their tags.
+//! The latest commands, by their tags.
 
 ghost use Rattle.std.specs.Prelude.{◌<◌};
 
-/// So many commands are remembered: more than a session may have unanswered.
+use crate::operation::CDB;
+
+/// The number of commands that are remembered: more than a session may have unanswered.
 const TASKS: usize = 64;
+
+/// A command, by its logical unit and its CDB.
+#[derive(Clone, Copy, Debug, PartialEq, Eq)]
+pub(crate) struct Command {
+    pub(crate) lun: [u8; 8],
+    pub(crate) cdb: [u8; CDB],
+}
 
 /// The latest commands of a connection. The oldest is forgotten.
 #[derive(Clone, Copy, Debug)]
@@ -14,19 +23,25 @@ pub(crate) struct RecentTasks {
     ghost range: { next < 64 },
 }
 
-/// A command, by its Initiator Task Tag and its logical unit.
+/// A command with its Initiator Task Tag.
 #[derive(Clone, Copy, Debug)]
 struct Task {
     tag: u32,
-    lun: [u8; 8],
+    command: Command,
 }
+
+/// What is told of a command that is no longer remembered.
+const UNKNOWN: Command = Command {
+    lun: [0; 8],
+    cdb: [0; CDB],
+};
 
 impl RecentTasks {
     /// None.
     pub(crate) fn new() -> RecentTasks {
         let none = Task {
             tag: 0xFFFF_FFFF,
-            lun: [0; 8],
+            command: UNKNOWN,
         };
         RecentTasks {
             tasks: [none; TASKS],
@@ -35,20 +50,20 @@ impl RecentTasks {
     }
 
     /// Notes a command.
-    pub(crate) fn note(&mut self, tag: u32, lun: [u8; 8]) {
-        self.tasks[self.next] = Task { tag, lun };
+    pub(crate) fn note(&mut self, tag: u32, command: Command) {
+        self.tasks[self.next] = Task { tag, command };
         self.next = (self.next + 1) % TASKS;
     }
 
-    /// The logical unit of the latest command with this tag.
-    pub(crate) fn lun_of(&self, tag: u32) -> [u8; 8] {
-        let mut lun = [0; 8];
+    /// Returns the latest command with this tag.
+    pub(crate) fn command_of(&self, tag: u32) -> Command {
+        let mut command = UNKNOWN;
         for i in 0..TASKS {
             let task = self.tasks[(self.next + i) % TASKS];
             if task.tag == tag {
-                lun = task.lun;
+                command = task.command;
             }
         }
-        lun
+        command
     }
 }
