@@ -1,4 +1,6 @@
 pub mod Numbers
+mod TakingTurns
+mod Seeing
 mod Accounts
 mod Buffers
 mod LingeringPlaces

@@ -3,7 +3,9 @@ use Rattle.std.specs.Prelude.{◌≡◌, ◌≤◌, ℕ, ◌+◌, ◌*◌, min, 
 use Rattle.std.specs.Duration.{as_nanos}
 use Rattle.iscsi_ports.specs.Calls.{Call}
 use Rattle.iscsi_ports.specs.Polls.{wait_for, unasked_in}
-use Rattle.iscsi_ports.specs.Readiness.{flag_of, flags_with, none_of, goes_on, accept_goes_on, after_accept, after_write}
+use Rattle.iscsi_ports.specs.Flags.{flag_of, flags_with, none_of}
+use Rattle.iscsi_ports.specs.Turns.{after_offer, counted_anew, looks_on}
+use Rattle.iscsi_ports.specs.Readiness.{goes_on, accept_goes_on, after_accept, after_write}
 use Rattle.iscsi_ports.specs.declared.readiness.Readiness.{Readiness}
 use Rattle.iscsi_ports.specs.declared.socket_ports.SocketPorts.{SocketPorts}
 use Rattle.iscsi_ports.specs.declared.stopwatch.Stopwatch.{Stopwatch}
@@ -56,7 +58,11 @@ module _ {K : Type 0} where
       is_due ports.unasked ports.most_unasked ports.carried || not (is_to_go_on ports.holding ports.busy ports.unasked) || has_passed
 
   abbrev pub wait_now : SocketPorts K → Option ℕ
-  wait_now ports = wait_for ports.busy ports.refused (option_map as_nanos ports.wait)
+  wait_now ports = wait_for (ports.busy || looks_on ports.readiness.turns) ports.refused (option_map as_nanos ports.wait)
+
+  -- who was ready before a poll: where bytes were carried since the last, the polls that left one out are counted anew
+  abbrev pub rested : SocketPorts K → Readiness
+  rested ports = record ports.readiness { turns = counted_anew ports.busy ports.readiness.turns }
 
   -- own: by these calls it counts the polls that were answered without asking, of which 63 may stand in a row
   pub record AsksInTime (calls : List Call) (ports : SocketPorts K) : Type 0 where
@@ -82,9 +88,10 @@ module _ {K : Type 0} where
     refused = false;
   }
 
-  abbrev pub after_naming : K → Stopwatch → SocketPorts K → SocketPorts K
-  after_naming sockets stopwatch ports = record ports {
+  abbrev pub after_naming : K → Readiness → Stopwatch → SocketPorts K → SocketPorts K
+  after_naming sockets readiness stopwatch ports = record ports {
     sockets = sockets;
+    readiness = readiness;
     busy = false;
     holding = false;
     has_read = none_of;
@@ -110,10 +117,15 @@ module _ {K : Type 0} where
     has_read = flags_with (gave answer) c true ports.has_read;
   }
 
-  abbrev pub after_writing : ℕ → Result ℕ SocketFailure → K → SocketPorts K → SocketPorts K
-  after_writing c answer sockets ports = record ports {
+  -- own: of a write it is remembered how much was offered, also where it is put off
+  abbrev pub after_offering : ℕ → ℕ → SocketPorts K → Readiness
+  after_offering c offered ports =
+      record ports.readiness { turns = after_offer c offered (flag_of c ports.has_read) ports.readiness.turns }
+
+  abbrev pub after_writing : ℕ → ℕ → Result ℕ SocketFailure → K → SocketPorts K → SocketPorts K
+  after_writing c offered answer sockets ports = record ports {
     sockets = sockets;
-    readiness = after_write c answer ports.readiness;
+    readiness = after_write c answer (after_offering c offered ports);
     busy = ports.busy || goes_on answer;
     carried = carried_after answer ports.carried;
     most_unasked = most_after answer ports.most_unasked;

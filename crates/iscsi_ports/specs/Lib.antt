@@ -5,6 +5,8 @@ pub mod Script
 pub mod Entries
 pub mod Calls
 pub mod ReadBuffer
+pub mod Flags
+pub mod Turns
 pub mod Readiness
 pub mod Polls
 pub mod Asking

@@ -1,30 +1,24 @@
 -- Which ports may be ready, as far as it is known: after an event of the system, and after each call.
-use Rattle.std.specs.Prelude.{◌≡◌, ◌≤◌, ◌+◌, ℕ, ◌==◌, nat_lt, Bool, true, false, ◌&&◌, ◌||◌, not, List, replicate, slice_index_or, slice_set, Result, Ok, Err, if◌then◌else◌}
+use Rattle.std.specs.Prelude.{◌≡◌, ◌≤◌, ◌+◌, ℕ, ◌==◌, nat_lt, Bool, true, false, ◌&&◌, ◌||◌, not, slice_set, Result, Ok, Err, if◌then◌else◌}
 use Rattle.mio.specs.declared.event.event.Event.{Event}
 use Rattle.mio.specs.Event.{event_token, is_readable, is_writable, is_error, is_read_closed, is_priority}
 use Rattle.connection_numbers.specs.Numbers.{connection_limit}
+use Rattle.iscsi_ports.specs.Flags.{flag_of, flags_with, none_of}
+use Rattle.iscsi_ports.specs.Turns.{no_turns, counted_anew}
 use Rattle.iscsi_ports.specs.declared.readiness.Readiness.{Readiness}
 use Rattle.iscsi_ports.specs.declared.readiness.ReadyEvent.{ReadyEvent}
 use Rattle.iscsi_ports.specs.declared.socket_failure.SocketFailure.{SocketFailure}
 use Rattle.iscsi_ports.specs.declared.socket_failure.SocketFailure.TheVariants.{WouldWait, Interrupted, Passing}
 
-abbrev pub flag_of : ℕ → List Bool → Bool
-flag_of c flags = slice_index_or flags c false
-
--- the flags with this one of a connection, where something says so
-abbrev pub flags_with : Bool → ℕ → Bool → List Bool → List Bool
-flags_with says c flag flags = if says then slice_set flags c flag else flags
-
-abbrev pub none_of : List Bool
-none_of = replicate connection_limit false
-
 abbrev pub nothing_ready : Readiness
 nothing_ready = record {
   named = record { listener = false; connections = none_of };
+  ready = record { listener = false; connections = none_of };
   readable = none_of;
   ended = none_of;
   urgent = none_of;
   full = none_of;
+  turns = no_turns;
 }
 
 -- ---- events
@@ -47,21 +41,22 @@ ready_event event = record {
 
 abbrev pub with_event : ℕ → ReadyEvent → Readiness → Readiness
 with_event c event readiness = record readiness {
-  named = record readiness.named { connections = flags_with (may_give event) c true readiness.named.connections };
+  ready = record readiness.ready { connections = flags_with (may_give event) c true readiness.ready.connections };
   readable = flags_with (may_give event) c true readiness.readable;
   ended = flags_with event.has_ended c true readiness.ended;
   urgent = flags_with event.is_urgent c true readiness.urgent;
   full = flags_with (may_take event) c false readiness.full;
+  turns = counted_anew (may_give event) readiness.turns;
 }
 
-abbrev pub listener_named : Bool → Readiness → Readiness
-listener_named flag readiness = record readiness { named = record readiness.named { listener = flag } }
+abbrev pub listener_ready : Bool → Readiness → Readiness
+listener_ready flag readiness = record readiness { ready = record readiness.ready { listener = flag } }
 
 -- own: a connection's token is its number, that of the listener the next one
 abbrev pub after_event : Readiness → Event → Readiness
 after_event readiness event =
     let token = (event_token event).0 in
-    if token == connection_limit then listener_named true readiness
+    if token == connection_limit then listener_ready true readiness
     else if nat_lt token connection_limit then with_event token (ready_event event) readiness
     else readiness
 
@@ -91,11 +86,11 @@ after_taking c answer room readiness = record readiness {
   urgent = flags_with (would_wait answer) c false readiness.urgent;
 }
 
--- own: named as long as the system or what is ahead may give bytes
-abbrev pub named_again : ℕ → Bool → Readiness → Readiness
-named_again c is_ahead readiness = record readiness {
-  named = record readiness.named {
-    connections = slice_set readiness.named.connections c (flag_of c readiness.readable || is_ahead);
+-- own: ready as long as the system or what is ahead may give bytes
+abbrev pub ready_again : ℕ → Bool → Readiness → Readiness
+ready_again c is_ahead readiness = record readiness {
+  ready = record readiness.ready {
+    connections = slice_set readiness.ready.connections c (flag_of c readiness.readable || is_ahead);
   };
 }
 
@@ -107,11 +102,12 @@ filled c readiness = record readiness { full = slice_set readiness.full c true }
 abbrev pub forgotten : ℕ → Readiness → Readiness
 forgotten c readiness =
     if nat_lt c connection_limit then record readiness {
-      named = record readiness.named { connections = slice_set readiness.named.connections c false };
+      ready = record readiness.ready { connections = slice_set readiness.ready.connections c false };
       readable = slice_set readiness.readable c false;
       ended = slice_set readiness.ended c false;
       urgent = slice_set readiness.urgent c false;
       full = slice_set readiness.full c false;
+      turns = record readiness.turns { long = slice_set readiness.turns.long c false };
     } else readiness
 
 -- own: a write that would have waited
@@ -122,7 +118,7 @@ after_write c answer readiness = readiness
 -- own: an accept that would have waited leaves nobody at the listener
 abbrev pub after_accept : ℕ → Result Bool SocketFailure → Readiness → Readiness
 after_accept c (Ok true) readiness = forgotten c readiness
-after_accept c (Err WouldWait) readiness = listener_named false readiness
+after_accept c (Err WouldWait) readiness = listener_ready false readiness
 after_accept c answer readiness = readiness
 
 -- own: somebody came, or the accept is to be tried again at once
@@ -156,4 +152,4 @@ read_by capacity c room was_ahead ahead answer readiness =
 -- own: by a buffer that is no smaller than the room
 abbrev pub IsReadBy : ℕ → ℕ → ℕ → ℕ → Result ℕ SocketFailure → Readiness → Readiness → Type 0
 IsReadBy c room was_ahead ahead answer before after =
-    (capacity : ℕ) × (room ≤ capacity) × (after ≡ named_again c (nat_lt 0 ahead) (read_by capacity c room was_ahead ahead answer before))
+    (capacity : ℕ) × (room ≤ capacity) × (after ≡ ready_again c (nat_lt 0 ahead) (read_by capacity c room was_ahead ahead answer before))

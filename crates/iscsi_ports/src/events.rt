@@ -3,6 +3,7 @@
 ghost use Rattle.std.specs.Prelude.{◌≡◌, fold};
 ghost use Rattle.mio.specs.Events.{items};
 ghost use Rattle.iscsi_ports.specs.Readiness.{after_event};
+ghost use Rattle.iscsi_ports.specs.Turns.{Names, IsNamed};
 
 use crate::readiness::{Readiness, ReadyEvent};
 use crate::watching::LISTENER;
@@ -16,7 +17,7 @@ fn see(readiness: &mut Readiness, event: &Event)
 {
     let Token(token) = event.token();
     if token == LISTENER {
-        readiness.named.listener = true;
+        readiness.ready.listener = true;
     } else if token < CONNECTIONS {
         let event = ReadyEvent {
             is_readable: event.is_readable(),
@@ -29,10 +30,19 @@ fn see(readiness: &mut Readiness, event: &Event)
 }
 
 /// Takes note of all events.
-pub(crate) fn see_all(readiness: &mut Readiness, events: &Events)
+fn see_all(readiness: &mut Readiness, events: &Events)
     ensures { readiness.new ≡ fold after_event readiness.old (items events.now) }
 {
     for event in events {
         see(readiness, event);
     }
+}
+
+/// Takes note of all events, and names those whose turn it is of those that are ready.
+pub(crate) fn name_ready(readiness: &mut Readiness, events: &Events)
+    ensures seen { Names (fold after_event readiness.old (items events.now)) readiness.new }
+    ensures turn { IsNamed readiness.old readiness.new }
+{
+    see_all(readiness, events);
+    readiness.name();
 }

@@ -17,6 +17,7 @@
 //! - The log of [`MioPorts`] is what was handed on and what was taken, as the noted calls have it. Each byte that the system
 //!   gave is handed on once, in order, or is still ahead, or was dropped as its connection closed.
 //! - When the system is asked and a write is put off is exact, and at most 63 polls in a row ask nothing.
+//! - Of the connections that are ready a poll names all but those that send much, and of these one, each in its turn.
 //! - [`MemPorts`] keep their log, and each read and write tells what the script says.
 #![tactic(auto)]
 
@@ -42,6 +43,7 @@ mod socket_ports;
 mod spares;
 mod stopwatch;
 mod stream_calls;
+mod turns;
 mod watching;
 
 pub use bind_fault::BindFault;

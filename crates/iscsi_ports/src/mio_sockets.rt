@@ -10,6 +10,7 @@ ghost use Rattle.std.specs.declared.net.socket_addr.SocketAddr.{SocketAddr};
 ghost use Rattle.iscsi_ports.specs.Calls.{Accepting, Closing, Listening, Located, Polling, ip_octets, named_by, token_after};
 ghost use Rattle.iscsi_ports.specs.Lingering.{place_of, place_to_take, turns_left};
 ghost use Rattle.iscsi_ports.specs.Readiness.{after_event};
+ghost use Rattle.iscsi_ports.specs.Turns.{Names, IsNamed};
 ghost use Rattle.mio.specs.Events.{items};
 ghost use Rattle.iscsi_ports.specs.ReadBuffer.{IsAccounted, AreDropped, ahead_on};
 ghost use Rattle.iscsi_ports.specs.Polls.{IsNoLonger};
@@ -21,7 +22,7 @@ mod reads;
 
 use crate::bind_fault::{BindFault, bind_fault};
 use crate::call_notes::CallNotes;
-use crate::events::see_all;
+use crate::events::name_ready;
 use crate::lingering::{LingeringSockets, turns_of};
 use crate::places::free_places;
 use crate::read_buffer::{ReadBuffer, count_ahead, slice_ahead};
@@ -129,7 +130,8 @@ impl SocketCalls for MioSockets {
             × (list_all is_none self.old.lingering.places.items ≡ true → handed ≡ option_map as_nanos wait)
             × (⟦<MioSockets as SocketCalls>⟧.calls self.new
             ≡ Polling handed (named_by result readiness.new.named) ∷ ⟦<MioSockets as SocketCalls>⟧.calls self.old) }
-        ensures seen { OnOk result (readiness.new ≡ fold after_event readiness.old (items self.new.events)) }
+        ensures seen { OnOk result (Names (fold after_event readiness.old (items self.new.events)) readiness.new) }
+        ensures turn { OnOk result (IsNamed readiness.old readiness.new) }
         ensures unseen { OnErr result (readiness.new ≡ readiness.old) }
         ensures lingering { OnOk result ((d : ℕ) → turns_left (place_of d self.new.lingering.places.items)
             ≤ turns_left (place_of d self.old.lingering.places.items) - 1) }
@@ -140,7 +142,7 @@ impl SocketCalls for MioSockets {
             self.notes.poll_failed(wait, failure);
             return Err(failure);
         }
-        see_all(readiness, &self.events);
+        name_ready(readiness, &self.events);
         let turns = turns_of(wait, !self.events.is_empty());
         self.lingering.count_turns(turns);
         self.notes.polled(wait, &readiness.named);
@@ -188,7 +190,7 @@ impl SocketCalls for MioSockets {
         buffer: &mut [u8],
     ) -> Result<usize, SocketFailure> {
         let answer = self.read_some(readiness, c, buffer);
-        readiness.name(c, self.count_ahead(c) > 0);
+        readiness.ready_again(c, self.count_ahead(c) > 0);
         answer
     }
 

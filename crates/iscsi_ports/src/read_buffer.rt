@@ -7,8 +7,8 @@ use std::alloc::{AllocError, Global};
 use std::io::{self, Read};
 use std::marker::Model;
 
-/// How many bytes may be ahead of a connection.
-pub(crate) const MOST_AHEAD: usize = 65_536;
+/// How many bytes may be ahead of a connection: a PDU with 65,536 bytes of data and its header (RFC 7143 §11.2.1).
+pub(crate) const MOST_AHEAD: usize = 65_584;
 
 /// A buffer with bytes that are ahead. It is seen as the list of these.
 #[derive(Drop)]

@@ -4,14 +4,18 @@
 //! it would wait or gave less than it had room for. A read ends at the mark of urgent data, whatever is behind
 //! it (tcp(7)), so one to which such data came stays readable until a read would wait. Where its peer has ended,
 //! or it failed, no further event tells of it, and it stays readable until a read says so. One whose write would
-//! have waited takes nothing until an event says that it can.
+//! have waited takes nothing until an event says that it can. Of those that are ready a poll names all but the long
+//! ones whose turn it is not ([`Turns`]).
 
 ghost use Rattle.std.specs.Prelude.{◌≡◌, ◌<◌};
-ghost use Rattle.iscsi_ports.specs.Readiness.{nothing_ready, may_give, may_take, still_readable, flags_with, flag_of, with_event, after_taking, named_again, filled, forgotten};
+ghost use Rattle.iscsi_ports.specs.Readiness.{nothing_ready, may_give, may_take, still_readable, with_event, after_taking, ready_again, filled, forgotten};
 ghost use Rattle.iscsi_ports.specs.Readiness as ready;
+ghost use Rattle.iscsi_ports.specs.Flags.{flags_with, flag_of};
+ghost use Rattle.iscsi_ports.specs.Turns.{looks_on, after_offer, counted_anew, Names};
 
 use crate::results::Named;
 use crate::socket_failure::SocketFailure;
+use crate::turns::Turns;
 use connection_numbers::CONNECTIONS;
 
 /// What the system told in an event of a connection.
@@ -28,9 +32,11 @@ pub(crate) struct ReadyEvent {
 /// The ports that may be ready.
 #[derive(Clone, Copy, Debug)]
 pub struct Readiness {
-    /// Those whom a poll names: the listener, and the connections of which the system or what is ahead may
-    /// give bytes.
+    /// Those whom the last poll named.
     pub named: Named,
+    /// Those whom a poll may name: the listener, and the connections of which the system or what is ahead may
+    /// give bytes.
+    pub(crate) ready: Named,
     /// Those of which the system may give bytes.
     readable: [bool; CONNECTIONS],
     /// Those whose peers have ended, and those that failed.
@@ -39,6 +45,8 @@ pub struct Readiness {
     urgent: [bool; CONNECTIONS],
     /// Those whose last write would have waited.
     full: [bool; CONNECTIONS],
+    /// Whose turn it is to be named.
+    turns: Turns,
 }
 
 impl ReadyEvent {
@@ -96,15 +104,18 @@ impl Readiness {
     pub(crate) fn new() -> Readiness
         ensures { result ≡ nothing_ready }
     {
+        let nobody = Named {
+            listener: false,
+            connections: [false; CONNECTIONS],
+        };
         Readiness {
-            named: Named {
-                listener: false,
-                connections: [false; CONNECTIONS],
-            },
+            named: nobody,
+            ready: nobody,
             readable: [false; CONNECTIONS],
             ended: [false; CONNECTIONS],
             urgent: [false; CONNECTIONS],
             full: [false; CONNECTIONS],
+            turns: Turns::new(),
         }
     }
 
@@ -114,10 +125,11 @@ impl Readiness {
         ensures { self.new ≡ with_event c event self.old }
     {
         set_where(event.may_give(), &mut self.readable, c, true);
-        set_where(event.may_give(), &mut self.named.connections, c, true);
+        set_where(event.may_give(), &mut self.ready.connections, c, true);
         set_where(event.has_ended, &mut self.ended, c, true);
         set_where(event.is_urgent, &mut self.urgent, c, true);
         set_where(event.may_take(), &mut self.full, c, false);
+        self.turns.count_anew(event.may_give());
     }
 
     /// After a read of the system into so much room.
@@ -130,12 +142,43 @@ impl Readiness {
         set_where(would_wait(answer), &mut self.urgent, c, false);
     }
 
-    /// After a read: the connection is named as long as the system or what is ahead may give bytes of it.
-    pub(crate) fn name(&mut self, c: usize, is_ahead: bool)
+    /// After a read: the connection is ready as long as the system or what is ahead may give bytes of it.
+    pub(crate) fn ready_again(&mut self, c: usize, is_ahead: bool)
         requires { c < 64 }
-        ensures { self.new ≡ named_again c is_ahead self.old }
+        ensures { self.new ≡ ready_again c is_ahead self.old }
     {
-        self.named.connections[c] = self.readable[c] || is_ahead;
+        self.ready.connections[c] = self.readable[c] || is_ahead;
+    }
+
+    /// Names those that are ready, but for the long connections whose turn it is not.
+    pub(crate) fn name(&mut self)
+        ensures { Names self.old self.new }
+    {
+        self.named.listener = self.ready.listener;
+        self.named.connections = self.turns.take(&self.ready.connections);
+    }
+
+    /// Whether the next poll is not to wait, since the last one left out a connection that is ready.
+    pub(crate) fn looks_on(&self) -> bool
+        ensures { result ≡ looks_on self.now.turns }
+    {
+        self.turns.looks_on()
+    }
+
+    /// Counts the polls that leave out a ready connection anew, where bytes were carried.
+    pub(crate) fn count_anew(&mut self, carried: bool)
+        ensures { self.new ≡ record self.old { turns = counted_anew carried self.old.turns } }
+    {
+        self.turns.count_anew(carried);
+    }
+
+    /// Takes note of how many bytes a write of a connection is offered, of which bytes may have been read since the
+    /// last poll.
+    pub(crate) fn offer(&mut self, c: usize, offered: usize, has_read: bool)
+        requires { c < 64 }
+        ensures { self.new ≡ record self.old { turns = after_offer c offered has_read self.old.turns } }
+    {
+        self.turns.offer(c, offered, has_read);
     }
 
     /// A write would have waited.
@@ -159,7 +202,8 @@ impl Readiness {
         ensures { self.new ≡ forgotten c self.old }
     {
         if c < CONNECTIONS {
-            self.named.connections[c] = false;
+            self.turns.forget(c);
+            self.ready.connections[c] = false;
             self.readable[c] = false;
             self.ended[c] = false;
             self.urgent[c] = false;

@@ -1,6 +1,6 @@
 //! The calls of the system on a listener and its connections.
 
-ghost use Rattle.std.specs.Prelude.{◌≡◌, ◌<◌, ◌≤◌, ◌++◌, ◌∷◌, ℕ, List, [], length, Option, option_map};
+ghost use Rattle.std.specs.Prelude.{◌≡◌, ◌<◌, ◌≤◌, ◌++◌, ◌∷◌, ℕ, List, [], length, Option, option_map, OnOk};
 ghost use Rattle.std.specs.Duration.{as_nanos};
 ghost use Rattle.std.specs.Io.{WritesAtMost};
 ghost use Rattle.iscsi_ports.specs.Log.{Read};
@@ -8,6 +8,7 @@ ghost use Rattle.iscsi_ports.specs.Calls.{Call, Polling, Naming, Accepting, Writ
 ghost use Rattle.iscsi_ports.specs.ReadBuffer.{given, handed, AreDropped};
 ghost use Rattle.iscsi_ports.specs.Polls.{IsNoLonger, unasked_in};
 ghost use Rattle.iscsi_ports.specs.Readiness.{after_write, IsReadBy};
+ghost use Rattle.iscsi_ports.specs.Turns.{IsNamed};
 
 use crate::readiness::Readiness;
 use crate::results::Named;
@@ -24,17 +25,18 @@ pub trait SocketCalls {
 
     ghost ahead: { Self → ℕ → List ℕ };
 
-    /// Waits for an event, no longer than this where a time is given, and makes known whom the system
-    /// names.
+    /// Waits for an event, no longer than this where a time is given, makes known who is ready, and names
+    /// those whose turn it is.
     fn poll(
         &mut self,
         readiness: &mut Readiness,
         wait: Option<Duration>,
     ) -> Result<(), SocketFailure>
-        ensures { (handed : Option ℕ) × IsNoLonger handed (option_map as_nanos wait)
+        ensures turn { OnOk result (IsNamed readiness.old readiness.new) }
+        ensures noted { (handed : Option ℕ) × IsNoLonger handed (option_map as_nanos wait)
             × (calls self.new ≡ Polling handed (named_by result readiness.new.named) ∷ calls self.old) };
 
-    /// Notes that a poll tells who is known to be ready.
+    /// Notes that a poll names these of those that are known to be ready.
     fn note_named(&mut self, named: &Named)
         ensures { calls self.new ≡ Naming named.now ∷ calls self.old };
 

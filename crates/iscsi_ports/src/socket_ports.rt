@@ -1,6 +1,6 @@
 //! Ports over sockets.
 
-ghost use Rattle.std.specs.Prelude.{◌≡◌, ◌<◌, ◌≤◌, ◌∷◌, ◌++◌, ℕ, List, [], Bool, true, false, length, Option, option_map, Result, IfOk};
+ghost use Rattle.std.specs.Prelude.{◌≡◌, ◌<◌, ◌≤◌, ◌∷◌, ◌++◌, ℕ, List, [], Bool, true, false, length, Option, option_map, Result, IfOk, OnOk};
 ghost use Rattle.std.specs.Duration.{as_nanos};
 ghost use Rattle.std.specs.Io.{WritesAtMost};
 ghost use Rattle.std.specs.Net.Socket.{socket_ip, socket_port};
@@ -14,7 +14,8 @@ ghost use Rattle.iscsi_ports.specs.Readiness as ready;
 ghost use Rattle.iscsi_ports.specs.Readiness.{forgotten, IsReadBy};
 ghost use Rattle.iscsi_ports.specs.Polls.{IsNoLonger};
 ghost use Rattle.iscsi_ports.specs.Asking as asking;
-ghost use Rattle.iscsi_ports.specs.Asking.{asks_now, wait_now, AsksInTime, after_asking, after_naming, after_accepting, after_reading, after_writing};
+ghost use Rattle.iscsi_ports.specs.Asking.{asks_now, wait_now, AsksInTime, after_asking, after_naming, after_accepting, after_reading, after_offering, after_writing, rested};
+ghost use Rattle.iscsi_ports.specs.Turns.{IsNamed, IsFair};
 
 use crate::asking::{
     MOST_UNASKED, carried_after, gave, goes_on, is_due, is_put_off, is_refused, is_to_go_on,
@@ -170,7 +171,7 @@ fn after_accept(readiness: &mut Readiness, c: usize, answer: Result<bool, Socket
 {
     match answer {
         Ok(true) => readiness.forget(c),
-        Err(SocketFailure::WouldWait) => readiness.named.listener = false,
+        Err(SocketFailure::WouldWait) => readiness.ready.listener = false,
         Ok(false) | Err(_) => {}
     }
 }
@@ -231,18 +232,27 @@ impl<K: SocketCalls + Drop> Ports for SocketPorts<K> {
         ensures after_asking { asks_now self.new.stopwatch.has_passed self.old ≡ true
             → self.new ≡ after_asking self.new.sockets self.new.readiness self.new.stopwatch self.old }
         ensures unasked { asks_now self.new.stopwatch.has_passed self.old ≡ false
-            → K.calls self.new.sockets ≡ Naming self.old.readiness.named ∷ K.calls self.old.sockets }
+            → K.calls self.new.sockets ≡ Naming self.new.readiness.named ∷ K.calls self.old.sockets }
         ensures after_naming { asks_now self.new.stopwatch.has_passed self.old ≡ false
-            → self.new ≡ after_naming self.new.sockets self.new.stopwatch self.old }
+            → self.new ≡ after_naming self.new.sockets self.new.readiness self.new.stopwatch self.old }
+        ensures turn { OnOk result (IsNamed (rested self.old) self.new.readiness) }
+        ensures named { IfOk result (λ named. named ≡ self.new.readiness.named) }
+        ensures fair { OnOk result (IsFair self.old.readiness self.new.readiness) }
         ensures in_time { AsksInTime (K.calls self.old.sockets) self.old → AsksInTime (K.calls self.new.sockets) self.new }
     {
         let asks = self.is_to_ask();
-        let wait = to_wait(self.busy, self.refused, self.wait);
+        let wait = to_wait(
+            self.busy || self.readiness.looks_on(),
+            self.refused,
+            self.wait,
+        );
+        self.readiness.count_anew(self.busy);
         self.busy = false;
         self.holding = false;
         self.has_read = [false; CONNECTIONS];
         if !asks {
             self.unasked += 1;
+            self.readiness.name();
             self.sockets.note_named(&self.readiness.named);
             return Ok(self.readiness.named);
         }
@@ -295,13 +305,14 @@ impl<K: SocketCalls + Drop> Ports for SocketPorts<K> {
             ++ Wrote c (length bytes.now) (carried_by result bytes.now) ∷ [] }
         ensures put_off { asking.has_to_wait c (length (K.ahead self.old.sockets c)) (length bytes.now) self.old ≡ true
             → (K.calls self.new.sockets ≡ PuttingOff c (length bytes.now) ∷ K.calls self.old.sockets)
-            × (self.new ≡ record self.old { sockets = self.new.sockets }) }
+            × (self.new ≡ record self.old { sockets = self.new.sockets; readiness = after_offering c (length bytes.now) self.old }) }
         ensures written { asking.has_to_wait c (length (K.ahead self.old.sockets c)) (length bytes.now) self.old ≡ false
             → (answer : Result ℕ SocketFailure)
             × (K.calls self.new.sockets ≡ Writing c (length bytes.now) (moved answer bytes.now) ∷ K.calls self.old.sockets)
-            × (self.new ≡ after_writing c answer self.new.sockets self.old) }
+            × (self.new ≡ after_writing c (length bytes.now) answer self.new.sockets self.old) }
         ensures in_time { AsksInTime (K.calls self.old.sockets) self.old → AsksInTime (K.calls self.new.sockets) self.new }
     {
+        self.readiness.offer(c, bytes.len(), self.has_read[c]);
         if self.has_to_wait(c, bytes.len()) {
             self.sockets.note_put_off(c, bytes.len());
             return IoResult::Bytes(0);

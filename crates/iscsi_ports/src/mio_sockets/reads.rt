@@ -19,6 +19,9 @@ use crate::socket_failure::SocketFailure;
 use crate::spares::give_back;
 use crate::stream_calls::{fill_from, read_from};
 
+/// A reader who has room for so many bytes is given them with no copy.
+const LARGE: usize = 65_536;
+
 impl MioSockets {
     /// Hands on what is ahead, with no call. Where nothing is, or there is no room for it, the read would wait.
     fn hand_on(&mut self, c: usize, buffer: &mut [u8]) -> Result<usize, SocketFailure>
@@ -80,7 +83,7 @@ impl MioSockets {
             ++ Read c (length buffer.new) (read_carried (moved result buffer.new)) ∷ [] }
         ensures unasked { unasked_in (⟦<MioSockets as SocketCalls>⟧.calls self.new) ≡ unasked_in (⟦<MioSockets as SocketCalls>⟧.calls self.old) }
         ensures readiness { readiness.new
-            ≡ after_taking c (given_in_all result (length (ahead_on c self.new.ahead.items))) 65536 readiness.old }
+            ≡ after_taking c (given_in_all result (length (ahead_on c self.new.ahead.items))) 65584 readiness.old }
     {
         let answer = fill_from(self.streams.as_mut_slice(), c, &mut ahead);
         readiness.took(c, answer, MOST_AHEAD);
@@ -115,7 +118,7 @@ impl MioSockets {
         if buffer.is_empty() || self.count_ahead(c) > 0 {
             return self.hand_on(c, buffer);
         }
-        if buffer.len() >= MOST_AHEAD {
+        if buffer.len() >= LARGE {
             return self.read_at_once(readiness, c, buffer);
         }
         match self.spares.take() {

@@ -13,7 +13,7 @@ pub returns-in-Some-clause-readiness : goal.returns-in-Some-clause-readiness
 returns-in-Some-clause-readiness c =
     let room : nat_lt 0 (length c.read_ahead.new.buffer) ≡ true = search rules in
     let none : nat_lt 0 (length (ahead_on c.args.c c.args.self.now.ahead.items)) ≡ false = search rules in
-    (65536, omega (arith, c.if-buffer-ge-MOST_AHEAD.false), rw (room, none) c.read_ahead.ensures.readiness)
+    (65584, omega (arith, c.if-buffer-ge-LARGE.false), rw (room, none) c.read_ahead.ensures.readiness)
 
 pub returns-in-None-clause-readiness : goal.returns-in-None-clause-readiness
 returns-in-None-clause-readiness c =

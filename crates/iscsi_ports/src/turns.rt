@@ -1,0 +1,140 @@
+//! Whose turn it is to be named, among the connections that send much.
+//!
+//! A connection is long from a write on that was offered 65,536 bytes or more, until fewer are offered after bytes of
+//! it were read. Of the long ones that are ready a poll names one, each in its turn: so the answers of one are on their
+//! way before those of the next are made, however many there are.
+
+ghost use Rattle.std.specs.Prelude.{◌≡◌, ◌<◌, ◌&&◌, not, false, ℕ, slice_set, IfSome};
+ghost use Rattle.iscsi_ports.specs.Flags.{flag_of};
+ghost use Rattle.iscsi_ports.specs.Turns.{no_turns, after_offer, counted_anew, looks_on as is_to_look_on, left_out_after, due_from, due_count, turn, TakesTurn};
+
+use crate::readiness::set_where;
+use connection_numbers::CONNECTIONS;
+
+/// A connection whose last write was offered as many bytes is long.
+const LONG: usize = 65_536;
+
+/// So many polls in a row that leave one out are counted at most: in as many each is named.
+const MOST_LEFT_OUT: u32 = 64;
+
+/// Which connections are long, and which of them is named next.
+#[derive(Clone, Copy, Debug)]
+pub(crate) struct Turns {
+    long: [bool; CONNECTIONS],
+    /// From this number on a poll looks for the next one.
+    cursor: usize,
+    /// So many polls in a row left out one that is ready since bytes were carried or there may have been more to read.
+    left_out: u32,
+}
+
+/// Counts a poll to which so many long connections were ready, of which it names one.
+fn left_out_after(due: usize, left_out: u32) -> u32
+    ensures { result ≡ left_out_after due left_out }
+{
+    if due <= 1 {
+        return 0;
+    }
+    MOST_LEFT_OUT.min(left_out.saturating_add(1))
+}
+
+impl Turns {
+    /// None is long.
+    pub(crate) fn new() -> Turns
+        ensures { result ≡ no_turns }
+    {
+        Turns {
+            long: [false; CONNECTIONS],
+            cursor: 0,
+            left_out: 0,
+        }
+    }
+
+    /// Takes note of how many bytes a write of a connection is offered.
+    pub(crate) fn offer(&mut self, c: usize, offered: usize, has_read: bool)
+        requires { c < 64 }
+        ensures { self.new ≡ after_offer c offered has_read self.old }
+    {
+        let is_long = offered >= LONG;
+        set_where(is_long || has_read, &mut self.long, c, is_long);
+    }
+
+    /// Takes note that a connection has come or was closed.
+    pub(crate) fn forget(&mut self, c: usize)
+        requires { c < 64 }
+        ensures { self.new ≡ record self.old { long = slice_set self.old.long c false } }
+    {
+        self.long[c] = false;
+    }
+
+    /// Counts the polls that leave one out anew, where something says so.
+    pub(crate) fn count_anew(&mut self, says: bool)
+        ensures { self.new ≡ counted_anew says self.old }
+    {
+        if says {
+            self.left_out = 0;
+        }
+    }
+
+    /// Whether the next poll is not to wait, since the last one left out a connection that is ready.
+    pub(crate) fn looks_on(&self) -> bool
+        ensures { result ≡ is_to_look_on self.now }
+    {
+        0 < self.left_out && self.left_out < MOST_LEFT_OUT
+    }
+
+    /// Returns the first long connection from this number on that is ready.
+    fn due_from(&self, ready: &[bool; CONNECTIONS], from: usize) -> Option<usize>
+        ensures first { result ≡ due_from ready.now self.now from }
+        ensures range { IfSome result (λ c. c < 64) }
+    {
+        for c in from..CONNECTIONS {
+            if ready[c] && self.long[c] {
+                return Some(c);
+            }
+        }
+        None
+    }
+
+    /// Returns the long connection whose turn it is, of those that are ready.
+    fn turn(&self, ready: &[bool; CONNECTIONS]) -> Option<usize>
+        ensures turn { result ≡ turn ready.now self.now }
+        ensures range { IfSome result (λ c. c < 64) }
+    {
+        match self.due_from(ready, self.cursor) {
+            Some(c) => Some(c),
+            None => self.due_from(ready, 0),
+        }
+    }
+
+    /// Takes the long connections from those that are ready. Returns how many these are.
+    fn pass_over(&self, named: &mut [bool; CONNECTIONS]) -> usize
+        ensures count { result ≡ due_count named.old self.now }
+        ensures named { (c : ℕ) → c < 64 → flag_of c named.new ≡ (flag_of c named.old && not (flag_of c self.now.long)) }
+    {
+        let mut count = 0;
+        for c in 0..CONNECTIONS {
+            if named[c] & self.long[c] {
+                count += 1;
+            }
+            named[c] &= !self.long[c];
+        }
+        count
+    }
+
+    /// Takes from those that are ready the long connections whose turn it is not.
+    pub(crate) fn take(&mut self, ready: &[bool; CONNECTIONS]) -> [bool; CONNECTIONS]
+        ensures { TakesTurn ready.now self.old self.new result }
+    {
+        let mut named = *ready;
+        let due = self.pass_over(&mut named);
+        self.left_out = left_out_after(due, self.left_out);
+        if due == 0 {
+            return named;
+        }
+        if let Some(c) = self.turn(ready) {
+            named[c] = true;
+            self.cursor = c + 1;
+        }
+        named
+    }
+}
