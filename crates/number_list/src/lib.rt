@@ -1,0 +1,14 @@
+//! A list of numbers that takes four bytes for each.
+//!
+//! ```text
+//!   all numbers below 2^32     |  7 |  9 | 12 |              four bytes each
+//!   one of 2^32 or more        |    7    |    9    |   2^32   |    eight bytes each from then on
+//! ```
+//!
+//! Promised: what clauses see of [`NumberList`] is the list of its numbers, however wide they are stored. Where an
+//! allocation fails nothing changes.
+#![tactic(auto)]
+
+mod list;
+
+pub use list::NumberList;
