@@ -1,5 +1,6 @@
 pub mod Parts
 pub mod Lists
+pub mod StringList
 pub mod PieceFaults
 pub mod Pieces
 pub mod Keys

@@ -1,5 +1,5 @@
 -- The text of pairs, and the value of a key, a pair at a time.
-use Rattle.std.proofs.Common.{◌≡◌, ℕ, ◌+◌, ◌<◌, cond, List, [], ◌∷◌, ◌++◌, length, take, drop, get_or, Some, refl, ap, ◌∙◌}
+use Rattle.std.proofs.Common.{◌≡◌, ℕ, ◌+◌, cond, List, [], ◌∷◌, ◌++◌, take, drop, Some, refl, ap, ◌∙◌}
 use Rattle.std.specs.Prelude.{slice_get, bytes_eq}
 use Rattle.std.proofs.lemmas.List.{take_more, drop_more, append-nil}
 use Rattle.std.proofs.lemmas.List.Concat.{flat_map-append}
@@ -15,6 +15,8 @@ text_more pairs at pair e =
     ∙ ap (λ (x : List ℕ). text_of (take at pairs) ++ x) (append-nil (spelled pair)))
 
 -- the pair at a place has the key, or the pairs behind it decide
-pub value_at : (key : List ℕ) (items : List Pair) (at : ℕ) (item : Pair) → at < length items → item ≡ get_or items at item
-    → value_of key (drop at items) ≡ cond (bytes_eq key item.0) (Some item.1) (value_of key (drop (at + 1) items))
-value_at key items at item lt e = rw (drop_more items at item lt, ← e) refl
+pub value_at : (key : List ℕ) (pairs : List Pair) (at : ℕ) (pair : Pair) → slice_get pairs at ≡ Some pair
+    → value_of key (drop at pairs) ≡ cond (bytes_eq key pair.0) (Some pair.1) (value_of key (drop (at + 1) pairs))
+value_at key pairs at pair e =
+    let within = slice_get_within pairs at pair e in
+    rw (drop_more pairs at pair within, get_or_from_slice_get pairs at pair pair e) refl

@@ -3,6 +3,7 @@ use Rattle.std.specs.Prelude.{◌≡◌, [], ◌∷◌, ◌++◌, Some, None, Ok
 use Rattle.std.specs.Str.{is_utf8, chars}
 use Rattle.iscsi_text.specs.declared.fault.TextFault.TheVariants as faults
 use Rattle.iscsi_text.specs.Pairs.{pieces, own_fault, text_pairs, text_of, value_of}
+use Rattle.iscsi_text.specs.StringList.{strings_in, pairs_of}
 
 -- ---- what is read
 
@@ -92,3 +93,9 @@ written = refl
 found : (value_of (codes "a") ((codes "A", codes "1") ∷ (codes "a", codes "2") ∷ (codes "a", codes "3") ∷ []) ≡ Some (codes "2"))
     × (value_of (codes "b") ((codes "a", codes "1") ∷ []) ≡ None)
 found = (refl, refl)
+
+-- ---- how pairs are kept
+
+-- in one text, by where each key and each value ends
+kept : pairs_of (strings_in (codes "a12b") 0 (1 ∷ 3 ∷ 4 ∷ 4 ∷ [])) ≡ (codes "a", codes "12") ∷ (codes "b", []) ∷ []
+kept = refl

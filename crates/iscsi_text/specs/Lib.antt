@@ -1,5 +1,6 @@
 pub mod Fault
 pub mod Pairs
+pub mod StringList
 pub mod Reading
 pub mod Laws
 pub mod ExamplesPairs

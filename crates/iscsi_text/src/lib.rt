@@ -16,6 +16,7 @@ mod fault;
 pub mod laws;
 mod list;
 mod reading;
+mod string_list;
 mod writing;
 
 pub use fault::TextFault;

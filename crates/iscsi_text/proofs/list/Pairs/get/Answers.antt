@@ -3,7 +3,7 @@ use Rattle.iscsi_text.proofs.Lists.{value_at}
 use Rattle.iscsi_text.proofs.list.Pairs.get.Goals as goal
 
 pub returns-then-eq : goal.returns-then-eq
-returns-then-eq c = grind (arith, value_at c.args.key.now c.deref-pair-items.result.now c.loop-pair.pair-index c.pair-item.result)
+returns-then-eq c = grind (arith, value_at c.args.key.now c.args.self.now c.loop-at.at _ c.pair.ensures)
 
-pub loop-pair-preserved : goal.loop-pair-preserved
-loop-pair-preserved c = grind (arith, value_at c.args.key.now c.deref-pair-items.result.now c.loop-pair.pair-index c.pair-item.result)
+pub loop-at-preserved : goal.loop-at-preserved
+loop-at-preserved c = grind (arith, value_at c.args.key.now c.args.self.now c.loop-at.at _ c.pair.ensures)

@@ -3,5 +3,5 @@ use Rattle.iscsi_text.specs.Pairs.{value_of}
 use Rattle.iscsi_text.proofs.list.Pairs.get.Given as goal
 
 -- the pairs that are left decide
-abbrev pub invariant-loop-pair : goal.invariant-loop-pair
-invariant-loop-pair l = value_of l.key (drop l.pair-index l.pair-items) ≡ value_of l.key l.self
+abbrev pub invariant-loop-at : goal.invariant-loop-at
+invariant-loop-at l = value_of l.key (drop l.at l.self) ≡ value_of l.key l.self
