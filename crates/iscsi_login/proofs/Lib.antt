@@ -1,6 +1,6 @@
 pub mod Numbers
 pub mod Lists
-pub mod Placed
+pub mod KeyTree
 pub mod After
 pub mod Ranges
 pub mod Replying

@@ -6,7 +6,7 @@ pub use Rattle.iscsi_pdu.specs.Answer
 pub use Rattle.iscsi_text.specs.Pairs
 pub use Rattle.scsi_sense.specs.Nexus
 pub mod Number
-pub mod Earlier
+pub mod KeyTree
 pub mod Keys
 pub mod Values
 pub mod Directory

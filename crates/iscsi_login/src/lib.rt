@@ -21,6 +21,7 @@ mod answer;
 mod directory;
 mod earlier;
 mod fault;
+mod key_tree;
 mod keys;
 pub mod laws;
 mod login;

@@ -1,9 +1,0 @@
-use Rattle.std.proofs.Common.{◌≡◌, true}
-use Rattle.iscsi_login.proofs.FirstText.{none_again}
-use Rattle.iscsi_login.proofs.earlier.places_of.Goals as goal
-
-pub returns : goal.returns
-returns c =
-    let none = c.new.ensures in
-    let is_new : c.in_ok-note.field-0 ≡ true = rw (none, none_again c.args.pairs.now) at c.in_ok-note.ensures.value in
-    rw none at (c.in_ok-note.ensures.noted is_new)
