@@ -1,7 +1,7 @@
 //! Why ports cannot be made.
 
 ghost use Rattle.std.specs.Prelude.{◌≡◌, ◌≢◌};
-ghost use Rattle.std.specs.IoError.{error_kind};
+ghost use Rattle.std.specs.IoError.{error_kind, raw_os_error};
 ghost use Rattle.iscsi_ports.specs.declared.bind_fault.BindFault.TheVariants as faults;
 
 use std::alloc::{AllocError, AllocFailed};
@@ -12,9 +12,10 @@ use thiserror::Error;
 /// Why nothing listens.
 #[derive(Clone, Copy, Debug, PartialEq, Eq, Error)]
 pub enum BindFault {
-    /// The text is no address with a port, or the system does not let the address be listened on.
+    /// The system does not let the address be listened on, and gives this number (errno(3)), or the text is no address
+    /// with a port, which has none.
     #[error("the address cannot be listened on")]
-    Socket,
+    Socket { code: Option<i32> },
     /// An allocation failed.
     #[error("out of memory")]
     Memory,
@@ -36,13 +37,15 @@ impl<T: Drop> From<AllocFailed<T>> for BindFault {
     }
 }
 
-/// What an error of the system is told as.
+/// Returns what an error of the system is told as.
 pub(crate) fn bind_fault(error: &io::Error) -> BindFault
     ensures memory { error_kind error.now ≡ ErrorKind.OutOfMemory → result ≡ faults.Memory }
-    ensures other { error_kind error.now ≢ ErrorKind.OutOfMemory → result ≡ faults.Socket }
+    ensures other { error_kind error.now ≢ ErrorKind.OutOfMemory → result ≡ faults.Socket (raw_os_error error.now) }
 {
     match error.kind() {
         ErrorKind::OutOfMemory => BindFault::Memory,
-        _ => BindFault::Socket,
+        _ => BindFault::Socket {
+            code: error.raw_os_error(),
+        },
     }
 }

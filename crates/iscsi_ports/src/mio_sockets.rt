@@ -70,10 +70,10 @@ impl MioSockets {
     pub(crate) fn listen(net: &impl Net, alloc: Global, text: &str) -> Result<MioSockets, BindFault>
         ensures asked { IfOk result (λ sockets. ⟦<MioSockets as SocketCalls>⟧.calls sockets ≡ Listening text.now ∷ []) }
         ensures spelled { IfOk result (λ sockets. (address : SocketAddr) × IsSocketText text.now address) }
-        ensures unspelled { ((address : SocketAddr) → ¬ (IsSocketText text.now address)) → IsErrOf result BindFault.Socket }
+        ensures unspelled { ((address : SocketAddr) → ¬ (IsSocketText text.now address)) → IsErrOf result (BindFault.Socket None) }
     {
         let Ok(address) = text.parse::<SocketAddr>() else {
-            return Err(BindFault::Socket);
+            return Err(BindFault::Socket { code: None });
         };
         let poll = Poll::new(net).map_err(|error| bind_fault(&error))?;
         let listener = watched(net, &poll, address).map_err(|error| bind_fault(&error))?;

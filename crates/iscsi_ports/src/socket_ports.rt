@@ -1,6 +1,6 @@
 //! Ports over sockets.
 
-ghost use Rattle.std.specs.Prelude.{◌≡◌, ◌<◌, ◌≤◌, ◌∷◌, ◌++◌, ℕ, List, [], Bool, true, false, length, Option, option_map, Result, IfOk, OnOk};
+ghost use Rattle.std.specs.Prelude.{◌≡◌, ◌<◌, ◌≤◌, ◌∷◌, ◌++◌, ℕ, List, [], Bool, true, false, length, Option, None, option_map, Result, IfOk, OnOk};
 ghost use Rattle.std.specs.Duration.{as_nanos};
 ghost use Rattle.std.specs.Io.{WritesAtMost};
 ghost use Rattle.std.specs.Net.Socket.{socket_ip, socket_port};
@@ -88,7 +88,7 @@ impl SocketPorts<MioSockets> {
         ensures tells { IfOk result (λ ports. ⟦<SocketPorts<MioSockets> as Ports>⟧.tells ports ≡ true) }
         ensures in_time { IfOk result (λ ports. AsksInTime (⟦<MioSockets as SocketCalls>⟧.calls ports.sockets) ports) }
         ensures spelled { IfOk result (λ ports. (value : SocketAddr) × IsSocketText address.now value) }
-        ensures unspelled { ((value : SocketAddr) → ¬ (IsSocketText address.now value)) → IsErrOf result BindFault.Socket }
+        ensures unspelled { ((value : SocketAddr) → ¬ (IsSocketText address.now value)) → IsErrOf result (BindFault.Socket None) }
     {
         let sockets = MioSockets::listen(net, alloc, address)?;
         Ok(SocketPorts {

@@ -53,5 +53,5 @@ replay_fault replays.OutOfMemory = faults.OutOfMemory
 
 -- why nothing listens
 abbrev pub bind_fault : BindFault → Fault
-bind_fault binds.Socket = faults.Socket
+bind_fault (binds.Socket code) = faults.Socket
 bind_fault binds.Memory = faults.OutOfMemory

@@ -134,7 +134,7 @@ impl From<BindFault> for Fault {
 
     fn from(error: BindFault) -> Fault {
         match error {
-            BindFault::Socket => Fault::Socket,
+            BindFault::Socket { .. } => Fault::Socket,
             BindFault::Memory => Fault::OutOfMemory,
         }
     }
