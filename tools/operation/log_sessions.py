@@ -15,6 +15,7 @@ CAME = re.compile(r"\S+ connection (\d+) from (\S+)$")
 LOGGED_IN = re.compile(r"(\S+) connection (\d+) logged in: initiator (\S+), (?:target (\S+)|(discovery)), TSIH \d+$")
 # A unit is not ready once a write of it has failed, and 04/4400 tells the next who asks. After 03/0C00 stands who wrote what.
 FAILED = re.compile(r"(\S+) target (\S+), unit (\d+): (03/0C00, [^;]*|04/4400, [^;]*)(?:; .*)?$")
+MISSING = re.compile(r"\S+ (\d+) lines (?:could not be written|left out)$")
 ROTATED = r"[.-][0-9][0-9.-]*(?:\.gz)?"  # what logrotate(8) puts after the name of a log
 SLACK = 1  # seconds by which the start of a process is known
 LIMIT = 10  # seconds that journalctl may take
@@ -55,14 +56,15 @@ def escaped(name):
 
 
 def in_lines(lines, started):
-    """The sessions of the addresses that came last, the failures, and whether the lines have the start of the process."""
-    sessions, came, failures, begins = {}, {}, {}, False
+    """The sessions of the addresses that came last, the failures, whether the lines have the start of the process, and how many
+    lines they say are missing."""
+    sessions, came, failures, begins, missing = {}, {}, {}, False, 0
     first = time.strftime("%Y-%m-%dT%H:%M:%S", time.gmtime(started - SLACK))
     for line in lines:
         if line[:len(first)] < first:
             continue  # of a process before this one
         if LISTENS.match(line):
-            sessions, came, failures, begins = {}, {}, {}, True
+            sessions, came, failures, begins, missing = {}, {}, {}, True, 0
         elif of_connection := CAME.match(line):
             came[of_connection[1]] = of_connection[2]
             sessions.pop(of_connection[2], None)
@@ -70,7 +72,9 @@ def in_lines(lines, started):
             sessions[came[login[2]]] = Session(login[3], login[4], seconds(login[1]))
         elif failed := FAILED.match(line):
             failures.setdefault((failed[2], int(failed[3])), Failure(seconds(failed[1]), failed[4]))
-    return sessions, failures, begins
+        elif lost := MISSING.match(line):
+            missing += int(lost[1])
+    return sessions, failures, begins, missing
 
 
 def files_of(path, started):
@@ -113,8 +117,10 @@ def told_by_journal(process, started):
 
 def told_in(source, lines, started):
     """What lines tell."""
-    sessions, failures, begins = in_lines(lines, started)
+    sessions, failures, begins, missing = in_lines(lines, started)
     notes = [] if begins else [f"the log does not go back to the start: {UNKNOWN} is not known of the time before it"]
+    if missing:
+        notes.append(f"the log lacks {missing} lines: {UNKNOWN} may be more than is shown")
     return Told(source, sessions, failures, notes)
 
 

@@ -1,5 +1,5 @@
 """A log whose file takes no more, as on a full disk: a line that was cut is ended before the next, those that were lost are
-counted once there is room, and targetd-status passes over both."""
+counted once there is room, and targetd-status says how many it does not know."""
 
 import resource
 import time
@@ -83,7 +83,8 @@ def ends_a_line_that_was_cut_and_counts_those_that_were_lost():
             assert text.startswith(cut + "\n" if taken else cut), text
             assert has_lost(lines_of(text[len(cut) + (taken > 0):]), name), text
         told = status_of(one.process)
-        assert (told["log"], told["notes"]) == (str(one.path), []), told
+        missing = f"the log lacks {3 * len(FRONTS)} lines: who has logged in and which units are not ready may be more than is shown"
+        assert (told["log"], told["notes"]) == (str(one.path), [missing]), told
         assert [(each["remote"], each["initiator"]) for each in told["connections"]] == [(named(one.steady), "a01")], told
 
 
@@ -93,9 +94,8 @@ def begins_another_file_by_what_was_lost_in_the_one_before():
             one.lose(30)
             remove()
             name = comes_and_goes(one.address)
-            # The system may give a new file the number of one that is gone; it begins by an empty line then.
             text = one.text()
-            assert has_lost(lines_of(text.removeprefix("\n")), name), text
+            assert has_lost(lines_of(text), name), text
 
 
 CHECKS = [

@@ -29,6 +29,8 @@ struct Identity {
 struct Opened {
     file: File,
     identity: Identity,
+    /// Nothing was in it.
+    was_empty: bool,
 }
 
 /// A file of lines. A write to it never waits for a reader.
@@ -63,7 +65,12 @@ fn open_file(rt: &impl Files<File = File>, path: &str) -> io::Result<Opened> {
         device: metadata.dev(),
         inode: metadata.ino(),
     };
-    Ok(Opened { file, identity })
+    let was_empty = metadata.len() == 0;
+    Ok(Opened {
+        file,
+        identity,
+        was_empty,
+    })
 }
 
 impl<'r, R: Files<File = File> + Clock> LogFile<'r, R> {
@@ -131,8 +138,10 @@ impl<'r, R: Files<File = File> + Clock> LogFile<'r, R> {
         }
         if !self.is_named() {
             self.opened = open_file(self.rt, self.path.as_str()).ok();
-            let identity = Some(self.opened.as_ref()?.identity);
-            self.is_torn = self.is_torn && self.last == identity;
+            let opened = self.opened.as_ref()?;
+            let identity = Some(opened.identity);
+            // A new file may have the inode of one that was removed.
+            self.is_torn = self.is_torn && self.last == identity && !opened.was_empty;
             self.last = identity;
         }
         let opened = self.opened.as_ref()?;
