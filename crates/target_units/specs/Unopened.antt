@@ -23,17 +23,22 @@ has_file_unit lun units = list_any (is_file_unit lun) units
 abbrev pub has_file_unit_at : List ℕ → ℕ → List TargetEntry → Bool
 has_file_unit_at name lun targets = list_any (λ target. bytes_eq target.name name && has_file_unit lun target.units) targets
 
+-- the unit of this number cannot be opened, whatever the cause
+abbrev pub IsDevice : ℕ → UnitFault → Type 0
+IsDevice lun (whys.Device told cause) = told ≡ lun
+IsDevice lun whys.Memory = ⊥
+
 -- the unit, which is in a file, cannot be opened, or an allocation failed
 abbrev pub IsFaultAt : UnitEntry → UnitFault → Type 0
-IsFaultAt unit (whys.Device lun) = is_file_unit lun unit ≡ true
+IsFaultAt unit (whys.Device lun cause) = is_file_unit lun unit ≡ true
 IsFaultAt unit whys.Memory = Unit {0}
 
 -- one of the units that are in files cannot be opened, or an allocation failed
 abbrev pub IsFaultIn : List UnitEntry → UnitFault → Type 0
-IsFaultIn units (whys.Device lun) = has_file_unit lun units ≡ true
+IsFaultIn units (whys.Device lun cause) = has_file_unit lun units ≡ true
 IsFaultIn units whys.Memory = Unit {0}
 
 -- the same, of the units of all targets
 abbrev pub IsUnopened : List TargetEntry → OpenFault → Type 0
-IsUnopened targets (faults.Device name lun) = has_file_unit_at (string_bytes name) lun targets ≡ true
+IsUnopened targets (faults.Device name lun cause) = has_file_unit_at (string_bytes name) lun targets ≡ true
 IsUnopened targets faults.Memory = Unit {0}

@@ -4,6 +4,7 @@ ghost use Rattle.std.specs.Prelude.{◌≡◌};
 ghost use Rattle.target_units.specs.declared.fault.UnitFault.TheVariants.{Memory as NoUnit};
 ghost use Rattle.target_units.specs.declared.fault.OpenFault.TheVariants.{Memory as NoTarget};
 
+use crate::cause::DeviceCause;
 use out_of_memory::Memory;
 use std::alloc::AllocFailed;
 use thiserror::Error;
@@ -13,7 +14,7 @@ use thiserror::Error;
 pub(crate) enum UnitFault {
     /// Its file cannot be read and written, or is no disk, or no tape of its capacity.
     #[error("unit {lun} cannot be opened")]
-    Device { lun: u8 },
+    Device { lun: u8, cause: DeviceCause },
     /// An allocation failed.
     #[error("out of memory")]
     Memory,
@@ -24,7 +25,11 @@ pub(crate) enum UnitFault {
 pub enum OpenFault {
     /// The unit of a target: its file cannot be read and written, or is no disk, or no tape of its capacity.
     #[error("unit {lun} of {target} cannot be opened")]
-    Device { target: String, lun: u8 },
+    Device {
+        target: String,
+        lun: u8,
+        cause: DeviceCause,
+    },
     /// An allocation failed.
     #[error("out of memory")]
     Memory,

@@ -12,10 +12,12 @@
 //! parameter of the contracts (`Start`).
 #![tactic(auto)]
 
+mod cause;
 mod fault;
 mod opening;
 mod store;
 
+pub use cause::DeviceCause;
 pub use fault::OpenFault;
 pub use opening::{OpenedTargets, open};
 pub use store::{MediumStore, SystemStore};

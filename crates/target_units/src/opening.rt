@@ -6,12 +6,13 @@ ghost use Rattle.std.specs.List.{list_all};
 ghost use Rattle.target_config.specs.Configuration.{natural, names_of, unit_view, units_view, targets_view, configuration_view};
 ghost use Rattle.target_config.specs.Limits.{is_lun, unit_keeps, keeps_limits};
 ghost use Rattle.target_units.specs.Opened.{zero_disk, empty_tape, IsFileDisk, IsFileTape, IsUnitOf, AreEach, AreUnitsOf};
-ghost use Rattle.target_units.specs.Unopened.{IsFaultAt, IsFaultIn, IsUnopened};
-ghost use Rattle.target_units.specs.declared.fault.UnitFault.TheVariants.{Device, Memory as OutOfMemory};
+ghost use Rattle.target_units.specs.Unopened.{IsDevice, IsFaultAt, IsFaultIn, IsUnopened};
+ghost use Rattle.target_units.specs.declared.fault.UnitFault.TheVariants.{Memory as OutOfMemory};
 
+use crate::cause::DeviceCause;
 use crate::fault::{OpenFault, UnitFault};
 use crate::store::{MediumStore, SystemStore};
-use media_block::{BLOCK_LENGTH, Disk};
+use media_block::{BLOCK_LENGTH, Disk, DiskOpenFault};
 use media_store::{FileStore, MemStore, Start, Store, SystemFile};
 use media_tape::{Tape, TapeOpenFault};
 use out_of_memory::Memory;
@@ -66,15 +67,29 @@ fn memory_tape<F: Store + Drop>(
     }
 }
 
-/// What an error of the system at the file of a unit is told as.
+/// Returns what an error of the system at the file of a unit is told as.
 fn fault_of(error: &io::Error, lun: u8) -> UnitFault
     ensures memory { error_kind error.now ≡ ErrorKind.OutOfMemory → result ≡ OutOfMemory }
-    ensures other { error_kind error.now ≢ ErrorKind.OutOfMemory → result ≡ Device lun }
+    ensures other { error_kind error.now ≢ ErrorKind.OutOfMemory → IsDevice lun result }
 {
     match error.kind() {
         ErrorKind::OutOfMemory => UnitFault::Memory,
-        _ => UnitFault::Device { lun },
+        _ => UnitFault::Device {
+            lun,
+            cause: DeviceCause::of_error(error),
+        },
     }
+}
+
+/// Returns what a store that is not opened as a disk is told as.
+fn disk_fault(fault: DiskOpenFault, lun: u8) -> UnitFault
+    ensures { IsDevice lun result }
+{
+    let cause = match fault {
+        DiskOpenFault::Length => DeviceCause::Length,
+        DiskOpenFault::Device => DeviceCause::Unread,
+    };
+    UnitFault::Device { lun, cause }
 }
 
 /// A disk in the file at a path, which is opened for reading and writing. None is made.
@@ -84,27 +99,28 @@ fn file_disk<S: Start>(
     lun: u8,
 ) -> Result<Disk<SystemStore<S>>, UnitFault>
     ensures disk { IfOk result (IsFileDisk (S.held (string_bytes path))) }
-    ensures fault { IfErr result (λ why. why ≢ OutOfMemory → why ≡ Device lun) }
+    ensures fault { IfErr result (λ why. why ≢ OutOfMemory → IsDevice lun why) }
 {
     match SystemFile::open(rt, path.as_str()) {
         Ok(file) => match Disk::open(MediumStore::File(FileStore::new(file))) {
             Ok(disk) => Ok(disk),
-            Err(_) => Err(UnitFault::Device { lun }),
+            Err(refused) => Err(disk_fault(refused.fault, lun)),
         },
         Err(error) => Err(fault_of(&error, lun)),
     }
 }
 
-/// What a store that is not opened as a tape is told as.
+/// Returns what a store that is not opened as a tape is told as.
 fn tape_fault(fault: TapeOpenFault, lun: u8) -> UnitFault
-    ensures { result ≢ OutOfMemory → result ≡ Device lun }
+    ensures { result ≢ OutOfMemory → IsDevice lun result }
 {
-    match fault {
-        TapeOpenFault::OutOfMemory => UnitFault::Memory,
-        TapeOpenFault::TornEnd(_) | TapeOpenFault::Device | TapeOpenFault::TooLong => {
-            UnitFault::Device { lun }
-        }
-    }
+    let cause = match fault {
+        TapeOpenFault::OutOfMemory => return UnitFault::Memory,
+        TapeOpenFault::TornEnd(at) => DeviceCause::Torn { at },
+        TapeOpenFault::Device => DeviceCause::Unread,
+        TapeOpenFault::TooLong => DeviceCause::TooLong,
+    };
+    UnitFault::Device { lun, cause }
 }
 
 /// A tape in the file at a path, which is opened for reading and writing. None is made.
@@ -116,7 +132,7 @@ fn file_tape<S: Start>(
     lun: u8,
 ) -> Result<Tape<SystemStore<S>>, UnitFault>
     ensures tape { IfOk result (IsFileTape capacity early (S.held (string_bytes path))) }
-    ensures fault { IfErr result (λ why. why ≢ OutOfMemory → why ≡ Device lun) }
+    ensures fault { IfErr result (λ why. why ≢ OutOfMemory → IsDevice lun why) }
 {
     match SystemFile::open(rt, path.as_str()) {
         Ok(file) => {
@@ -202,10 +218,11 @@ pub fn open<S: Start>(
     for target in configuration.targets {
         match open_units(rt, target.units) {
             Ok(opened) => units.push(opened)?,
-            Err(UnitFault::Device { lun }) => {
+            Err(UnitFault::Device { lun, cause }) => {
                 return Err(OpenFault::Device {
                     target: target.name,
                     lun,
+                    cause,
                 });
             }
             Err(UnitFault::Memory) => return Err(OpenFault::Memory),

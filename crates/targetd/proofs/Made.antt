@@ -36,5 +36,5 @@ known_is config document names listen = rw (names, listen) refl
 -- ---- why nothing is made
 
 pub unopened_told : (targets : List TargetEntry) (why : OpenFault) → AreUnopened targets why → IsUnopened targets (opening_fault why)
-unopened_told targets (opens.Device name lun) is = is
+unopened_told targets (opens.Device name lun cause) is = is
 unopened_told targets opens.Memory is = tt

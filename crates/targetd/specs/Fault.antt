@@ -41,7 +41,7 @@ config_fault fault = numbered (number_of fault)
 
 -- why units are not opened
 abbrev pub opening_fault : OpenFault → Fault
-opening_fault (opens.Device target lun) = faults.Device target lun
+opening_fault (opens.Device target lun cause) = faults.Device target lun
 opening_fault opens.Memory = faults.OutOfMemory
 
 -- why a replay ended

@@ -110,7 +110,7 @@ impl From<OpenFault> for Fault {
 
     fn from(error: OpenFault) -> Fault {
         match error {
-            OpenFault::Device { target, lun } => Fault::Device { target, lun },
+            OpenFault::Device { target, lun, .. } => Fault::Device { target, lun },
             OpenFault::Memory => Fault::OutOfMemory,
         }
     }
