@@ -199,7 +199,7 @@ def tells_a_read_that_failed():
         client.sendall(read_10(125, 1, 1))
         assert len(read(client, 68)) == 68
         assert lines_in(path, 4)[-1] == (
-            "target t1, unit 0: 03/1100, a read failed; connection 0, initiator a, READ (10) of 1 blocks from 1")
+            "target t1, unit 0: 03/1100, a read failed; connection 0, initiator a01, READ (10) of 1 blocks from 1")
 
 
 def tells_a_write_that_failed_and_once_that_the_unit_is_not_ready():
@@ -217,9 +217,57 @@ def tells_a_write_that_failed_and_once_that_the_unit_is_not_ready():
                 status_of(client, f"[TEST-UNIT-READY F ITT={number} CmdSN={number}]")
             client.sendall(notation.data(LOGOUT.replace("125", "128"), {}))
             assert lines_in(path, 6)[-3:] == [
-                "target t1, unit 0: 03/0C00, a write failed; connection 0, initiator a, WRITE (10) of 1 blocks from 0",
+                "target t1, unit 0: 03/0C00, a write failed; connection 0, initiator a01, WRITE (10) of 1 blocks from 0",
                 "target t1, unit 0: 04/4400, it is not ready until the next start",
                 "session of connection 0 ended: logout"]
+
+
+def start_fault(folder, listen, units):
+    """What a start that fails prints, and what the log has of it then, without its time."""
+    log = Path(folder) / "log"
+    log.unlink(missing_ok=True)
+    with started(listen, units=f'log = "{log}"\n{units}') as process:
+        status, printed, line = ended(process)
+    assert (status, printed) == (3, "")
+    return line, [line.partition(" ")[2] for line in log.read_text(encoding="ascii").splitlines()]
+
+
+def says_why_nothing_is_served():
+    device, torn = "targetd: device fault at t1 unit 0\n", bytes.fromhex("00000200") + bytes(100)
+    tape = UNITS.replace('"disk"', '"tape"').replace("blocks = 8", 'capacity = 2000\nearly = 1000\nfile = "{}"')
+    disk = UNITS.replace("blocks = 8", 'file = "{}"')
+    with tempfile.TemporaryDirectory() as folder, socket.socket() as taken:
+        file = Path(folder) / "file"
+        for units, content, why in ((disk, bytes(1000), "the length of its file is no positive multiple of 512 bytes"),
+                                    (tape, torn, "its last item, at byte 0, is torn"),
+                                    (tape, bytes(2008), "its file is longer than its capacity")):
+            file.write_bytes(content)
+            assert start_fault(folder, "127.0.0.1:0", units.format(file)) == (device, [f"device fault at t1 unit 0: {why}"])
+            assert file.read_bytes() == content
+        file.write_bytes(bytes(1024))
+        with open(file, "rb") as held:
+            fcntl.flock(held, fcntl.LOCK_EX)
+            assert start_fault(folder, "127.0.0.1:0", disk.format(file)) == (
+                device, ["device fault at t1 unit 0: another process or unit has its file open"])
+        for path, why in ((f"{folder}/none", "No such file or directory (os error 2)"),
+                          (folder, "Is a directory (os error 21)")):
+            assert start_fault(folder, "127.0.0.1:0", disk.format(path)) == (device, [f"device fault at t1 unit 0: {why}"])
+        taken.bind(("127.0.0.1", 0))
+        taken.listen()
+        used = f"127.0.0.1:{taken.getsockname()[1]}"
+        for listen, why in ((used, "Address already in use (os error 98)"), ("nonsense", "it is no address with a port")):
+            assert start_fault(folder, listen, UNITS) == ("targetd: socket fault\n", [f"socket fault at {listen}: {why}"])
+
+
+def writes_no_line_into_the_file_of_a_unit_as_the_start_fails():
+    with tempfile.TemporaryDirectory() as folder:
+        file, other = Path(folder) / "file", Path(folder) / "other"
+        file.write_bytes(bytes(1000))
+        other.hardlink_to(file)
+        for log in (file, other, f"{folder}/../{Path(folder).name}/file"):
+            with started("127.0.0.1:0", units=f'log = "{log}"\n' + UNITS.replace("blocks = 8", f'file = "{file}"')) as process:
+                assert ended(process) == (3, "", "targetd: device fault at t1 unit 0\n"), log
+            assert file.read_bytes() == bytes(1000), log
 
 
 def says_that_a_log_cannot_be_opened_before_it_serves():
@@ -323,6 +371,8 @@ CHECKS = [
     tells_a_task_management_function_and_its_answer,
     tells_a_read_that_failed,
     tells_a_write_that_failed_and_once_that_the_unit_is_not_ready,
+    says_why_nothing_is_served,
+    writes_no_line_into_the_file_of_a_unit_as_the_start_fails,
     says_that_a_log_cannot_be_opened_before_it_serves,
     appends_and_begins_anew_where_the_file_is_moved_or_removed,
     goes_on_where_the_log_takes_nothing,

@@ -3,7 +3,7 @@
 //! [`ObservedPorts`] are ports whose calls an [`Observer`] is told of. They tell what the ports below them tell, so what is
 //! proved of a loop over ports is proved of one that is observed, whatever the observer does.
 //!
-//! [`SessionLog`] is the observer that writes lines. It reads the headers of the PDUs that pass, and of data segments no
+//! [`tell_start_fault`] writes the one line of a start that failed. [`SessionLog`] is the observer that writes lines. It reads the headers of the PDUs that pass, and of data segments no
 //! more than the text of logins and the front of sense data. Of what its lines say only the escaping of names is proved:
 //! what an initiator sends makes no line of its own.
 #![tactic(auto)]
@@ -21,8 +21,10 @@ mod operation;
 mod pdu_stream;
 mod sense;
 mod session_log;
+mod start_fault;
 mod tasks;
 
 pub use log_file::LogFile;
 pub use observed::{ObservedPorts, Observer};
 pub use session_log::SessionLog;
+pub use start_fault::tell_start_fault;

@@ -55,7 +55,7 @@ pub struct SessionLog<'r, R: Files<File = File> + Clock> {
 }
 
 /// A time in UTC, as RFC 3339 has it.
-fn utc(alloc: Global, second: u64) -> Option<String> {
+pub(crate) fn utc(alloc: Global, second: u64) -> Option<String> {
     let timestamp = Timestamp::from_second(i64::try_from(second).ok()?).ok()?;
     timestamp.strftime(alloc, "%Y-%m-%dT%H:%M:%SZ").ok()
 }

@@ -28,6 +28,7 @@
 #![tactic(auto)]
 
 mod arguments;
+mod causes;
 mod fault;
 mod help;
 mod left;

@@ -6,12 +6,14 @@ ghost use Rattle.target_config.specs.Limits.{keeps_limits};
 ghost use Rattle.target_units.specs.Opened.{AreUnitsOf};
 ghost use Rattle.targetd.specs.Unopened.{IsUnopened};
 
+use crate::causes::Causes;
 use crate::fault::Fault;
 use iscsi_target::Config;
 use media_store::Start;
 use scsi_unit::Units;
 use std::fs::File;
-use std::rt::Files;
+use std::net::Net;
+use std::rt::{Clock, Files};
 use target_config::Configuration;
 use target_units::{OpenedTargets, SystemStore};
 
@@ -25,6 +27,28 @@ pub struct Setup<S: Start> {
     pub units: Vec<Units<SystemStore<S>>>,
 }
 
+/// Returns what a target is made with, of a configuration whose units are opened.
+fn setup_of<S: Start>(opened: OpenedTargets<S>) -> Setup<S>
+    ensures listen { result.config.listen ≡ opened.listen }
+    ensures names { result.config.targets ≡ opened.names }
+    ensures units { result.units ≡ opened.units }
+{
+    let OpenedTargets {
+        listen,
+        log,
+        names,
+        units,
+    } = opened;
+    Setup {
+        config: Config {
+            listen,
+            targets: names,
+        },
+        log,
+        units,
+    }
+}
+
 /// Opens the units of all targets, in the order of the configuration.
 pub fn open<S: Start>(
     rt: &(impl Files<File = File> + AllocGlobal),
@@ -36,18 +60,26 @@ pub fn open<S: Start>(
     ensures units { IfOk result (λ setup. AreUnitsOf S.held (targets_view configuration.targets.items) setup.units.items) }
     ensures fault { IfErr result (IsUnopened (targets_view configuration.targets.items)) }
 {
-    let OpenedTargets {
-        listen,
-        log,
-        names,
-        units,
-    } = target_units::open(rt, configuration)?;
-    Ok(Setup {
-        config: Config {
-            listen,
-            targets: names,
-        },
-        log,
-        units,
-    })
+    Ok(setup_of(target_units::open(rt, configuration)?))
+}
+
+/// Does the same, and tells the log why units are not opened.
+pub fn open_telling<S: Start>(
+    rt: &(impl Files<File = File> + AllocGlobal + Net + Clock),
+    configuration: Configuration,
+    causes: &Causes,
+) -> Result<Setup<S>, Fault>
+    requires { keeps_limits (configuration_view configuration) ≡ true }
+    ensures listen { IfOk result (λ setup. string_bytes setup.config.listen ≡ string_bytes configuration.listen) }
+    ensures names { IfOk result (λ setup. map string_bytes setup.config.targets.items ≡ names_of (targets_view configuration.targets.items)) }
+    ensures units { IfOk result (λ setup. AreUnitsOf S.held (targets_view configuration.targets.items) setup.units.items) }
+    ensures fault { IfErr result (IsUnopened (targets_view configuration.targets.items)) }
+{
+    match target_units::open(rt, configuration) {
+        Ok(opened) => Ok(setup_of(opened)),
+        Err(fault) => {
+            causes.tell_unopened(rt, rt.alloc(), &fault);
+            Err(Fault::from(fault))
+        }
+    }
 }

@@ -1,6 +1,7 @@
 //! A whole run: its words, its configuration, its target, its lines or its turns.
 
-ghost use Rattle.std.specs.Prelude.{◌≡◌, OnOk, OnErr, IsOkUnless, map, string_bytes};
+ghost use Rattle.std.specs.Prelude.{◌≡◌, ◌⊎◌, ◌∷◌, [], IfOk, IfErr, OnOk, OnErr, IsOkUnless, map, string_bytes};
+ghost use Rattle.iscsi_ports.specs.Log.{Listened};
 ghost use Rattle.standard_streams.specs.Streams.{AreTaken, AreLacking};
 ghost use Rattle.command_line.specs.Help.{calls_for_help};
 ghost use Rattle.command_line.specs.Words.{mode_in};
@@ -8,11 +9,12 @@ ghost use Rattle.target_config.specs.Config.{file_config_of};
 ghost use Rattle.targetd.specs.Left.{left_view};
 ghost use Rattle.targetd.specs.Run.{Replays, ServesAt, Runs};
 
+use crate::causes::Causes;
 use crate::fault::Fault;
 use crate::help::refuse_words;
 use crate::left::{Left, Served};
 use crate::logging::serve_logged;
-use crate::opening::{Setup, open};
+use crate::opening::{Setup, open, open_telling};
 use command_line::{Mode, WordsFault, as_texts, mode_of};
 use iscsi_ports::{MioPorts, Ports};
 use iscsi_target::Target;
@@ -64,6 +66,24 @@ fn replay_at<S: Start, R: Read, W: Write>(
     Ok(())
 }
 
+/// Listens on an address, and tells the log why it is not listened on.
+fn listen(
+    rt: &(impl Files<File = File> + AllocGlobal + Net + Clock),
+    address: &str,
+    causes: &Causes,
+) -> Result<MioPorts, Fault>
+    ensures log { IfOk result (λ ports. ⟦<MioPorts as Ports>⟧.log ports ≡ Listened address.now ∷ []) }
+    ensures fault { IfErr result (λ fault. (fault ≡ Fault.Socket) ⊎ (fault ≡ Fault.OutOfMemory)) }
+{
+    match MioPorts::new(rt, rt.alloc(), address, None) {
+        Ok(ports) => Ok(ports),
+        Err(fault) => {
+            causes.tell_unbound(rt, rt.alloc(), address, fault);
+            Err(Fault::from(fault))
+        }
+    }
+}
+
 /// Serves at the configuration whose file has these contents, for so many turns.
 fn serve_at<S: Start, W: Write>(
     rt: &(impl Files<File = File> + AllocGlobal + Net + Clock),
@@ -79,8 +99,9 @@ fn serve_at<S: Start, W: Write>(
 {
     let alloc = rt.alloc();
     let configuration = file_config(alloc, contents)?;
-    let Setup { config, log, units } = open(rt, configuration)?;
-    let mut ports = MioPorts::new(rt, alloc, config.listen.as_str(), None)?;
+    let causes = Causes::of(alloc, &configuration);
+    let Setup { config, log, units } = open_telling(rt, configuration, &causes)?;
+    let mut ports = listen(rt, config.listen.as_str(), &causes)?;
     let Ok(address) = ports.address() else {
         return Err(Fault::Socket);
     };

@@ -10,8 +10,8 @@ use Rattle.targetd.proofs.Made.{as_many, known_is}
 use Rattle.targetd.proofs.Ending.{serving, serving_starves}
 use Rattle.targetd.proofs.run.serve_at.Goals as goal
 
-pub new-requires-2 : goal.new-requires-2
-new-requires-2 g c =
+pub new-requires : goal.new-requires
+new-requires g c =
     as_many g.S.Start.held (targets_view c.in_ok-configuration.configuration.targets.items) c.in_ok-config.field-0.units.items
     c.in_ok-config.field-0.config.targets.items c.in_ok-config.ensures.units c.in_ok-config.ensures.names
 

@@ -1,0 +1,46 @@
+//! Why nothing is served, as one line of the log.
+
+use crate::lines;
+use crate::log_file::LogFile;
+use crate::session_log::utc;
+use std::alloc::Global;
+use std::fs::{self, File};
+use std::net::Net;
+use std::os::unix::fs::MetadataExt;
+use std::rt::{Clock, Files};
+
+/// Whether two paths name one file.
+fn are_one_file(rt: &impl Files<File = File>, one: &str, other: &str) -> bool {
+    match (fs::metadata(rt, one), fs::metadata(rt, other)) {
+        (Ok(one), Ok(other)) => one.dev() == other.dev() && one.ino() == other.ino(),
+        _ => false,
+    }
+}
+
+/// Appends a line to the log at this path, or writes it to standard error for `-`. Nothing is written where the path
+/// names one of the files of units, which may not be locked now. A line that cannot be written is lost.
+pub fn tell_start_fault(
+    rt: &(impl Files<File = File> + Net + Clock),
+    alloc: Global,
+    path: &str,
+    units: &[String],
+    text: &str,
+) {
+    for unit in units {
+        if are_one_file(rt, path, unit.as_str()) {
+            return;
+        }
+    }
+    let Ok(path) = String::from_str(alloc, path) else {
+        return;
+    };
+    let Ok(mut file) = LogFile::open(rt, rt, alloc, path) else {
+        return;
+    };
+    let Some(time) = utc(alloc, file.seconds()) else {
+        return;
+    };
+    if let Ok(line) = lines::timed(alloc, time.as_str(), text) {
+        let _ = file.put(line.as_str());
+    }
+}
