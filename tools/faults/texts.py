@@ -15,7 +15,7 @@ from sockets.logins import NAMES, request
 FEW, MANY = 20, 400  # keys of a text
 MOST = 16_415  # keys that a text of 65,536 bytes can have
 PAIRS = (15, 16, 17, 31, 32, 33)  # of a text, of which one comes again
-STEP = 997  # between two allocations of a long text that fail
+STEP = 53  # between two allocations of a long text that fail
 FAILING = {"call": "allocation", "error": errno.ENOMEM}
 ASCII = [chr(code) for code in range(1, 128) if chr(code) != "="]
 
