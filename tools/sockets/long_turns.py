@@ -5,7 +5,7 @@ import signal
 import threading
 
 from sockets.loopback import (CONNECTIONS, READY_AGAIN, answer_of, connect, disk_file, held_clients, is_answered,
-                              is_answered_at_last, read, read_10, reset, serving)
+                              is_answered_at_last, read, read_10, reset, serving, writing)
 from wire import notation, pdu
 
 LENGTH = 1 << 20  # bytes of the disk
@@ -106,6 +106,24 @@ def gives_each_of_8_that_read_much_its_turn():
         assert 4 <= min(counts) and max(counts) < QUEUED, counts
 
 
+def writes_much_among_those_that_read_much():
+    chance = random.Random(12)
+    front = chance.randbytes(512 * BLOCKS)
+    with disk_file(front + bytes(LENGTH - len(front))) as (_, units), serving(units=units) as (_, address):
+        readers = [logged_in(address, number) for number in range(20)]
+        for client in readers:
+            client.sendall(reads(4, BLOCKS))
+        for number in range(8):
+            writer, content = logged_in(address, 20 + number), chance.randbytes(512 * BLOCKS)
+            *_, status = writing(writer, 125, 2 * BLOCKS, content)
+            writer.sendall(read_10(126, 2 * BLOCKS, BLOCKS))
+            assert (status, answer_of(writer)) == (0, (content, 0, b"")), number
+            writer.close()
+        for client in readers:
+            for _ in range(4):
+                assert answer_of(client) == (front, 0, b"")
+
+
 def logs_in_one_after_the_other_beside_those_that_read_much():
     with disk_file(bytes(LENGTH)) as (_, units), serving(units=units) as (_, address):
         much = [logged_in(address, number) for number in range(40)]
@@ -120,5 +138,6 @@ CHECKS = [
     answers_each_of_64_that_read_much,
     answers_one_that_asks_for_little_beside_63_that_read_much,
     gives_each_of_8_that_read_much_its_turn,
+    writes_much_among_those_that_read_much,
     logs_in_one_after_the_other_beside_those_that_read_much,
 ]
