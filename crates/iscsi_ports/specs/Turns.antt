@@ -10,7 +10,7 @@ use Rattle.iscsi_ports.specs.declared.turns.Turns.{Turns}
 abbrev pub no_turns : Turns
 no_turns = record { long = none_of; cursor = 0; left_out = 0 }
 
--- own: a write of so many bytes is a long one
+-- own: a write that is offered this number of bytes is a long one
 abbrev pub is_long : ℕ → Bool
 is_long offered = nat_le 65536 offered
 
@@ -52,7 +52,7 @@ abbrev pub cursor_after : Option ℕ → ℕ → ℕ
 cursor_after None cursor = cursor
 cursor_after (Some chosen) cursor = chosen + 1
 
--- own: how many polls in a row left one out, after one to which so many long ones were ready
+-- own: the number of polls in a row that left one out, after a poll for which this number of long ones were ready
 abbrev pub left_out_after : ℕ → ℕ → ℕ
 left_out_after due left_out = if nat_le due 1 then 0 else min (left_out + 1) 64
 

@@ -15,7 +15,7 @@ ghost use Rattle.iscsi_ports.specs.Readiness.{forgotten, IsReadBy};
 ghost use Rattle.iscsi_ports.specs.Polls.{IsNoLonger};
 ghost use Rattle.iscsi_ports.specs.Asking as asking;
 ghost use Rattle.iscsi_ports.specs.Asking.{asks_now, wait_now, AsksInTime, after_asking, after_naming, after_accepting, after_reading, after_offering, after_writing, rested};
-ghost use Rattle.iscsi_ports.specs.Turns.{IsNamed, IsFair};
+ghost use Rattle.iscsi_ports.specs.Turns.{Names, IsNamed, IsFair};
 
 use crate::asking::{
     MOST_UNASKED, carried_after, gave, goes_on, is_due, is_put_off, is_refused, is_to_go_on,
@@ -235,6 +235,7 @@ impl<K: SocketCalls + Drop> Ports for SocketPorts<K> {
             → K.calls self.new.sockets ≡ Naming self.new.readiness.named ∷ K.calls self.old.sockets }
         ensures after_naming { asks_now self.new.stopwatch.has_passed self.old ≡ false
             → self.new ≡ after_naming self.new.sockets self.new.readiness self.new.stopwatch self.old }
+        ensures known { asks_now self.new.stopwatch.has_passed self.old ≡ false → Names (rested self.old) self.new.readiness }
         ensures turn { OnOk result (IsNamed (rested self.old) self.new.readiness) }
         ensures named { IfOk result (λ named. named ≡ self.new.readiness.named) }
         ensures fair { OnOk result (IsFair self.old.readiness self.new.readiness) }

@@ -14,7 +14,7 @@ use connection_numbers::CONNECTIONS;
 /// A connection whose last write was offered as many bytes is long.
 const LONG: usize = 65_536;
 
-/// So many polls in a row that leave one out are counted at most: in as many each is named.
+/// The most polls in a row that leave one out that are counted: within as many each is named.
 const MOST_LEFT_OUT: u32 = 64;
 
 /// Which connections are long, and which of them is named next.
@@ -23,11 +23,12 @@ pub(crate) struct Turns {
     long: [bool; CONNECTIONS],
     /// From this number on a poll looks for the next one.
     cursor: usize,
-    /// So many polls in a row left out one that is ready since bytes were carried or there may have been more to read.
+    /// The number of polls in a row that left out one that is ready, since bytes were carried or an event told of more to
+    /// read.
     left_out: u32,
 }
 
-/// Counts a poll to which so many long connections were ready, of which it names one.
+/// Counts a poll for which this number of long connections were ready, of which it names one.
 fn left_out_after(due: usize, left_out: u32) -> u32
     ensures { result ≡ left_out_after due left_out }
 {

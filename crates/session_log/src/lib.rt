@@ -3,9 +3,9 @@
 //! [`ObservedPorts`] are ports whose calls an [`Observer`] is told of. They tell what the ports below them tell, so what is
 //! proved of a loop over ports is proved of one that is observed, whatever the observer does.
 //!
-//! [`tell_start_fault`] writes the one line of a start that failed. [`SessionLog`] is the observer that writes lines. It reads the headers of the PDUs that pass, and of data segments no
+//! [`SessionLog`] is the observer that writes lines. It reads the headers of the PDUs that pass, and of data segments no
 //! more than the text of logins and the front of sense data. Of what its lines say only the escaping of names is proved:
-//! what an initiator sends makes no line of its own.
+//! what an initiator sends makes no line of its own. [`tell_start_fault`] writes the one line of a start that failed.
 #![tactic(auto)]
 
 mod answer;

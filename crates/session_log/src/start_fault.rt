@@ -9,7 +9,7 @@ use std::net::Net;
 use std::os::unix::fs::MetadataExt;
 use std::rt::{Clock, Files};
 
-/// Whether two paths name one file.
+/// Returns whether two paths name one file.
 fn are_one_file(rt: &impl Files<File = File>, one: &str, other: &str) -> bool {
     match (fs::metadata(rt, one), fs::metadata(rt, other)) {
         (Ok(one), Ok(other)) => one.dev() == other.dev() && one.ino() == other.ino(),

@@ -19,7 +19,7 @@ use crate::socket_failure::SocketFailure;
 use crate::spares::give_back;
 use crate::stream_calls::{fill_from, read_from};
 
-/// A reader who has room for so many bytes is given them with no copy.
+/// From this room on a reader is given what the system has with no copy.
 const LARGE: usize = 65_536;
 
 impl MioSockets {
