@@ -1,10 +1,14 @@
 //! Where bytes differ.
 
-ghost use Rattle.std.specs.Prelude.{◌≡◌, ◌<◌, length, IfSome};
+ghost use Rattle.std.specs.Prelude.{◌≡◌, ◌+◌, ◌<◌, ◌≤◌, ◌^◌, ◌++◌, length, take, slice_range, IsTrue, IsOk, IfOk, IfSome};
+ghost use Rattle.media_store.specs.Failures.{counted};
 ghost use Rattle.media_block.specs.Blocks.{first_difference};
 
-/// The least index at which bytes differ from others, of which there are as many.
-pub(crate) fn difference(held: &[u8], bytes: &[u8]) -> Option<usize>
+use data_parts::Data;
+use media_store::{Store, StoreFault};
+
+/// Returns the least index at which bytes differ from others, of which there are as many.
+fn difference(held: &[u8], bytes: &[u8]) -> Option<usize>
     requires { length held.now ≡ length bytes.now }
     ensures least { result ≡ first_difference held.now bytes.now }
     ensures within { IfSome result (λ at. at < length held.now) }
@@ -19,4 +23,55 @@ pub(crate) fn difference(held: &[u8], bytes: &[u8]) -> Option<usize>
         }
     }
     None
+}
+
+/// Returns the bytes that lie together at the front of some bytes and the data after them, and what follows.
+fn next_slice<'a>(bytes: &'a [u8], behind: Data<'a>) -> (&'a [u8], Data<'a>)
+    ensures joined { bytes.now ++ behind.entry ≡ result.0.now ++ result.1 }
+    ensures some { 0 < length (bytes.now ++ behind.entry) → 0 < length result.0.now }
+{
+    if bytes.is_empty() {
+        return behind.split_front();
+    }
+    (bytes, behind)
+}
+
+/// Returns the least index at which bytes within the content differ from those in front of the data, slice by slice. They
+/// are read into a buffer, as many at once as it has room for.
+pub(crate) fn compare_data<S: Store>(
+    store: &mut S,
+    at: u64,
+    count: u64,
+    data: &Data,
+    held: &mut [u8],
+) -> Result<Option<usize>, StoreFault>
+    requires range { at + count < 2 ^ 64 }
+    requires enough { count ≤ length «data».now }
+    requires room { 0 < length held.old }
+    ensures compared { IfOk result (λ found. IsTrue (S.Store.honest store.new)
+        → found ≡ first_difference (slice_range (S.Store.content store.old) at (at + count)) (take count «data».now)) }
+    ensures within { IfOk result (λ found. IfSome found (λ n. n < count)) }
+    ensures none { count ≡ 0 → IsOk result }
+    ensures back { IsTrue (S.Store.honest store.new) → IsTrue (S.Store.honest store.old) }
+    ensures content { S.Store.content store.new ≡ S.Store.content store.old }
+    ensures synced { S.Store.synced store.new ≡ S.Store.synced store.old }
+    ensures failures { S.Store.failures store.new ≡ counted result (S.Store.failures store.old) }
+    ensures steady { S.Store.steady store.new ≡ S.Store.steady store.old }
+    ensures succeeds { IsTrue (S.Store.steady store.old) → at + count ≤ length (S.Store.content store.old)
+        → IsOk result × (S.Store.honest store.new ≡ S.Store.honest store.old) }
+{
+    let (mut front, mut behind) = data.split_front();
+    let mut done = 0;
+    while done < count {
+        let part = front.len().min((count - done) as usize).min(held.len());
+        let (bytes, later) = front.split_at(part);
+        let room = &mut held[..part];
+        store.read_at(at + done, room)?;
+        if let Some(found) = difference(room, bytes) {
+            return Ok(Some(done as usize + found));
+        }
+        done += part as u64;
+        (front, behind) = next_slice(later, behind);
+    }
+    Ok(None)
 }

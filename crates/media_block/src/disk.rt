@@ -6,9 +6,9 @@ ghost use Rattle.media_block.specs.Fault.{failures_after};
 ghost use Rattle.media_block.specs.Blocks.{block_length, blocks_of, is_disk, disk_of, data_of, replaced, first_difference, AreWhole, KeepsOthers};
 
 use crate::data::write_data;
-use crate::difference::difference;
+use crate::difference::compare_data;
 use crate::fault::{DiskOpenFault, NotOpened};
-use crate::part::{PART, PART_LENGTH, repeated};
+use crate::part::{LONG_PART_LENGTH, PART, PART_LENGTH, repeated};
 use data_parts::Data;
 use media_store::{Store, StoreFault};
 use std::marker::Model;
@@ -150,31 +150,7 @@ impl<S: Store> Disk<S> {
         )
     }
 
-    /// The least index at which bytes differ from those of a few blocks, which are read into a buffer.
-    fn compare_part(
-        &mut self,
-        first: u64,
-        count: u64,
-        bytes: &[u8],
-        held: &mut [u8],
-    ) -> Result<Option<usize>, StoreFault>
-        requires room { length bytes.now ≤ length held.old }
-        requires range { first + count ≤ length self.old.blocks }
-        requires whole { length bytes.now ≡ block_length * count }
-        ensures compared { IfOk result (λ at. IsTrue self.new.honest
-            → at ≡ first_difference (data_of self.old.blocks first count) bytes.now) }
-        ensures within { IfOk result (λ at. IfSome at (λ n. n < length bytes.now)) }
-        ensures long { IsOk result → IsTrue self.new.honest → length (data_of self.old.blocks first count) ≡ block_length * count }
-        ensures back { IsTrue self.new.honest → IsTrue self.old.honest }
-        ensures disk { self.new ≡ record self.old { failures = counted result self.old.failures; honest = self.new.honest } }
-        ensures succeeds { IsTrue self.old.steady → IsTrue self.old.honest → IsOk result × (self.new ≡ self.old) }
-    {
-        let held = &mut held[..bytes.len()];
-        self.read(first, count, held)?;
-        Ok(difference(held, bytes))
-    }
-
-    /// The least index at which bytes differ from those of blocks.
+    /// Returns the least index at which bytes differ from those of blocks.
     pub fn compare(
         &mut self,
         first: u64,
@@ -191,45 +167,60 @@ impl<S: Store> Disk<S> {
         ensures disk { self.new ≡ record self.old { failures = counted result self.old.failures; honest = self.new.honest } }
         ensures succeeds { IsTrue self.old.steady → IsTrue self.old.honest → IsOk result × (self.new ≡ self.old) }
     {
-        if count == 1 {
-            // Of one block no more room is filled than it takes.
-            return self.compare_part(first, count, bytes, &mut [0; BLOCK_LENGTH]);
-        }
-        self.compare_parts(first, count, bytes)
+        self.compare_parts(first, count, &Data::whole(bytes))
     }
 
-    /// The same, part by part.
-    fn compare_parts(
+    /// Returns the least index at which bytes in front of the data, as it lies, differ from those of blocks.
+    pub fn compare_parts(
         &mut self,
         first: u64,
         count: u64,
-        bytes: &[u8],
+        data: &Data,
     ) -> Result<Option<usize>, StoreFault>
         requires range { first + count ≤ length self.old.blocks }
-        requires whole { length bytes.now ≡ block_length * count }
+        requires enough { block_length * count ≤ length «data».now }
         ensures compared { IfOk result (λ at. IsTrue self.new.honest
-            → at ≡ first_difference (data_of self.old.blocks first count) bytes.now) }
-        ensures within { IfOk result (λ at. IfSome at (λ n. n < length bytes.now)) }
+            → at ≡ first_difference (data_of self.old.blocks first count) (take (block_length * count) «data».now)) }
+        ensures within { IfOk result (λ at. IfSome at (λ n. n < block_length * count)) }
         ensures none { count ≡ 0 → IsOk result }
         ensures back { IsTrue self.new.honest → IsTrue self.old.honest }
         ensures disk { self.new ≡ record self.old { failures = counted result self.old.failures; honest = self.new.honest } }
         ensures succeeds { IsTrue self.old.steady → IsTrue self.old.honest → IsOk result × (self.new ≡ self.old) }
     {
-        // So the place of each block fits a u64.
-        let _ = &self.block_count;
-        let mut held = [0; PART_LENGTH];
-        let mut number = 0;
-        while number < count {
-            let part = (count - number).min(PART);
-            let start = BLOCK_LENGTH * number as usize;
-            let end = start + BLOCK_LENGTH * part as usize;
-            let found = self.compare_part(first + number, part, &bytes[start..end], &mut held)?;
-            if let Some(at) = found {
-                return Ok(Some(start + at));
-            }
-            number += part;
+        // No more room is filled than a few blocks take.
+        match count {
+            0..=1 => self.compare_in(first, count, data, &mut [0; BLOCK_LENGTH]),
+            2..=PART => self.compare_in(first, count, data, &mut [0; PART_LENGTH]),
+            _ => self.compare_in(first, count, data, &mut [0; LONG_PART_LENGTH]),
         }
-        Ok(None)
+    }
+
+    /// Compares blocks, which are read into a buffer, with the bytes in front of the data.
+    fn compare_in(
+        &mut self,
+        first: u64,
+        count: u64,
+        data: &Data,
+        held: &mut [u8],
+    ) -> Result<Option<usize>, StoreFault>
+        requires range { first + count ≤ length self.old.blocks }
+        requires enough { block_length * count ≤ length «data».now }
+        requires room { 0 < length held.old }
+        ensures compared { IfOk result (λ at. IsTrue self.new.honest
+            → at ≡ first_difference (data_of self.old.blocks first count) (take (block_length * count) «data».now)) }
+        ensures within { IfOk result (λ at. IfSome at (λ n. n < block_length * count)) }
+        ensures none { count ≡ 0 → IsOk result }
+        ensures back { IsTrue self.new.honest → IsTrue self.old.honest }
+        ensures disk { self.new ≡ record self.old { failures = counted result self.old.failures; honest = self.new.honest } }
+        ensures succeeds { IsTrue self.old.steady → IsTrue self.old.honest → IsOk result × (self.new ≡ self.old) }
+    {
+        compare_data(
+            &mut self.store,
+            BLOCK_LENGTH as u64 * first,
+            BLOCK_LENGTH as u64 * count,
+            data,
+            held,
+        )
     }
 
     /// Writes the same block to so many places. Where it fails, any bytes may stand in these blocks.

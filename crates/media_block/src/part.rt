@@ -10,6 +10,9 @@ pub(crate) const PART: u64 = 16;
 
 pub(crate) const PART_LENGTH: usize = PART as usize * BLOCK_LENGTH;
 
+/// The most bytes of many blocks that one call of the store reads to compare them: as many as one PDU brings as a rule.
+pub(crate) const LONG_PART_LENGTH: usize = 65_536;
+
 /// The bytes of a part in which each block is the same.
 pub(crate) fn repeated(block: &[u8]) -> [u8; PART_LENGTH]
     requires { length block.now ≡ block_length }
