@@ -23,7 +23,7 @@ use scsi_cdb::{BlockRange, DiskCommand};
 use scsi_sense::{Done, Given, HEADROOM, TAILROOM};
 use std::alloc::Global;
 
-/// READ CAPACITY (10) data of a disk of so many blocks.
+/// Returns the READ CAPACITY (10) data of a disk with this number of blocks.
 fn capacity_10(block_count: u64) -> [u8; 8]
     requires { 0 < block_count }
     ensures { result ≡ capacity_10_data block_count }
@@ -35,8 +35,8 @@ fn capacity_10(block_count: u64) -> [u8; 8]
     ]
 }
 
-/// READ CAPACITY (16) data of a disk of so many blocks: no protection information and no provisioning is
-/// reported.
+/// Returns the READ CAPACITY (16) data of a disk with this number of blocks. It reports no protection information and
+/// no provisioning.
 fn capacity_16(block_count: u64) -> [u8; 32]
     requires { 0 < block_count }
     ensures { result ≡ capacity_16_data block_count }
@@ -50,8 +50,8 @@ fn capacity_16(block_count: u64) -> [u8; 32]
     ]
 }
 
-/// Reads blocks into an empty buffer, behind room for a header, where it has room for both. The room is
-/// not filled before.
+/// Reads blocks into an empty buffer that has room for them and a header, after the room for the header. The room is not
+/// filled before.
 fn read_into<S: Store>(
     disk: &mut Disk<S>,
     range: BlockRange,
@@ -74,8 +74,8 @@ fn read_into<S: Store>(
 }
 
 impl<S: Store> DiskDevice<S> {
-    /// READ of blocks that the disk has. The room for the data is made first, with room for a header in
-    /// front of it and for what is sent behind it, so that where an allocation fails nothing changes.
+    /// Executes a READ of blocks that the disk has. Makes the room for the data first, with room for a header before it
+    /// and for what is sent after it, so that a failed allocation changes nothing.
     fn read(&mut self, alloc: Global, used: &mut Buffers, range: BlockRange) -> Result<Done, Memory>
         requires { range.first + range.count ≤ length self.old.disk.blocks }
         ensures done { IfOk result (λ done. (bytes : List ℕ) → IsDiskDone (Read range) bytes (disk_view self.old) (disk_view self.new) done) }
@@ -93,8 +93,8 @@ impl<S: Store> DiskDevice<S> {
         }
     }
 
-    /// A command to the disk, whose blocks it has, with the data that it needs. Where the store fails it is
-    /// told so.
+    /// Executes a command on blocks that the disk has, with the data that it needs. If the store fails, the answer says
+    /// so.
     pub fn carry_out(
         &mut self,
         alloc: Global,
@@ -124,9 +124,7 @@ impl<S: Store> DiskDevice<S> {
                 force_unit_access,
             } => Ok(self.write(alloc, range, force_unit_access, data)),
             DiskCommand::Verify(_) => Ok(Done::good(alloc)),
-            DiskCommand::VerifyData(range) => {
-                Ok(self.verify_data(alloc, range, data.joined(&mut room)?))
-            }
+            DiskCommand::VerifyData(range) => Ok(self.verify_data(alloc, range, data)),
             DiskCommand::SynchronizeCache(range) => Ok(self.synchronize(alloc, range)),
             DiskCommand::WriteSame(range) => {
                 Ok(self.write_same(alloc, range, data.joined(&mut room)?))

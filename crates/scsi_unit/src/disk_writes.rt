@@ -16,14 +16,14 @@ use scsi_cdb::{AnyRange, BlockRange, ComparedRange, SameRange};
 use scsi_sense::{Condition, Done, Sense};
 use std::alloc::Global;
 
-/// UNRECOVERED READ ERROR.
+/// Returns CHECK CONDITION with UNRECOVERED READ ERROR.
 pub(crate) fn read_failed(alloc: Global) -> Done
     ensures { result ≡ check_condition unrecovered_read }
 {
     Done::check_condition(alloc, Sense::new(Condition::UnrecoveredReadError))
 }
 
-/// MISCOMPARE DURING VERIFY OPERATION, with the offset of the first byte that differs.
+/// Returns CHECK CONDITION with MISCOMPARE DURING VERIFY OPERATION and the offset of the first byte that differs.
 fn miscompare(alloc: Global, at: u32) -> Done
     ensures { result ≡ check_condition (miscompare_sense at) }
 {
@@ -32,7 +32,7 @@ fn miscompare(alloc: Global, at: u32) -> Done
     Done::check_condition(alloc, sense)
 }
 
-/// Writes one block or more, with their bytes in front of the data, and with FUA waits until they are on the medium.
+/// Writes one block or more, whose bytes are the first of the data. With FUA, waits until they are on the medium.
 fn write_through<S: Store>(
     disk: &mut Disk<S>,
     first: u64,
@@ -55,7 +55,7 @@ fn write_through<S: Store>(
 }
 
 impl<S: Store> DiskDevice<S> {
-    /// A write failed: the disk is not ready from now on.
+    /// Returns CHECK CONDITION with WRITE ERROR. The disk is not ready from now on.
     fn write_failed(&mut self, alloc: Global) -> Done
         ensures disk { disk_view self.new ≡ record (disk_view self.old) { is_ready = false } }
         ensures told { result ≡ check_condition write_error }
@@ -64,7 +64,7 @@ impl<S: Store> DiskDevice<S> {
         Done::check_condition(alloc, Sense::new(Condition::WriteError))
     }
 
-    /// WRITE of blocks that the disk has, with their data in front.
+    /// Executes a WRITE of blocks that the disk has. Their bytes are the first of the data.
     pub fn write(
         &mut self,
         alloc: Global,
@@ -94,7 +94,7 @@ impl<S: Store> DiskDevice<S> {
         }
     }
 
-    /// WRITE SAME to blocks that the disk has, with the block in front.
+    /// Executes a WRITE SAME to blocks that the disk has. The block is the first of the data.
     pub fn write_same(&mut self, alloc: Global, range: SameRange, data: &[u8]) -> Done
         requires range { range.first + range.count ≤ length self.old.disk.blocks }
         requires enough { block_length ≤ length «data».now }
@@ -111,8 +111,8 @@ impl<S: Store> DiskDevice<S> {
         }
     }
 
-    /// VERIFY of blocks that the disk has, with the data that they should have in front.
-    pub fn verify_data(&mut self, alloc: Global, range: BlockRange, data: &[u8]) -> Done
+    /// Executes a VERIFY of blocks that the disk has. The bytes that they should have are the first of the data.
+    pub fn verify_data(&mut self, alloc: Global, range: BlockRange, data: &Data) -> Done
         requires range { range.first + range.count ≤ length self.old.disk.blocks }
         requires enough { block_length * range.count ≤ length «data».now }
         ensures done { IsDiskDone (VerifyData range) «data».now (disk_view self.old) (disk_view self.new) result }
@@ -125,7 +125,7 @@ impl<S: Store> DiskDevice<S> {
         let length = BLOCK_LENGTH * count as usize;
         match self
             .disk
-            .compare(range.first(), u64::from(count), &data[..length])
+            .compare_parts(range.first(), u64::from(count), data)
         {
             Ok(None) => Done::good_taking(alloc, length as u32),
             Ok(Some(at)) => miscompare(alloc, at as u32),
@@ -133,8 +133,8 @@ impl<S: Store> DiskDevice<S> {
         }
     }
 
-    /// COMPARE AND WRITE of blocks that the disk has: the data that they should have in front, and behind it
-    /// the data that is then written. Where they differ nothing is written.
+    /// Executes a COMPARE AND WRITE of blocks that the disk has. The bytes that they should have are the first of the
+    /// data, and those to write follow. If the first differ from the blocks, writes nothing.
     pub fn compare_and_write(
         &mut self,
         alloc: Global,
@@ -173,7 +173,7 @@ impl<S: Store> DiskDevice<S> {
         }
     }
 
-    /// SYNCHRONIZE CACHE. All that was written is waited for, whatever blocks are named.
+    /// Executes a SYNCHRONIZE CACHE. Waits for all that was written, whatever blocks are named.
     pub fn synchronize(&mut self, alloc: Global, range: AnyRange) -> Done
         ensures done { (bytes : List ℕ) → IsDiskDone (SynchronizeCache range) bytes (disk_view self.old) (disk_view self.new) result }
         ensures given { result.given ≡ [] }
