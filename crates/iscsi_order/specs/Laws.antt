@@ -19,7 +19,7 @@ abbrev pub WindowIsARange : Type 0
 WindowIsARange = (past : Past) (number : ℕ) → IsLawful past → number < 2 ^ 32
     → in_window past number ≡ nat_lt (distance (exp_cmd_sn past) number) (window + past.finished - length (taken past))
 
--- the index of a CmdSN is equal to it modulo 2^32, and the only such one among the 32 behind those taken
+-- the index of a CmdSN is equal to it modulo 2^32, and the only such one among the 32 after those taken
 pub record IsIndex (past : Past) (number index : ℕ) : Type 0 where
   pub number_is : (past.first + index) % 2 ^ 32 ≡ number
   pub behind : length (taken past) ≤ index

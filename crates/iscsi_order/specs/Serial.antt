@@ -5,7 +5,7 @@ use Rattle.std.specs.Prelude.{ℕ, ◌+◌, ◌-◌, ◌^◌, ◌%◌, Bool, ◌
 abbrev pub distance : ℕ → ℕ → ℕ
 distance a b = (b + 2 ^ 32 - a) % 2 ^ 32
 
--- RFC 1982 §3.2: a is before b where b is ahead of it, by less than half of all numbers
+-- RFC 1982 §3.2: a is before b if b is ahead of it, by less than half of all numbers
 abbrev pub is_before : ℕ → ℕ → Bool
 is_before a b = nat_lt 0 (distance a b) && nat_lt (distance a b) (2 ^ 31)
 

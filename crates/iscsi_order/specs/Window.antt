@@ -7,7 +7,7 @@ use Rattle.iscsi_order.specs.declared.window.Arrival.{Arrival}
 use Rattle.iscsi_order.specs.declared.window.Arrival.TheVariants.{New, Ignored}
 use Rattle.iscsi_order.specs.declared.window.CommandNumbers.{CommandNumbers}
 
--- profile: so many requests may be unfinished
+-- profile: how many requests may be unfinished
 abbrev pub window : ℕ
 window = 32
 
@@ -33,7 +33,7 @@ abbrev pub taken_from : {A : Type 0} → (A → ℕ) → ℕ → ℕ → List A 
 taken_from index zero k came = []
 taken_from index (suc n) k came = unwrap_or (option_map (λ a. a ∷ taken_from index n (suc k) came) (find (λ a. index a == k) came)) []
 
--- a number is taken where it and all before it have come
+-- a number is taken once it and all before it have come
 unfoldable pub taken : Past → List ℕ
 taken past = taken_from (λ k. k) (length past.came) 0 past.came
 
@@ -49,7 +49,7 @@ max_cmd_sn past = (past.first + (window - 1) + past.finished) % 2 ^ 32
 abbrev pub in_window : Past → ℕ → Bool
 in_window past number = is_at_most (exp_cmd_sn past) number && is_at_most number (max_cmd_sn past)
 
--- the number of a CmdSN, counted from the first: the one from the count of those taken on that is equal to it modulo 2^32
+-- the index of a CmdSN, counted from the first number: modulo 2^32, the least from the count of those taken on
 abbrev pub index_of : Past → ℕ → ℕ
 index_of past number = length (taken past) + distance (exp_cmd_sn past) number
 
@@ -76,7 +76,7 @@ arrived past number = if is_new past number then record past { came = past.came 
 abbrev pub arrival_of : Past → ℕ → Arrival
 arrival_of past number = if is_new past number then New else Ignored
 
--- the next one is handed over, where there is one
+-- the next one is handed over, if there is one
 abbrev pub handed_over : Past → Past
 handed_over past = if nat_lt past.handed (length (taken past)) then record past { handed = suc past.handed } else past
 

@@ -9,10 +9,10 @@ pub record WindowState : Type 0 where
   pub next : ℕ
   -- how many were handed over and are not finished
   pub unfinished : ℕ
-  -- of the numbers from the next one on, as many as the window has: whether they have come
+  -- for each number from the next one on, as many as the window has: whether it has come
   pub held : List Bool
 
--- the same, with a key of the caller's for each number that has come
+-- the same, with a key that the caller chose for each number that has come
 pub record WindowKeys : Type 0 where
   pub next : ℕ
   pub unfinished : ℕ
@@ -22,11 +22,11 @@ pub record WindowKeys : Type 0 where
 abbrev pub marked : WindowKeys → WindowState
 marked w = record { next = w.next; unfinished = w.unfinished; held = map is_some w.keys }
 
--- the key of the number n, where it is within the window
+-- the key of the number n, if it is within the window
 abbrev pub key_at : WindowKeys → ℕ → Option ℕ
 key_at w n = slice_index_or w.keys (distance w.next n) None
 
--- within the window, and no number that has come
+-- the number n is within the window, and has not come
 abbrev pub is_vacant : WindowKeys → ℕ → Bool
 is_vacant w n = nat_lt (distance w.next n) (window - w.unfinished) && not (is_some (key_at w n))
 
@@ -34,7 +34,7 @@ is_vacant w n = nat_lt (distance w.next n) (window - w.unfinished) && not (is_so
 abbrev pub with_key : ℕ → ℕ → WindowKeys → WindowKeys
 with_key n key w = if is_vacant w n then record w { keys = slice_set w.keys (distance w.next n) (Some key) } else w
 
--- the next number is handed over, where it has come
+-- the next number is handed over, if it has come
 abbrev pub turned : WindowKeys → WindowKeys
 turned w = if is_some (slice_index_or w.keys 0 None) then record {
   next = (w.next + 1) % 2 ^ 32;
@@ -43,7 +43,7 @@ turned w = if is_some (slice_index_or w.keys 0 None) then record {
       ++ None ∷ [];
 } else w
 
--- as many as are unfinished, the last numbers are outside the window, and none of them is held
+-- the last numbers, as many as are unfinished, are outside the window, and none of them is held
 pub record IsWithin (unfinished : ℕ) (held : List Bool) : Type 0 where
   pub few : unfinished ≤ window
   pub outside : drop (window - unfinished) held ≡ replicate unfinished false
@@ -55,7 +55,7 @@ remembered past = record {
   held = map (has_come past.came) (range_with_len past.handed window);
 }
 
--- what can have happened: no more were finished than handed over, no more handed over than taken, and none came from beyond the window
+-- a possible past: no more finished than handed over, no more handed over than taken, and none from beyond the window
 pub record IsLawful (past : Past) : Type 0 where
   pub finished : past.finished ≤ past.handed
   pub handed : past.handed ≤ length (taken past)

@@ -1,5 +1,5 @@
-//! The sequence numbers of a session (RFC 7143 §4.2.2), as a target counts them: in which order
-//! commands are taken, how many more may come, and how answers are numbered.
+//! The sequence numbers of a session (RFC 7143 §4.2.2), as a target counts them: the order of commands, how many more
+//! may come, and how answers are numbered.
 //!
 //! ```text
 //!   CmdSN     5     6     7     8     9 ..   37    38
@@ -10,15 +10,15 @@
 //!
 //! Promised, and proved, with numbers compared serially modulo 2^32:
 //!
-//! - A number is new where it is inside ExpCmdSN to MaxCmdSN and has not come before. Every other
-//!   one is ignored ([`Window::arrive`]).
-//! - A number is taken once it and all before it have come, and each of those is handed over once, in
-//!   order, by the key that it came with ([`Window::take`]).
+//! - A number is new if it is inside ExpCmdSN to MaxCmdSN and has not come before. Every other number is ignored
+//!   ([`Window::arrive`]).
+//! - A number is taken once it and all before it have come. Each number taken is handed over once, in order, by the key
+//!   that it came with ([`Window::take`]).
 //! - ExpCmdSN counts the numbers taken, MaxCmdSN those finished ([`Window::numbers`]).
-//! - What these words mean does not hang on how they are written down ([`laws`]).
+//! - The meaning of these words does not depend on how their definitions are written ([`laws`]).
 //! - StatSN counts the answers that bear status ([`Stat`]).
 //!
-//! Nothing here takes memory.
+//! Nothing here allocates memory.
 #![tactic(auto)]
 
 mod comparing;

@@ -1,12 +1,12 @@
-//! The numbers of answers.
+//! The sequence numbers of answers.
 
 ghost use Rattle.std.specs.Prelude.{◌≡◌, ℕ, suc};
 ghost use Rattle.iscsi_order.specs.Stat.{stat_sn};
 
 use std::marker::Model;
 
-/// The StatSN of a connection (RFC 7143 §4.2.2.2): it counts the answers that bear status. Clauses
-/// see it as the number that [`Stat::now`] gives.
+/// The StatSN of a connection (RFC 7143 §4.2.2.2). It counts the answers that bear status. Clauses see it as the number
+/// that [`Stat::now`] returns.
 #[derive(Debug, Drop)]
 pub struct Stat {
     next: u32,
@@ -21,14 +21,15 @@ impl Model for Stat {
 }
 
 impl Stat {
-    /// The next answer that bears status has StatSN `n`.
+    /// Creates a counter: the next answer that bears status has StatSN `n`.
     pub fn new(n: u32) -> Stat
         ensures { result ≡ n }
     {
         Stat { next: n }
     }
 
-    /// The StatSN of an answer that bears status. The one behind it has the next number.
+    /// Returns the StatSN of an answer that bears status, and counts that answer. The answer after it has the next
+    /// number.
     pub fn next(&mut self) -> u32
         ensures number { (answered : ℕ) → self.old ≡ stat_sn answered → result ≡ stat_sn answered }
         ensures counted { (answered : ℕ) → self.old ≡ stat_sn answered → self.new ≡ stat_sn (suc answered) }
@@ -38,8 +39,8 @@ impl Stat {
         number
     }
 
-    /// The StatSN that the next answer which bears status will have. An R2T carries it and does not
-    /// use it (RFC 7143 §11.8).
+    /// Returns the StatSN that the next answer which bears status will have. An R2T carries it and does not use it (RFC
+    /// 7143 §11.8).
     pub fn now(&self) -> u32
         ensures { (answered : ℕ) → self.now ≡ stat_sn answered → result ≡ stat_sn answered }
     {

@@ -8,7 +8,7 @@ ghost use Rattle.iscsi_order.specs.declared.window.Arrival.TheVariants.{New, Ign
 
 use std::marker::Model;
 
-/// So many requests of a session may be unfinished.
+/// How many requests of a session may be unfinished.
 const WINDOW: usize = 32;
 
 /// What becomes of a numbered request.
@@ -20,25 +20,25 @@ pub enum Arrival {
     Ignored,
 }
 
-/// The two numbers that an answer has of the window (RFC 7143 §4.2.2.1).
+/// The two numbers of the window that an answer carries (RFC 7143 §4.2.2.1).
 #[derive(Clone, Copy, Debug, PartialEq, Eq)]
 pub struct CommandNumbers {
-    /// ExpCmdSN, the number behind all that are taken.
+    /// ExpCmdSN: the number after all that are taken.
     pub exp_cmd_sn: u32,
-    /// MaxCmdSN, the last number that is not ignored.
+    /// MaxCmdSN: the last number that is not ignored.
     pub max_cmd_sn: u32,
 }
 
-/// The numbers of a session's requests (RFC 7143 §4.2.2.1): those that came ahead of a missing one are
-/// held until it comes, and at most 32 requests are unfinished. Each number that has come is held with a
-/// key of the caller's. Clauses see it as what it remembers of all that came and was finished.
+/// The numbers of a session's requests (RFC 7143 §4.2.2.1). Those that came ahead of a missing one are held until it
+/// comes. At most 32 requests are unfinished. Each number that has come is held with a key that the caller chooses.
+/// Clauses see a window as what it remembers of all that came and was finished.
 #[derive(Debug, Drop)]
 pub struct Window {
-    /// The number that is handed over next.
+    /// The next number to hand over.
     next: u32,
-    /// How many were handed over and are not finished.
+    /// How many numbers were handed over and are not finished.
     unfinished: usize,
-    /// Of the numbers from `next` on, the keys of those that have come.
+    /// The keys of the numbers from `next` on; `None` for a number that has not come.
     held: [Option<usize>; WINDOW],
 }
 
@@ -54,7 +54,7 @@ impl Model for Window {
 }
 
 impl Window {
-    /// A window before its first request, whose number is to be `first`.
+    /// Creates a window before its first request, whose number is to be `first`.
     #[tactic(auto, unfolding(crate::specs::Window::taken, crate::specs::WindowState::remembered))]
     pub fn new(first: u32) -> Window
         ensures stands { Stands (begun first) (marked result) }
@@ -67,7 +67,8 @@ impl Window {
         }
     }
 
-    /// A request that is not immediate arrives, with CmdSN `n`. It is held with this key.
+    /// Records the arrival of a request that is not immediate, with CmdSN `n`. If its number is new, it is held with
+    /// this key. Otherwise nothing changes.
     pub fn arrive(&mut self, n: u32, key: usize) -> Arrival
         ensures arrival { (past : Past) → Stands past (marked self.old) → result ≡ arrival_of past n }
         ensures stands { (past : Past) → Stands past (marked self.old) → Stands (arrived past n) (marked self.new) }
@@ -82,7 +83,7 @@ impl Window {
         Arrival::New
     }
 
-    /// Whether a request with CmdSN `n` would be new ([`Window::arrive`]).
+    /// Returns whether a request with CmdSN `n` would be new ([`Window::arrive`]).
     pub fn is_new(&self, n: u32) -> bool
         ensures past { (past : Past) → Stands past (marked self.now) → result ≡ is_new_in past n }
         ensures vacant { result ≡ is_vacant self.now n }
@@ -91,7 +92,8 @@ impl Window {
         place < WINDOW - self.unfinished && self.held[place].is_none()
     }
 
-    /// The key of the next number, where it and all before it have come. Each is handed over once, in order.
+    /// Hands over the key of the next number, if it and all before it have come. Each key is handed over once, in
+    /// order.
     pub fn take(&mut self) -> Option<usize>
         ensures number { (past : Past) → Stands past (marked self.old) → is_some result ≡ is_some (next_of past) }
         ensures stands { (past : Past) → Stands past (marked self.old) → Stands (handed_over past) (marked self.new) }
@@ -106,8 +108,7 @@ impl Window {
         Some(key)
     }
 
-    /// A request that was handed over is finished, and one more may come. Where none is unfinished
-    /// nothing changes.
+    /// Finishes a request that was handed over, so that one more may come. If none is unfinished, nothing changes.
     pub fn finish(&mut self)
         ensures stands { (past : Past) → Stands past (marked self.old) → past.finished < past.handed → Stands (finished_one past) (marked self.new) }
         ensures fewer { self.new ≡ record self.old { unfinished = self.old.unfinished - 1 } }
@@ -117,7 +118,7 @@ impl Window {
         }
     }
 
-    /// The key of the request with CmdSN `n`, where it has come and is not handed over.
+    /// Returns the key of the request with CmdSN `n`, if it has come and is not handed over.
     pub fn key_of(&self, n: u32) -> Option<usize>
         ensures { result ≡ key_at self.now n }
     {
@@ -128,7 +129,7 @@ impl Window {
         }
     }
 
-    /// Of the numbers from the one on that is handed over next, the keys of those that have come.
+    /// Returns a slot for each number from the next to hand over on, with the key of each number that has come.
     pub fn held(&self) -> &[Option<usize>]
         ensures value { result.now ≡ self.now.keys }
         ensures len { length self.now.keys ≡ 32 }
@@ -136,7 +137,7 @@ impl Window {
         &self.held
     }
 
-    /// ExpCmdSN and MaxCmdSN.
+    /// Returns ExpCmdSN and MaxCmdSN.
     pub fn numbers(&self) -> CommandNumbers
         ensures { (past : Past) → Stands past (marked self.now) → result ≡ numbers_of past }
     {
@@ -149,7 +150,7 @@ impl Window {
     }
 }
 
-/// How many of these are held, up to the first that is not.
+/// Returns how many of these are held, up to the first that is not.
 fn front(held: &[Option<usize>]) -> usize
     ensures { result ≡ prefix_len (λ key. is_some key) held.now }
 {
