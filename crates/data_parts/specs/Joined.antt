@@ -3,7 +3,7 @@ use Rattle.std.specs.Prelude.{ℕ, ◌<◌, List, length, flat_map}
 use Rattle.std.specs.Global.{Vec}
 use Rattle.std.specs.List.{All}
 
--- own: the bytes of buffers, one behind the other
+-- own: the bytes of buffers, one after the other
 abbrev pub joined : List (Vec ℕ) → List ℕ
 joined buffers = flat_map (λ buffer. buffer.items) buffers
 

@@ -1,4 +1,4 @@
-//! The data of a command, as it lies.
+//! A view of a command's data, as it lies in its buffers.
 
 ghost use Rattle.std.specs.Prelude.{◌≡◌, ◌<◌, ◌++◌, length, IfOk};
 ghost use Rattle.data_parts.specs.Joined.{joined, AreSome};
@@ -6,12 +6,12 @@ ghost use Rattle.data_parts.specs.Joined.{joined, AreSome};
 use std::alloc::AllocError;
 use std::marker::Model;
 
-/// The data of a command as it lies: one slice, or several. Clauses see the bytes, joined.
+/// A view of a command's data, as it lies: one slice, or several. Clauses see the bytes, joined.
 #[derive(Drop)]
 pub struct Data<'a> {
     /// None of them is empty.
     buffers: &'a [Vec<u8>],
-    /// What comes behind them.
+    /// The bytes after them.
     tail: &'a [u8],
     len: usize,
 }
@@ -28,7 +28,7 @@ impl<'a> Model for Data<'a> {
 }
 
 impl<'a> Data<'a> {
-    /// Bytes in buffers, and behind them.
+    /// Creates a view of the bytes in `buffers` and of those after them.
     pub(crate) fn new(buffers: &'a [Vec<u8>], tail: &'a [u8], len: usize) -> Data<'a>
         requires all { AreSome buffers.now }
         requires len { len ≡ length (joined buffers.now ++ tail.now) }
@@ -37,21 +37,21 @@ impl<'a> Data<'a> {
         Data { buffers, tail, len }
     }
 
-    /// One slice.
+    /// Creates a view of one slice.
     pub fn whole(bytes: &'a [u8]) -> Data<'a>
         ensures { result ≡ bytes.now }
     {
         Data::new(&[], bytes, bytes.len())
     }
 
-    /// How many bytes there are.
+    /// Returns how many bytes there are.
     pub fn len(&self) -> usize
         ensures { result ≡ length self.now }
     {
         self.len
     }
 
-    /// The bytes in front that lie together, and what comes behind them.
+    /// Returns the first bytes that lie together, and a view of the bytes after them.
     pub fn split_front(&self) -> (&'a [u8], Data<'a>)
         ensures joined { self.now ≡ result.0.now ++ result.1 }
         ensures some { 0 < length self.now → 0 < length result.0.now }
@@ -64,7 +64,7 @@ impl<'a> Data<'a> {
         (front, behind)
     }
 
-    /// All bytes as they lie where they lie together, or else copied into room.
+    /// Returns all bytes in one slice: where they lie, if they lie together, or else copied into `room`.
     pub fn joined<'b>(&'b self, room: &'b mut Vec<u8>) -> Result<&'b [u8], AllocError>
         ensures { IfOk result (λ bytes. bytes.now ≡ self.now) }
     {

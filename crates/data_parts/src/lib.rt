@@ -1,4 +1,4 @@
-//! The data of a command, in the buffers in which it came, so that no byte of it need be copied before it is used.
+//! The data of a command, in the buffers in which it came. Large pieces are not copied before they are used.
 //!
 //! ```text
 //! pieces that came:      | 70,000 |        | 8,192 |      | 300 | 200 |
@@ -7,12 +7,15 @@
 //! the tail, few bytes joined:                              | 500 bytes |
 //! ```
 //!
-//! Promised: what clauses see of [`Parts`], and of [`Data`], is the list of the bytes in the order in which they came,
-//! whatever buffers they lie in. Where an allocation fails nothing changes. [`Data::split_front`] gives the bytes
-//! slice by slice, none of them empty before the end.
+//! Promised:
 //!
-//! [`Parts::push`] moves a piece of 4,096 bytes or more; of smaller ones the room is at most doubled, so that many small
-//! pieces take no more than twice their bytes.
+//! - Clauses see [`Parts`] and [`Data`] as the list of the bytes in the order in which they came, whatever buffers they
+//!   lie in.
+//! - If an allocation fails, nothing changes.
+//! - [`Data::split_front`] returns the bytes slice by slice, none of them empty before the end.
+//!
+//! [`Parts::push`] moves a piece of 4,096 bytes or more in its buffer. For smaller pieces the room is at most doubled,
+//! so that many small pieces take no more than twice their bytes.
 #![tactic(auto)]
 
 mod data;

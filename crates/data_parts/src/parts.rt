@@ -11,7 +11,7 @@ use std::mem;
 /// The most bytes that there may be.
 const MOST: usize = usize::MAX / 2;
 
-/// A piece of so many bytes is moved in its buffer.
+/// The least length in bytes of a piece that is moved in its buffer.
 const MOVED: usize = 4_096;
 
 /// The data of a command, in the buffers in which it came. Clauses see the bytes, joined.
@@ -19,7 +19,7 @@ const MOVED: usize = 4_096;
 pub struct Parts {
     /// None of them is empty.
     buffers: Vec<Vec<u8>>,
-    /// What came behind them in small pieces.
+    /// The bytes after them, which came in small pieces.
     tail: Vec<u8>,
     len: usize,
     alloc: Global,
@@ -36,7 +36,7 @@ impl Model for Parts {
     ghost invariant = { λ p. (p.len ≡ length (joined p.buffers.items ++ p.tail.items)) × (p.len < 2 ^ 63) × AreSome p.buffers.items };
 }
 
-/// Adds a small piece, to those that came before it.
+/// Appends a small piece, joined to those before it.
 fn push_few(tail: &mut Vec<u8>, bytes: Vec<u8>) -> Result<(), AllocError>
     ensures ok { OnOk result (tail.new.items ≡ tail.old.items ++ bytes.items) }
     ensures err { OnErr result (tail.new.items ≡ tail.old.items) }
@@ -48,7 +48,7 @@ fn push_few(tail: &mut Vec<u8>, bytes: Vec<u8>) -> Result<(), AllocError>
     tail.extend_from_slice(bytes.as_slice())
 }
 
-/// Adds a piece in its buffer.
+/// Appends a piece, in the buffer in which it came.
 fn push_many(
     buffers: &mut Vec<Vec<u8>>,
     tail: &mut Vec<u8>,
@@ -69,7 +69,7 @@ fn push_many(
     Ok(())
 }
 
-/// Adds a piece.
+/// Appends a piece, by its length either joined to those before it or in its own buffer.
 fn push_piece(
     buffers: &mut Vec<Vec<u8>>,
     tail: &mut Vec<u8>,
@@ -88,7 +88,7 @@ fn push_piece(
 }
 
 impl Parts {
-    /// No data. It takes no memory.
+    /// Creates an empty list of parts. Allocates no memory.
     pub fn new(alloc: Global) -> Parts
         ensures { result ≡ [] }
     {
@@ -100,7 +100,7 @@ impl Parts {
         }
     }
 
-    /// How many bytes there are.
+    /// Returns how many bytes there are.
     pub fn len(&self) -> usize
         ensures value { result ≡ length self.now }
         ensures bound { result < 2 ^ 63 }
@@ -108,7 +108,7 @@ impl Parts {
         self.len
     }
 
-    /// A piece comes behind all others. Where an allocation fails nothing changes. An empty one takes no memory.
+    /// Appends a piece. If an allocation fails, nothing changes. An empty piece allocates no memory.
     pub fn push(&mut self, bytes: Vec<u8>) -> Result<(), AllocError>
         ensures ok { OnOk result (self.new ≡ self.old ++ bytes.items) }
         ensures err { OnErr result (self.new ≡ self.old) }
@@ -126,14 +126,14 @@ impl Parts {
         Ok(())
     }
 
-    /// The data, as it lies.
+    /// Returns a view of the data, as it lies.
     pub fn data(&self) -> Data<'_>
         ensures { result ≡ self.now }
     {
         Data::new(self.buffers.as_slice(), self.tail.as_slice(), self.len)
     }
 
-    /// Takes the last bytes away, and gives their buffer, to be used again.
+    /// Removes the last bytes, and returns their buffer, emptied, for reuse. Returns `None` if there is no data.
     pub fn pop_buffer(&mut self) -> Option<Vec<u8>>
         ensures cleared { IfSome result (λ buffer. buffer.items ≡ []) }
         ensures shorter { IfSome result (λ _. length self.new < length self.old) }

@@ -1,22 +1,22 @@
-//! Buffers in which data came, kept to be used again.
+//! Buffers in which data came, kept for reuse.
 
 ghost use Rattle.std.specs.Prelude.{◌≡◌, [], IfOk};
 
 use std::alloc::{AllocError, Global};
 
-/// The room of a short buffer, in bytes: as much data as comes unasked as a rule.
+/// The capacity of a short buffer, in bytes: as much data as usually comes unsolicited.
 const SHORT: usize = 65_536;
 
-/// The room of a long buffer, in bytes: the most data that one PDU brings.
+/// The capacity of a long buffer, in bytes: the most data that one PDU brings.
 const LONG: usize = 262_144;
 
-/// So many short buffers are kept at most: 1 MiB.
+/// How many short buffers are kept at most: 1 MiB.
 const MOST_SHORT: usize = 16;
 
-/// So many long buffers are kept at most: 3 MiB.
+/// How many long buffers are kept at most: 3 MiB.
 const MOST_LONG: usize = 12;
 
-/// Buffers whose bytes are used no more, 4 MiB at most, so that memory that was had once is not asked for again. What is
+/// Buffers that are no longer used, 4 MiB at most, kept so that their memory is not allocated again. A buffer that is
 /// taken is empty.
 #[derive(Drop)]
 pub struct SpareBuffers {
@@ -25,7 +25,7 @@ pub struct SpareBuffers {
     alloc: Global,
 }
 
-/// The buffer that was kept last, or a new one with so much room.
+/// Returns the buffer that was kept last, emptied, or a new one with this capacity.
 fn taken(alloc: Global, kept: &mut Vec<Vec<u8>>, room: usize) -> Result<Vec<u8>, AllocError>
     ensures { IfOk result (λ buffer. buffer.items ≡ []) }
 {
@@ -36,7 +36,7 @@ fn taken(alloc: Global, kept: &mut Vec<Vec<u8>>, room: usize) -> Result<Vec<u8>,
     Ok(buffer)
 }
 
-/// A buffer is kept, where fewer are. One more is given back to the system.
+/// Keeps a buffer if fewer than `most` are kept, and frees it otherwise.
 fn put(kept: &mut Vec<Vec<u8>>, most: usize, buffer: Vec<u8>) {
     if kept.len() < most {
         let _ = kept.push(buffer);
@@ -44,7 +44,7 @@ fn put(kept: &mut Vec<Vec<u8>>, most: usize, buffer: Vec<u8>) {
 }
 
 impl SpareBuffers {
-    /// None. It takes no memory.
+    /// Creates an empty stock of buffers. Allocates no memory.
     pub fn new(alloc: Global) -> SpareBuffers {
         SpareBuffers {
             short: Vec::new(alloc),
@@ -53,7 +53,7 @@ impl SpareBuffers {
         }
     }
 
-    /// An empty buffer with so much room in bytes, and less than twice as much.
+    /// Returns an empty buffer with room for `room` bytes, and for less than twice as many.
     pub fn take(&mut self, room: usize) -> Result<Vec<u8>, AllocError>
         ensures { IfOk result (λ buffer. buffer.items ≡ []) }
     {
@@ -66,7 +66,7 @@ impl SpareBuffers {
         Vec::with_capacity(self.alloc, room)
     }
 
-    /// A buffer that [`SpareBuffers::take`] gave is kept, where there are few.
+    /// Keeps a buffer that [`SpareBuffers::take`] returned, if few like it are kept.
     pub fn keep(&mut self, buffer: Vec<u8>) {
         match buffer.capacity() {
             LONG => put(&mut self.long, MOST_LONG, buffer),
