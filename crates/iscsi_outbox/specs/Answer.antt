@@ -1,4 +1,4 @@
--- What a command is answered that gives data: its SCSI Data-Ins (RFC 7143 §11.7) and a last PDU behind them.
+-- The answer to a command that returns data: its SCSI Data-Ins (RFC 7143 §11.7) and a last PDU after them.
 use Rattle.std.specs.Prelude.{◌≡◌, ◌≤◌, ℕ, ◌%◌, List, ◌++◌, length, map, Bool, ◌&&◌, ◌==◌}
 use Rattle.std.specs.List.{flat_map, enumerate_from}
 use Rattle.iscsi_pdu.specs.DataIn.{DataInFields, data_in_header}
@@ -54,6 +54,6 @@ data_ins shared limits bytes = map (data_in shared bytes) (enumerate_from 0 (pie
 abbrev pub answered : SharedFields → Limits → List ℕ → List ℕ → List ℕ
 answered shared limits bytes last = flat_map spelling (data_ins shared limits bytes) ++ last
 
--- a piece behind its header, without padding
+-- a piece after its header, without padding
 abbrev pub unpadded : SharedFields → List ℕ → ℕ × Piece → List ℕ
 unpadded shared bytes piece = data_in_header (fields_of shared bytes piece) ++ part_of bytes piece.1

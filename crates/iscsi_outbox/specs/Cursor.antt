@@ -1,5 +1,5 @@
--- What is left of an answer, as its cursor keeps it: behind the room for a header lies the data, and behind that what
--- ends the answer. Up to the place where the piece ends that is being sent, headers may lie over data.
+-- What is left of an answer, as its cursor keeps it. The data lies after the room for a header, and what ends the
+-- answer lies after the data. Headers may lie over data up to where the piece that is being sent ends.
 use Rattle.std.specs.Prelude.{◌<◌, ◌≤◌, ℕ, ◌+◌, ◌^◌, max, List, ◌++◌, length, drop}
 use Rattle.std.specs.List.{flat_map, enumerate_from, slice_range}
 use Rattle.scsi_sense.specs.Given.{headroom}
@@ -17,14 +17,14 @@ all_pieces c = pieces_of c.length c.limits.burst c.limits.segment
 unfoldable pub pieces_left : Cursor → List Piece
 pieces_left c = drop c.number (all_pieces c)
 
--- what is left: of the piece that is being sent, of the pieces behind it, and of what ends the answer
+-- what is left: of the piece that is being sent, of the pieces after it, and of what ends the answer
 unfoldable pub left : Cursor → List ℕ
 left c =
     slice_range c.buffer.items c.at (headroom + c.offset)
     ++ (flat_map (unpadded c.shared (drop headroom c.buffer.items)) (enumerate_from c.number (pieces_left c))
     ++ drop (max c.at (headroom + c.length)) c.buffer.items)
 
--- offset is where the piece ends that is being sent, the one before number, and no byte behind it was sent
+-- offset is where the piece that is being sent, the one before number, ends; no byte after it was sent
 pub record IsPlaced (c : Cursor) : Type 0 where
   pub limits : AreAligned c.limits
   pub short : c.length < 2 ^ 32

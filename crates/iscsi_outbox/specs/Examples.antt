@@ -10,7 +10,7 @@ shared = record { initiator_task_tag = 2; exp_cmd_sn = 124; max_cmd_sn = 155 }
 abbrev limits : Limits
 limits = record { burst = 8; segment = 4 }
 
--- four bytes, with more of the burst behind them
+-- four bytes, with more of the burst after them
 abbrev first : List ℕ
 first =
     0x25 ∷ 0x00 ∷ 0x00 ∷ 0x00 ∷ 0x00 ∷ 0x00 ∷ 0x00 ∷ 0x04 ∷ 0x00 ∷ 0x00 ∷ 0x00 ∷ 0x00 ∷ 0x00 ∷ 0x00 ∷ 0x00 ∷ 0x00 ∷
@@ -34,7 +34,7 @@ third =
     0x00 ∷ 0x00 ∷ 0x00 ∷ 0x9b ∷ 0x00 ∷ 0x00 ∷ 0x00 ∷ 0x02 ∷ 0x00 ∷ 0x00 ∷ 0x00 ∷ 0x08 ∷ 0x00 ∷ 0x00 ∷ 0x00 ∷ 0x00 ∷
     0x09 ∷ 0x0a ∷ 0x00 ∷ 0x00 ∷ []
 
--- behind them, here, a byte 33
+-- after them, in this example, a byte 33
 ten_bytes : answered shared limits (1 ∷ 2 ∷ 3 ∷ 4 ∷ 5 ∷ 6 ∷ 7 ∷ 8 ∷ 9 ∷ 10 ∷ []) (0x21 ∷ []) ≡ first ++ (second ++ (third ++ 0x21 ∷ []))
 ten_bytes = refl
 

@@ -2,7 +2,7 @@
 use Rattle.std.specs.Prelude.{◌<◌, ℕ, List, [], ◌∷◌, ◌++◌, length}
 use Rattle.iscsi_outbox.specs.declared.run.Run.{Run}
 
--- the bytes that wait, how many runs are among them, for how many bytes there is room behind them, and for how many runs
+-- the bytes that wait, how many runs are among them, how many bytes there is room for after them, and how many runs
 pub record Waits : Type 0 where
   pub items : List ℕ
   pub runs : ℕ

@@ -1,4 +1,4 @@
-//! Where the sending of a command's data stands.
+//! How far a command's data has been sent.
 
 ghost use Rattle.std.specs.Prelude.{◌≡◌, ◌<◌, ◌≤◌, ◌+◌, ◌-◌, ◌^◌, ◌++◌, Some, length, take, drop, slice_get, flat_map, OnOk};
 ghost use Rattle.std.specs.List.{enumerate_from};
@@ -20,20 +20,20 @@ use iscsi_transfer::{Piece, piece_at, piece_count};
 use scsi_sense::HEADROOM;
 use std::alloc::AllocError;
 
-/// The data of a command lies behind room for a header, and behind it what ends the answer. No byte of it is moved:
-/// the header of the next piece is written over bytes that were sent.
+/// How far a command's answer has been sent. Its buffer has room for a header, then the data, then what ends the
+/// answer. No byte of the data is moved: the header of the next piece is written over bytes that were sent.
 #[derive(Drop)]
 pub(crate) struct Cursor {
     pub buffer: BytesMut,
     pub shared: SharedFields,
     pub limits: Limits,
-    /// Of the data, in bytes.
+    /// The length of the data, in bytes.
     pub length: usize,
-    /// Of the next piece.
+    /// The number of the next piece.
     pub number: usize,
-    /// Where the next piece begins in the data, and the one ends that is being sent.
+    /// Where in the data the piece that is being sent ends, and the next piece begins.
     pub offset: usize,
-    /// The next byte to be sent.
+    /// The place in the buffer of the next byte to send.
     pub at: usize,
 }
 
@@ -47,8 +47,8 @@ fn put_over(buffer: &mut BytesMut, at: usize, header: &[u8; HEADROOM])
 }
 
 impl Cursor {
-    /// The answer of the data that lies in a buffer behind room for a header, and is followed by the PDU that ends
-    /// the command. It takes no memory.
+    /// Creates the answer from data that lies in a buffer after room for a header. `last`, the PDU that ends the
+    /// command, is appended to the data. Allocates no memory.
     pub fn new(mut buffer: BytesMut, shared: SharedFields, limits: Limits, last: &Answer) -> Cursor
         requires room { headroom ≤ length buffer.items }
         requires short { length (drop headroom buffer.items) < 2 ^ 32 }
@@ -73,7 +73,7 @@ impl Cursor {
         cursor
     }
 
-    /// The piece with this number.
+    /// Returns the next piece.
     fn piece(&self) -> Piece
         requires placed { IsPlaced self.now }
         requires more { self.now.offset < self.now.length }
@@ -88,7 +88,7 @@ impl Cursor {
         )
     }
 
-    /// The header of a piece, which has this number.
+    /// Returns the header of a piece, which has this number.
     fn header(&self, number: usize, piece: Piece) -> [u8; HEADROOM]
         requires number { number < 2 ^ 32 }
         requires offset { piece.offset < 2 ^ 32 }
@@ -109,7 +109,7 @@ impl Cursor {
         .header()
     }
 
-    /// Where a piece was sent, the header of the next one is written in front of its data.
+    /// Writes the header of the next piece in front of its data, once the piece before it was sent.
     pub fn settle(&mut self)
         requires { IsPlaced self.old }
         ensures same { left self.new ≡ left self.old }
@@ -125,7 +125,7 @@ impl Cursor {
         }
     }
 
-    /// Where in the buffer the bytes end that stand together.
+    /// Returns where in the buffer the bytes end that lie together.
     fn end(&self) -> usize
         requires { IsReady self.now }
         ensures more { self.now.offset < self.now.length → result ≡ headroom + self.now.offset }
@@ -138,7 +138,7 @@ impl Cursor {
         self.buffer.len()
     }
 
-    /// The bytes that stand together, the next to be sent.
+    /// Returns the next bytes to send, as many as lie together.
     pub fn front(&self) -> &[u8]
         requires { IsReady self.now }
         ensures prefix { result.now ≡ take (length result.now) (left self.now) }
@@ -147,7 +147,7 @@ impl Cursor {
         &self.buffer.as_slice()[self.at..self.end()]
     }
 
-    /// Of so many bytes that were sent, those that stood together are skipped. Says how many these are.
+    /// Skips at most `n` bytes that were sent, as far as they lay together. Returns how many it skipped.
     pub fn skip_some(&mut self, n: usize) -> usize
         requires { IsReady self.old }
         ensures within { result ≤ n }
@@ -162,7 +162,7 @@ impl Cursor {
         step
     }
 
-    /// Appends a piece, which has this number, behind its header.
+    /// Appends the header of a piece, which has this number, and then the piece.
     fn copy_piece(&self, number: usize, piece: Piece, bytes: &mut Vec<u8>) -> Result<(), AllocError>
         requires number { number < 2 ^ 32 }
         requires offset { piece.offset < 2 ^ 32 }
@@ -177,7 +177,7 @@ impl Cursor {
         Ok(())
     }
 
-    /// Appends the pieces that are still to come, each behind its header.
+    /// Appends the pieces that are still to come, each after its header.
     fn copy_pieces(&self, bytes: &mut Vec<u8>) -> Result<(), AllocError>
         requires { IsPlaced self.now }
         ensures { OnOk result (bytes.new.items ≡ bytes.old.items
@@ -191,7 +191,7 @@ impl Cursor {
         Ok(())
     }
 
-    /// Appends what is left.
+    /// Appends what is left to send.
     pub fn copy_to(&self, bytes: &mut Vec<u8>) -> Result<(), AllocError>
         requires { IsPlaced self.now }
         ensures { OnOk result (bytes.new.items ≡ bytes.old.items ++ left self.now) }

@@ -1,4 +1,4 @@
-//! The data of a command that is cut as it is sent.
+//! The data of a command, which is cut as it is sent.
 
 ghost use Rattle.std.specs.Prelude.{◌≡◌, ◌<◌, ◌≤◌, ◌+◌, ◌^◌, ◌++◌, [], length, take, drop, OnOk};
 ghost use Rattle.scsi_sense.specs.Given.{headroom};
@@ -16,8 +16,8 @@ use scsi_sense::HEADROOM;
 use std::alloc::AllocError;
 use std::marker::Model;
 
-/// What is left to be sent of the answer of a command that gave data: its SCSI Data-Ins (RFC 7143 §11.7) and the PDU
-/// behind them. It is sent from where the data lies: no byte of it is copied. Clauses see the bytes that are left.
+/// What is left to send of the answer to a command that returned data: its SCSI Data-Ins (RFC 7143 §11.7) and the PDU
+/// after them. It is sent from where the data lies: no byte of it is copied. Clauses see the bytes that are left.
 #[derive(Drop)]
 pub struct DataIns {
     cursor: Cursor,
@@ -36,8 +36,8 @@ impl Model for DataIns {
 }
 
 impl DataIns {
-    /// The answer of the data that lies in a buffer behind room for a header ([`HEADROOM`]), stamped as `shared` says,
-    /// and ended by `last`, which is put behind the data. It takes no memory.
+    /// Creates the answer from data that lies in a buffer after room for a header ([`HEADROOM`]). Its Data-Ins have the
+    /// fields of `shared`. `last`, which ends the answer, is appended to the data. Allocates no memory.
     pub fn new(buffer: BytesMut, shared: SharedFields, limits: Limits, last: &Answer) -> DataIns
         requires room { headroom ≤ length buffer.items }
         requires short { length (drop headroom buffer.items) < 2 ^ 32 }
@@ -54,15 +54,15 @@ impl DataIns {
         }
     }
 
-    /// How many bytes are left.
+    /// Returns how many bytes are left to send.
     pub fn rest(&self) -> usize
         ensures { result ≡ length self.now }
     {
         self.rest
     }
 
-    /// The next bytes to be sent, as many as stand together: the header of a piece and its data, or what is left of
-    /// them, and with the last piece all that ends the answer.
+    /// Returns the next bytes to send, as many as lie together: the header of a piece and its data, or what is left of
+    /// them. With the last piece comes all that ends the answer.
     pub fn front(&self) -> &[u8]
         ensures prefix { result.now ≡ take (length result.now) self.now }
         ensures some { 0 < length self.now → 0 < length result.now }
@@ -70,7 +70,7 @@ impl DataIns {
         self.cursor.front()
     }
 
-    /// Of so many bytes that were sent, those that stood together are skipped. Says how many these are. It takes no
+    /// Skips at most `n` bytes that were sent, as far as they lay together. Returns how many it skipped. Allocates no
     /// memory.
     pub fn skip_some(&mut self, n: usize) -> usize
         ensures within { result ≤ n }
@@ -83,14 +83,14 @@ impl DataIns {
         step
     }
 
-    /// Appends what is left.
+    /// Appends what is left to send.
     pub fn copy_to(&self, bytes: &mut Vec<u8>) -> Result<(), AllocError>
         ensures { OnOk result (bytes.new.items ≡ bytes.old.items ++ self.now) }
     {
         self.cursor.copy_to(bytes)
     }
 
-    /// The buffer, to be used again. None of its bytes is left in it.
+    /// Returns the buffer, emptied, for reuse.
     pub fn into_buffer(self) -> BytesMut
         ensures { result.items ≡ [] }
     {

@@ -1,5 +1,5 @@
-//! What waits to be sent on a connection: small answers, joined, and the data of commands, each cut into SCSI Data-Ins
-//! (RFC 7143 §11.7) as it is sent, from where the command put it.
+//! What waits to be sent on a connection: small answers, joined, and the data of commands. Data is cut into SCSI
+//! Data-Ins (RFC 7143 §11.7) as it is sent, from where the command put it.
 //!
 //! ```text
 //! the buffer of a command's data as the second of three pieces is being sent:
@@ -9,15 +9,15 @@
 //! |----- was sent ---------->|---- front ---------|---- is left, without header 2 -----|
 //! ```
 //!
-//! The header of a piece is written over the last 48 bytes of the piece before, which were sent by then, so no byte of
-//! data is moved. With the last piece all that ends the answer stands together.
+//! The header of a piece is written over the last 48 bytes of the piece before it, which were sent by then. So no byte
+//! of data is moved. With the last piece, all that ends the answer lies together.
 //!
 //! Promised, and proved:
 //!
-//! - What is left of [`DataIns`], from its beginning on, is the command's Data-Ins as RFC 7143 spells them, and the
-//!   PDU behind them; [`DataIns::front`] is a front of that, empty only where nothing is left.
-//! - An [`Outbox`] holds all that waits in the order in which it was put; [`Outbox::front`] is all of it where no data
-//!   of a command is among it. Sending takes no memory.
+//! - A new [`DataIns`] has to send the command's Data-Ins, as RFC 7143 spells them, and the PDU after them.
+//!   [`DataIns::front`] is a prefix of what is left, empty only if nothing is left.
+//! - An [`Outbox`] holds all that waits in the order in which it was put. [`Outbox::front`] is all of it, if no data of
+//!   a command is among it. Sending allocates no memory.
 #![tactic(auto)]
 
 mod cursor;

@@ -1,4 +1,4 @@
-//! At which multiples a command's data is cut.
+//! The multiples at which a command's data is cut.
 
 ghost use Rattle.std.specs.Prelude.{◌≡◌, Some, None, IfSome, if◌then◌else◌};
 ghost use Rattle.iscsi_login.specs.Values.{AreInRange};
@@ -6,8 +6,8 @@ ghost use Rattle.iscsi_outbox.specs.Answer.{AreAligned, is_aligned, limits_of};
 
 use iscsi_login::Values;
 
-/// At which multiples a command's data is cut (RFC 7143 §13.12, §13.13), both of them multiples of 4, so that no
-/// piece but the last has padding.
+/// The multiples at which a command's data is cut (RFC 7143 §13.12, §13.13). Both are multiples of 4, so that no piece
+/// but the last has padding.
 #[derive(Clone, Copy, Debug, PartialEq, Eq)]
 pub struct Limits {
     /// MaxBurstLength.
@@ -17,7 +17,7 @@ pub struct Limits {
 }
 
 impl Limits {
-    /// Those of a session, where both are multiples of 4.
+    /// Returns the limits of a session, if both are multiples of 4.
     pub fn of(values: &Values) -> Option<Limits>
         requires { AreInRange values.now }
         ensures value { result ≡ (if is_aligned (limits_of values.now) then Some (limits_of values.now) else None) }

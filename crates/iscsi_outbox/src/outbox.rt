@@ -13,8 +13,8 @@ use std::collections::VecDeque;
 use std::marker::Model;
 use std::mem;
 
-/// What waits to be sent: runs of data, each with the small answers in front of it, and the small answers behind
-/// them. Clauses see the bytes, joined, and the room that was reserved.
+/// What waits to be sent: runs of data, each with the small answers before it, and the small answers after the last
+/// run. Clauses see the bytes, joined, and the room that was reserved.
 #[derive(Drop)]
 pub struct Outbox {
     runs: VecDeque<Run>,
@@ -39,7 +39,7 @@ impl Model for Outbox {
 }
 
 impl Outbox {
-    /// Nothing waits. It takes no memory.
+    /// Creates an empty outbox. Allocates no memory.
     pub fn new(alloc: Global) -> Outbox
         ensures items { result.items ≡ [] }
         ensures runs { result.runs ≡ 0 }
@@ -50,7 +50,8 @@ impl Outbox {
         }
     }
 
-    /// Room for small answers of so many bytes, and for one run. Where an allocation fails what waits stays the same.
+    /// Reserves room for small answers of `room` bytes in all, and for one run. If an allocation fails, what waits
+    /// stays the same.
     pub fn reserve(&mut self, room: usize) -> Result<(), AllocError>
         ensures spare { OnOk result (room ≤ self.new.spare) }
         ensures slot { OnOk result (1 ≤ self.new.slots) }
@@ -62,7 +63,7 @@ impl Outbox {
         Ok(())
     }
 
-    /// A small answer waits behind all others, joined to those in front of it. It takes no memory.
+    /// Appends a small answer, joined to those before it. Allocates no memory.
     pub fn put(&mut self, answer: &Answer)
         requires room { length (spelling answer.now) ≤ self.old.spare }
         ensures items { self.new.items ≡ self.old.items ++ spelling answer.now }
@@ -73,8 +74,8 @@ impl Outbox {
         put(&mut self.tail, answer);
     }
 
-    /// Where nothing waits, the bytes of a buffer wait from here on, and the room behind them is its own. The buffer that
-    /// was there comes back, to be used again. It takes no memory.
+    /// Begins an empty outbox with the bytes of a buffer; the room after them is that of the buffer. Returns the buffer
+    /// that was there, for reuse. Allocates no memory.
     #[tactic(auto, using(crate::proofs::Runs::none_before))]
     pub fn begin_with(&mut self, buffer: BytesMut) -> BytesMut
         requires { self.old.items ≡ [] }
@@ -87,7 +88,7 @@ impl Outbox {
         mem::replace(&mut self.tail, buffer)
     }
 
-    /// The data of a command, which is cut as it is sent, waits behind all others. It takes no memory.
+    /// Appends the data of a command, which is cut as it is sent. Allocates no memory.
     pub fn put_data(&mut self, alloc: Global, data_ins: DataIns)
         requires slot { 1 ≤ self.old.slots }
         requires some { 0 < length data_ins }
@@ -97,7 +98,7 @@ impl Outbox {
         push_run(&mut self.runs, &mut self.tail, alloc, data_ins);
     }
 
-    /// Nothing waits.
+    /// Returns whether nothing waits.
     #[tactic(auto, using(crate::proofs::Runs::some_bytes))]
     pub fn is_empty(&self) -> bool
         ensures { result ≡ (length self.now.items == 0) }
@@ -105,7 +106,7 @@ impl Outbox {
         self.runs.is_empty() && self.tail.is_empty()
     }
 
-    /// More than so many bytes wait.
+    /// Returns whether more than `n` bytes wait.
     pub fn is_longer_than(&self, n: usize) -> bool
         ensures { result ≡ nat_lt n (length self.now.items) }
     {
@@ -115,7 +116,7 @@ impl Outbox {
         left < self.tail.len()
     }
 
-    /// The next bytes to be sent, as many as stand together: all of them, where no run waits.
+    /// Returns the next bytes to send, as many as lie together: all of them, if no run waits.
     pub fn front(&self) -> &[u8]
         ensures prefix { result.now ≡ take (length result.now) self.now.items }
         ensures some { 0 < length self.now.items → 0 < length result.now }
@@ -124,8 +125,8 @@ impl Outbox {
         front_of(&self.runs, &self.tail)
     }
 
-    /// Of so many bytes that were sent, those of the front are skipped. Says how many these are, and gives the buffer
-    /// of a command's data that was sent to its end, to be used again. It takes no memory.
+    /// Skips at most `n` bytes that were sent, as far as they lay together at the front. Returns how many it skipped,
+    /// and, for reuse, the buffer of a command's data that was sent to its end. Allocates no memory.
     pub fn skip_front(&mut self, n: usize) -> (usize, Option<BytesMut>)
         ensures within { result.0 ≤ n }
         ensures there { result.0 ≤ length self.old.items }
@@ -148,7 +149,7 @@ impl Outbox {
         (step, None)
     }
 
-    /// Appends all that waits.
+    /// Appends all that waits to `bytes`.
     pub fn copy_to(&self, bytes: &mut Vec<u8>) -> Result<(), AllocError>
         ensures { OnOk result (bytes.new.items ≡ bytes.old.items ++ self.now.items) }
     {
@@ -156,7 +157,7 @@ impl Outbox {
         bytes.extend_from_slice(self.tail.as_slice())
     }
 
-    /// Where nothing waits, and there is room for more bytes than this, the room goes back to the system.
+    /// Frees the reserved room, if nothing waits and there is room for more than `most` bytes.
     pub fn rest(&mut self, alloc: Global, most: usize)
         ensures items { self.new.items ≡ self.old.items }
         ensures runs { self.new.runs ≡ self.old.runs }

@@ -1,4 +1,4 @@
-//! Answers are written where there is room for them.
+//! Writing answers into reserved room.
 
 ghost use Rattle.std.specs.Prelude.{◌≡◌, ◌≤◌, ◌<◌, ◌+◌, ◌-◌, ◌^◌, ◌++◌, length};
 ghost use Rattle.iscsi_pdu.specs.Answer.{spelling};
@@ -7,7 +7,7 @@ ghost use Rattle.iscsi_pdu.specs.Segment.{padded};
 use bytes::BytesMut;
 use iscsi_pdu::Answer;
 
-/// Writes an answer where there is room for it.
+/// Writes an answer into room that was reserved for it.
 pub(crate) fn put(buffer: &mut BytesMut, answer: &Answer)
     requires { length (spelling answer.now) ≤ buffer.old.spare }
     ensures written { buffer.new.items ≡ buffer.old.items ++ spelling answer.now }
@@ -17,7 +17,7 @@ pub(crate) fn put(buffer: &mut BytesMut, answer: &Answer)
     let _ = answer.write(buffer);
 }
 
-/// How many bytes pad a data segment of this length to a multiple of 4 (RFC 7143 §11.1).
+/// Returns how many bytes pad a data segment of this length to a multiple of 4 (RFC 7143 §11.1).
 pub(crate) fn padding(length: usize) -> usize
     ensures value { result ≡ padded length - length }
     ensures bound { result ≤ 3 }

@@ -10,7 +10,7 @@ use std::alloc::{AllocError, Global};
 use std::collections::VecDeque;
 use std::mem;
 
-/// The data of a command that is cut as it is sent, and the small answers in front of it.
+/// The data of a command, which is cut as it is sent, and the small answers before it.
 #[derive(Drop)]
 pub(crate) struct Run {
     pub before: BytesMut,
@@ -18,7 +18,7 @@ pub(crate) struct Run {
 }
 
 impl Run {
-    /// The next bytes to be sent.
+    /// Returns the next bytes to send.
     fn front(&self) -> &[u8]
         ensures prefix { result.now ≡ take (length result.now) (run_bytes self.now) }
         ensures some { 0 < length self.now.data_ins → 0 < length result.now }
@@ -29,7 +29,7 @@ impl Run {
         self.before.as_slice()
     }
 
-    /// Of so many bytes that were sent, those that stood together are skipped. Says how many these are.
+    /// Skips at most `n` bytes that were sent, as far as they lay together. Returns how many it skipped.
     fn skip_some(&mut self, n: usize) -> usize
         ensures within { result ≤ n }
         ensures some { 0 < n → 0 < length self.old.data_ins → 0 < result }
@@ -45,7 +45,7 @@ impl Run {
         step
     }
 
-    /// Appends what is left.
+    /// Appends what is left to send.
     fn copy_to(&self, bytes: &mut Vec<u8>) -> Result<(), AllocError>
         ensures { OnOk result (bytes.new.items ≡ bytes.old.items ++ run_bytes self.now) }
     {
@@ -54,7 +54,7 @@ impl Run {
     }
 }
 
-/// The next bytes to be sent: of the first run, or all that stands behind the runs where there is none.
+/// Returns the next bytes to send: of the first run, or, if there is none, all that waits after the runs.
 pub(crate) fn front_of<'a>(runs: &'a VecDeque<Run>, tail: &'a BytesMut) -> &'a [u8]
     requires { AreRunning runs.now.items }
     ensures prefix { result.now ≡ take (length result.now) (flat_map run_bytes runs.now.items ++ tail.now.items) }
@@ -67,7 +67,7 @@ pub(crate) fn front_of<'a>(runs: &'a VecDeque<Run>, tail: &'a BytesMut) -> &'a [
     }
 }
 
-/// A run waits behind all others, with the small answers in front of it. It takes no memory.
+/// Appends a run, with the small answers before it. Allocates no memory.
 #[tactic(auto, using(crate::proofs::Runs::running_more, crate::proofs::Runs::bytes_more))]
 pub(crate) fn push_run(
     runs: &mut VecDeque<Run>,
@@ -90,8 +90,8 @@ pub(crate) fn push_run(
     runs.push_back_reserved(Run { before, data_ins });
 }
 
-/// Of so many bytes that were sent, those that stood together in the first run are skipped. Says how many these are,
-/// and gives the buffer of the run's data where the run is spent.
+/// Skips at most `n` bytes that were sent, as far as they lay together in the first run. Returns how many it skipped,
+/// and the buffer of the run's data if the run is spent.
 pub(crate) fn skip_in(runs: &mut VecDeque<Run>, n: usize) -> (usize, Option<BytesMut>)
     requires runs { 0 < deque_len runs.old }
     requires running { AreRunning runs.old.items }
@@ -113,7 +113,7 @@ pub(crate) fn skip_in(runs: &mut VecDeque<Run>, n: usize) -> (usize, Option<Byte
     (step, spent)
 }
 
-/// How many of so many bytes are left behind all runs, or none where the runs have more.
+/// Returns how many of `n` bytes are left after all runs, or `None` if the runs have more.
 #[tactic(auto, using(crate::proofs::Runs::run_at))]
 pub(crate) fn left_behind(runs: &VecDeque<Run>, n: usize) -> Option<usize>
     ensures some { IfSome result (λ left. left + length (flat_map run_bytes runs.now.items) ≡ n) }
@@ -129,7 +129,7 @@ pub(crate) fn left_behind(runs: &VecDeque<Run>, n: usize) -> Option<usize>
     Some(left)
 }
 
-/// Appends what is left of all runs.
+/// Appends what is left to send of all runs.
 #[tactic(auto, using(crate::proofs::Runs::runs_copied, crate::proofs::Runs::runs_more))]
 pub(crate) fn copy_runs(runs: &VecDeque<Run>, bytes: &mut Vec<u8>) -> Result<(), AllocError>
     ensures { OnOk result (bytes.new.items ≡ bytes.old.items ++ flat_map run_bytes runs.now.items) }

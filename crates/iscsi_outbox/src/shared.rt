@@ -1,4 +1,4 @@
-//! What all SCSI Data-Ins of a command have in common.
+//! The fields that all SCSI Data-Ins of a command have in common.
 
 /// The fields that all SCSI Data-Ins of a command have in common (RFC 7143 §11.7).
 #[derive(Clone, Copy, Debug, PartialEq, Eq)]
