@@ -19,7 +19,8 @@ unfolding keys_computed is_utf8 chars lib.Utf8.encode text_pairs pieces own_faul
     target_named
 computed = true
 
--- a session of `a` with these targets at 127.0.0.1:3260, which takes 512 bytes in one PDU: a discovery session, or one with target 0
+-- a session of `a` with these targets at 127.0.0.1:3260, which takes 512 bytes in one PDU; a discovery session, or one
+-- with target 0
 abbrev params : Option ℕ → List (List ℕ) → Params
 params target names = record {
   nexus = record { initiator_name = codes "a"; isid = replicate 6 0 };
@@ -47,7 +48,7 @@ new = replicate 4 0xff
 abbrev same : List ℕ
 same = 0xff ∷ 0xff ∷ 0xff ∷ 0xfe ∷ []
 
--- what SendTargets is answered in a discovery session of `t1` and `t2`, and in a session with `t1`
+-- the answer to SendTargets in a discovery session of `t1` and `t2`, and in a session with `t1`
 abbrev discovers : List ℕ → List Pair
 discovers value = pairs_answer (params None (codes "t1" ∷ codes "t2" ∷ [])) ((codes "SendTargets", value) ∷ [])
 
@@ -70,7 +71,7 @@ own_target : map asks_own ([] ∷ codes "t1" ∷ codes "All" ∷ codes "t2" ∷ 
 unfolding computed
 own_target = refl
 
--- a key of a login, one that is not known, and a value that is an answer, in the order of the text
+-- a key of a login, one that is not known, and a value that is itself an answer, in the order of the text
 other_keys : pairs_answer (params None []) ((codes "InitialR2T", codes "No") ∷ (codes "X-a", codes "b") ∷ (codes "SendTargets", codes "Reject") ∷ [])
     ≡ (codes "InitialR2T", codes "Reject") ∷ (codes "X-a", codes "NotUnderstood") ∷ []
 unfolding computed
@@ -78,7 +79,7 @@ other_keys = refl
 
 -- ---- exchanges
 
--- a text in two parts: C is answered by nothing, and goes before F
+-- a text in two parts: C is answered by an empty text, and takes precedence over F
 front : hears no_exchange (request 0xC0 new (codes "SendTar")) (params None []) ≡ tells (open_with (codes "SendTar") []) GoesOn []
 unfolding computed
 front = refl
@@ -100,7 +101,7 @@ last_piece : hears (open_with [] (codes "rest")) (request final same []) (params
 unfolding computed
 last_piece = refl
 
--- an empty request with C gets the piece too, and the exchange goes on
+-- an empty request with C gets the piece too, and the exchange continues
 piece_without_final : hears (open_with [] (codes "rest")) (request continued same []) (params None []) ≡ tells (open_with [] []) GoesOn (codes "rest")
 unfolding computed
 piece_without_final = refl

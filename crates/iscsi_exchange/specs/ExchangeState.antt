@@ -9,10 +9,10 @@ pub record ExchangeState : Type 0 where
   -- the rest of the answer, which is still to be sent
   pub due : List ℕ
 
--- there is none
+-- no exchange is open
 abbrev pub no_exchange : ExchangeState
 no_exchange = record { is_open = false; kept = []; due = [] }
 
--- it goes on, with so much text kept and so much of the answer due
+-- an exchange is open, with this text kept and this much of the answer due
 abbrev pub open_with : List ℕ → List ℕ → ExchangeState
 open_with kept due = record { is_open = true; kept = kept; due = due }

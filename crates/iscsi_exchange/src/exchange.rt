@@ -18,16 +18,16 @@ use std::marker::Model;
 /// The longest text that is kept, in bytes.
 const LONGEST_TEXT: usize = 65536;
 
-/// What is remembered of an exchange of texts (RFC 7143 §11.10): the text that goes on, and the answer
-/// that is still to be sent. A session has one at a time.
+/// The state of an exchange of texts (RFC 7143 §11.10). It has the text so far that is to be continued, and the rest of
+/// an answer that is still to be sent. A session has one exchange at a time.
 #[derive(Debug, Drop)]
 pub struct Exchange {
     alloc: Global,
     is_open: bool,
     kept: Vec<u8>,
-    /// The answer, of which no more was sent than is left.
+    /// The answer. No more of it was sent than is left.
     answer: Vec<u8>,
-    /// The number of its bytes that were sent.
+    /// How many of its bytes were sent.
     sent: usize,
 }
 
@@ -42,8 +42,8 @@ impl Model for Exchange {
     ghost invariant = { λ e. e.sent + e.sent ≤ length e.answer.items };
 }
 
-/// The most text that one answer bears, in bytes: what the initiator takes (RFC 7143 §13.12), and no
-/// more than a PDU of this target has.
+/// Returns the most text that one answer carries, in bytes: what the initiator takes (RFC 7143 §13.12), and no more
+/// than a PDU of this target has.
 fn piece_limit(params: &Params) -> usize
     ensures value { result ≡ limit_of params.now }
     ensures bound { result ≤ most_data }
@@ -52,7 +52,7 @@ fn piece_limit(params: &Params) -> usize
 }
 
 impl Exchange {
-    /// No exchange. It takes no memory.
+    /// Creates an exchange that is not open. Allocates no memory.
     pub fn none(alloc: Global) -> Exchange
         ensures { result ≡ no_exchange }
     {
@@ -65,15 +65,15 @@ impl Exchange {
         }
     }
 
-    /// What is still to be sent of the answer.
+    /// Returns the rest of the answer, which is still to be sent.
     fn due(&self) -> &[u8]
         ensures { result.now ≡ self.now.due }
     {
         &self.answer[self.sent..]
     }
 
-    /// What a Text Request in a session of these parameters is answered, and the exchange behind it. The
-    /// one fault is out of memory.
+    /// Returns the answer to a Text Request in a session with these parameters, and the exchange after it. The only
+    /// error is out of memory.
     #[tactic(auto, unfolding(crate::specs::Exchange::hears))]
     pub fn hear(&self, request: &Frame, params: &Params) -> Result<Told, Memory>
         ensures told { IfOk result (λ told. told ≡ hears self.now request.now params.now) }
@@ -89,7 +89,7 @@ impl Exchange {
         Ok(rejected(self.alloc))
     }
 
-    /// A request of this exchange.
+    /// Returns the answer to a request of this exchange, and the exchange after it.
     #[tactic(auto, unfolding(crate::specs::Exchange::hears_in))]
     fn hear_in(&self, request: &Frame, params: &Params) -> Result<Told, Memory>
         ensures told { IfOk result (λ told. told ≡ hears_in self.now request.now params.now) }
@@ -114,8 +114,9 @@ impl Exchange {
         answer(self.alloc, params, request, text.as_slice())
     }
 
-    /// How much text answers a request that only takes its exchange on, which [`Exchange::go_on`] hears: none for a piece
-    /// of a text that goes on, and as much as the initiator takes of an answer that is longer.
+    /// Returns the length in bytes of the text that answers a request which only continues its exchange, so that
+    /// [`Exchange::go_on`] can answer it. It is 0 for a piece of a text that continues. For an answer that is longer,
+    /// it is what the initiator takes in one PDU. Returns `None` for any other request.
     #[tactic(auto, unfolding(crate::specs::Exchange::text_on))]
     pub fn text_on(&self, request: &Frame, params: &Params) -> Option<usize>
         ensures text { result ≡ text_on self.now request.now params.now }
@@ -134,8 +135,8 @@ impl Exchange {
         is_kept.then_some(0)
     }
 
-    /// As [`Exchange::hear`], for a request of which [`Exchange::text_on`] says how much text answers it: the exchange is
-    /// changed where it stands, without a copy of it. The one fault is out of memory, and nothing changes then.
+    /// Answers a request for which [`Exchange::text_on`] returns a length, like [`Exchange::hear`]. The exchange is
+    /// changed in place, without a copy. The only error is out of memory, and then nothing changes.
     pub fn go_on(&mut self, request: &Frame, params: &Params) -> Result<Option<Piece>, Memory>
         requires { is_some (text_on self.old request.now params.now) ≡ true }
         ensures told { IfOk result (λ piece. record { exchange = self.new; piece = piece } ≡ hears self.old request.now params.now) }
@@ -156,8 +157,8 @@ impl Exchange {
         Ok(Some(Piece { step, text }))
     }
 
-    /// Skips a number of bytes of the answer, which were sent. If more was sent than is left, what is left moves, so
-    /// that no more than twice of it is kept: all of an answer is copied once or less on its way.
+    /// Skips `count` bytes of the answer, which were sent. If more was sent than is left, moves what is left, so that
+    /// at most twice its length is kept. So all of an answer is copied at most once on its way.
     fn skip(&mut self, count: usize) -> Result<(), Memory>
         requires { count < length self.old.due }
         ensures skipped { OnOk result (self.new ≡ record self.old { due = drop count self.old.due }) }
@@ -174,7 +175,7 @@ impl Exchange {
     }
 }
 
-/// A request is rejected, and its exchange is over.
+/// Returns a rejection, which ends the exchange.
 fn rejected(alloc: Global) -> Told
     ensures { result ≡ rejects }
 {
@@ -184,7 +185,7 @@ fn rejected(alloc: Global) -> Told
     }
 }
 
-/// A text that goes on is kept.
+/// Keeps a text that continues, or rejects it if it is too long.
 #[tactic(auto, unfolding(crate::specs::Exchange::keeps))]
 fn keep(alloc: Global, text: Vec<u8>) -> Told
     ensures told { result ≡ keeps text.items }
@@ -208,7 +209,7 @@ fn keep(alloc: Global, text: Vec<u8>) -> Told
     }
 }
 
-/// A whole text is answered.
+/// Answers a whole text, or rejects it if it is malformed.
 fn answer(alloc: Global, params: &Params, request: &Frame, text: &[u8]) -> Result<Told, Memory>
     ensures told { IfOk result (λ told. told ≡ answers_to params.now request.now (text_pairs text.now)) }
     ensures short { IfOk result (λ told. IsShort told.piece) }
@@ -223,7 +224,7 @@ fn answer(alloc: Global, params: &Params, request: &Frame, text: &[u8]) -> Resul
     }
 }
 
-/// An answer, behind which the exchange goes on with so much due.
+/// Returns an answer after which the exchange continues, with `due` still to be sent.
 fn told(alloc: Global, due: Vec<u8>, step: TextStep, text: Vec<u8>) -> Told
     ensures { result ≡ tells (open_with [] due.items) step text.items }
 {
@@ -239,7 +240,7 @@ fn told(alloc: Global, due: Vec<u8>, step: TextStep, text: Vec<u8>) -> Told
     }
 }
 
-/// An answer that ends its exchange.
+/// Returns an answer that ends its exchange.
 fn ended(alloc: Global, text: Vec<u8>) -> Told
     ensures { result ≡ tells no_exchange TextStep.Ends text.items }
 {
@@ -252,7 +253,7 @@ fn ended(alloc: Global, text: Vec<u8>) -> Told
     }
 }
 
-/// The next piece of an answer is sent.
+/// Returns the next piece of an answer, and the exchange after it.
 #[tactic(auto, unfolding(crate::specs::Exchange::sends))]
 fn send(alloc: Global, params: &Params, request: &Frame, text: &[u8]) -> Result<Told, Memory>
     ensures told { IfOk result (λ told. told ≡ sends params.now request.now text.now) }

@@ -1,4 +1,4 @@
-//! What the pairs of a text are answered. It is written as its text at once.
+//! The answers to the pairs of a text, written directly as text.
 
 ghost use Rattle.std.specs.Prelude.{◌≡◌, ◌<◌, ◌++◌, ◌∷◌, [], None, Some, codes, length, slice_get, string_bytes, IfOk, OnOk};
 ghost use Rattle.iscsi_text.specs.Pairs.{text_of};
@@ -9,7 +9,7 @@ use iscsi_text::{Pairs, put_pair};
 use out_of_memory::Memory;
 use std::alloc::Global;
 
-/// Puts a pair behind the text of an answer.
+/// Appends a pair to the text of an answer.
 fn put(answer: &mut Vec<u8>, key: &str, value: &str) -> Result<(), Memory>
     ensures { OnOk result (answer.new.items ≡ answer.old.items ++ text_of ((key.now, value.now) ∷ [])) }
 {
@@ -19,7 +19,7 @@ fn put(answer: &mut Vec<u8>, key: &str, value: &str) -> Result<(), Memory>
     Ok(())
 }
 
-/// The address of the targets: the portal, with the tag of its group (RFC 7143 §13.8).
+/// Returns the address of the targets: the portal, with the tag of its group (RFC 7143 §13.8).
 fn address(alloc: Global, directory: &Directory) -> Result<String, Memory>
     ensures { IfOk result (λ address. string_bytes address ≡ directory.now.portal ++ codes ",1") }
 {
@@ -28,7 +28,7 @@ fn address(alloc: Global, directory: &Directory) -> Result<String, Memory>
     Ok(address)
 }
 
-/// The name of the target at a place.
+/// Returns the name of the target at a place.
 fn name(directory: &Directory, at: usize) -> &str
     requires { at < length directory.now.names }
     ensures { slice_get directory.now.names at ≡ Some result.now }
@@ -36,14 +36,14 @@ fn name(directory: &Directory, at: usize) -> &str
     directory.targets[at].as_str()
 }
 
-/// How many targets there are.
+/// Returns how many targets there are.
 fn count(directory: &Directory) -> usize
     ensures { result ≡ length directory.now.names }
 {
     directory.targets.len()
 }
 
-/// Puts a target behind an answer.
+/// Appends a target to an answer: its name and its address.
 fn put_target(
     alloc: Global,
     answer: &mut Vec<u8>,
@@ -57,7 +57,7 @@ fn put_target(
     put(answer, "TargetAddress", address.as_str())
 }
 
-/// Puts a target behind an answer, where its name is the one that is asked for.
+/// Appends a target to an answer, if its name is the one that is asked for.
 fn put_asked(
     alloc: Global,
     answer: &mut Vec<u8>,
@@ -73,7 +73,7 @@ fn put_asked(
     Ok(())
 }
 
-/// Puts all targets behind an answer, in their order.
+/// Appends all targets to an answer, in their order.
 #[tactic(auto, unfolding(crate::specs::SendTargets::told_of))]
 fn put_all(alloc: Global, answer: &mut Vec<u8>, directory: &Directory) -> Result<(), Memory>
     ensures { OnOk result (answer.new.items ≡ answer.old.items ++ text_of (told_of directory.now None)) }
@@ -84,7 +84,7 @@ fn put_all(alloc: Global, answer: &mut Vec<u8>, directory: &Directory) -> Result
     Ok(())
 }
 
-/// Puts the targets of this name behind an answer.
+/// Appends the targets with this name to an answer.
 #[tactic(auto, unfolding(crate::specs::SendTargets::told_of))]
 fn put_named(
     alloc: Global,
@@ -100,7 +100,7 @@ fn put_named(
     Ok(())
 }
 
-/// Puts the answer to SendTargets in a discovery session behind an answer.
+/// Appends the answer to SendTargets in a discovery session.
 fn put_discovery(
     alloc: Global,
     answer: &mut Vec<u8>,
@@ -118,7 +118,7 @@ fn put_discovery(
     put_named(alloc, answer, directory, value)
 }
 
-/// Puts the answer to SendTargets in a normal session behind an answer.
+/// Appends the answer to SendTargets in a normal session.
 fn put_own(
     alloc: Global,
     answer: &mut Vec<u8>,
@@ -133,7 +133,7 @@ fn put_own(
     put(answer, "SendTargets", "Reject")
 }
 
-/// Puts the answer to SendTargets behind an answer (RFC 7143 Appendix C).
+/// Appends the answer to SendTargets (RFC 7143 Appendix C).
 #[tactic(auto, unfolding(crate::specs::SendTargets::send_targets))]
 fn put_send_targets(
     alloc: Global,
@@ -149,7 +149,7 @@ fn put_send_targets(
     put_own(alloc, answer, &params.directory, value)
 }
 
-/// Puts what a pair is answered behind an answer.
+/// Appends the answer to a pair, if it has one.
 #[tactic(auto, unfolding(crate::specs::SendTargets::pair_answer))]
 fn put_answer(
     alloc: Global,
@@ -172,7 +172,7 @@ fn put_answer(
     put(answer, key, "NotUnderstood")
 }
 
-/// The text of what the pairs of a text are answered, in their order.
+/// Returns the text that answers the pairs of a text, in their order.
 pub(crate) fn answer_text(alloc: Global, params: &Params, said: &Pairs) -> Result<Vec<u8>, Memory>
     ensures { IfOk result (λ text. text.items ≡ text_of (pairs_answer params.now said.now)) }
 {

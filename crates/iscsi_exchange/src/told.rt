@@ -1,10 +1,10 @@
-//! What a Text Request is answered.
+//! The answer to a Text Request.
 
 use crate::exchange::Exchange;
 use iscsi_pdu::TextStep;
 use std::marker::Model;
 
-/// The answer's text, or a piece of it, and how the exchange goes on.
+/// The text of an answer, or a piece of it, and how the exchange continues.
 #[derive(Debug, Drop)]
 pub struct Piece {
     pub step: TextStep,
@@ -19,11 +19,11 @@ impl Model for Piece {
     ghost view = { λ p. record { step = p.step; text = p.text.items } };
 }
 
-/// The exchange behind a request, and its answer.
+/// The exchange after a request, and its answer.
 #[derive(Debug, Drop)]
 pub struct Told {
     pub exchange: Exchange,
-    /// None where the request is rejected.
+    /// `None` if the request is rejected.
     pub piece: Option<Piece>,
 }
 
