@@ -4,7 +4,7 @@ use Rattle.iscsi_pdu.specs.Frames.{Frame}
 use Rattle.iscsi_transfer.specs.Task.{TaskState, filled, grown}
 use Rattle.iscsi_transfer.specs.declared.progress.Progress.TheInside.{Inside}
 
--- a Data-Out with this header that brings so many bytes: zeros stand in their place
+-- a Data-Out with this header and this many bytes of data, all of them zeros
 abbrev pub brought : List ℕ → ℕ → Frame
 brought header size = record { header = header; body = replicate size 0 }
 
@@ -17,7 +17,7 @@ pub record IsCounted (progress : Inside) : Type 0 where
   pub short : progress.length ≤ 4294967295
   pub few : progress.outstanding ≤ 4
 
--- a Data-Out brings no more than is left of one R2T, and none where no R2T is open
+-- a Data-Out completes one R2T at most, and none if no R2T is open
 pub record Takes (task : TaskState) (out : Frame) : Type 0 where
   pub step : filled (grown task out) ≤ filled task + 1
   pub opened : filled (grown task out) ≤ filled task + length task.open_tags

@@ -8,7 +8,7 @@ use Rattle.iscsi_transfer.specs.declared.data_in.Piece.{Piece}
 abbrev pub burst_start : ℕ → ℕ → ℕ
 burst_start burst b = b * burst
 
--- RFC 7143 §13.13: and ends at the next one, or with the data
+-- RFC 7143 §13.13: a burst ends at the next multiple, or with the data
 abbrev pub burst_end : ℕ → ℕ → ℕ → ℕ
 burst_end length burst b = min length ((b + 1) * burst)
 
@@ -16,7 +16,7 @@ burst_end length burst b = min length ((b + 1) * burst)
 abbrev pub piece_start : ℕ → ℕ → ℕ → ℕ
 piece_start start segment k = start + k * segment
 
--- RFC 7143 §13.12: it ends at the next one, or with the burst, where F is set (§11.7.1)
+-- RFC 7143 §13.12: a piece ends at the next multiple, or with its burst, and then has F (§11.7.1)
 abbrev pub piece_in : ℕ → ℕ → ℕ → ℕ → Piece
 piece_in start end segment k =
     let offset = piece_start start segment k in

@@ -21,6 +21,6 @@ long_segment = refl
 no_data : pieces_of 0 4 8 ≡ []
 no_data = refl
 
--- as many as stand above
+-- as many as there are above
 counts : (piece_count 10240 8192 4096 ≡ 3) × (piece_count 11 5 3 ≡ 5) × (piece_count 6 4 8 ≡ 2) × (piece_count 0 4 8 ≡ 0)
 counts = (refl, refl, refl, refl)

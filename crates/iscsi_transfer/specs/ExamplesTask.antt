@@ -38,11 +38,11 @@ fr = 0xc0
 abbrev four_bytes : ℕ → List ℕ
 four_bytes n = n / 0x1000000 ∷ n / 0x10000 % 0x100 ∷ n / 0x100 % 0x100 ∷ n % 0x100 ∷ []
 
--- a SCSI Command with this expected length and so many bytes of immediate data
+-- a SCSI Command with this expected length and this many bytes of immediate data
 abbrev command : ℕ → ℕ → ℕ → Frame
 command flags expected n = record { header = 0x01 ∷ flags ∷ replicate 18 0 ++ four_bytes expected ++ replicate 24 0; body = bytes n }
 
--- a Data-Out with F or not, with this tag, DataSN and Buffer Offset, and so many bytes
+-- a Data-Out with F or not, with this tag, DataSN and Buffer Offset, and with this many bytes
 abbrev data_out : Bool → ℕ → ℕ → ℕ → ℕ → Frame
 data_out final tag sn offset n = record {
   header = 0x05 ∷ (if final then 0x80 else 0) ∷ replicate 18 0 ++ four_bytes tag ++ replicate 12 0 ++ four_bytes sn ++ four_bytes offset ++ replicate 4 0;
@@ -52,7 +52,7 @@ data_out final tag sn offset n = record {
 abbrev unsolicited_tag : ℕ
 unsolicited_tag = 0xffffffff
 
--- ---- a write of 128 bytes, 1 with the command, 7 unasked, the others in four bursts
+-- ---- a write of 128 bytes, 1 with the command, 7 unsolicited, the others in four bursts
 
 abbrev write : Past
 write = begun agreed (command w 128 1)
@@ -81,7 +81,7 @@ first_ask : due_asks (remembered unasked) ≡ record { number = 0; offset = 8; l
 unfolding remembered
 first_ask = refl
 
--- the first burst in two Data-Outs: the second ask is due when it is there, and not before
+-- the first burst in two Data-Outs: the second ask is due once the whole burst has come, and not before
 abbrev within_first : Past
 within_first = accepted (data_out false 0 0 8 20) (asked (0 ∷ []) unasked)
 
@@ -120,7 +120,7 @@ whole_at_last : (is_whole (remembered third_burst) ≡ false) × (is_whole (reme
 unfolding remembered
 whole_at_last = (refl, refl, refl, refl, refl)
 
--- in bytes: 1048576 of them, 65536 unasked, MaxBurstLength 262144
+-- in bytes: 1048576 of them, 65536 unsolicited, MaxBurstLength 262144
 four_asks : map (ask_at 65536 262144 1048576) (range_with_len 0 4) ≡ record { number = 0; offset = 65536; length = 262144 } ∷ record {
   number = 1;
   offset = 327680;
@@ -128,20 +128,20 @@ four_asks : map (ask_at 65536 262144 1048576) (range_with_len 0 4) ≡ record { 
 } ∷ record { number = 2; offset = 589824; length = 262144 } ∷ record { number = 3; offset = 851968; length = 196608 } ∷ []
 four_asks = refl
 
--- ---- the same write where more R2Ts may be open
+-- ---- the same write, if more R2Ts may be open
 
 -- MaxOutstandingR2T m, and the unsolicited data has come
 abbrev unasked_of : ℕ → Past
 unasked_of m = record unasked { values = record agreed { max_outstanding_r2t = m } }
 
--- with four all are due at once; those of which tags are sent are due no more
+-- with four all are due at once; those whose tags were sent are no longer due
 all_at_once : (due_asks (remembered (unasked_of 4)) ≡ map (ask_at 8 32 128) (range_with_len 0 4))
     × (due_asks (remembered (asked (0 ∷ 1 ∷ []) (unasked_of 4))) ≡ map (ask_at 8 32 128) (range_with_len 2 2))
     × (due_asks (remembered (asked (0 ∷ 1 ∷ 2 ∷ 3 ∷ []) (unasked_of 4))) ≡ [])
 unfolding remembered
 all_at_once = (refl, refl, refl)
 
--- with two the first two are, and the next as soon as the data of one has come
+-- with two the first two are due, and the next as soon as the data of one has come
 abbrev two_asked : Past
 two_asked = asked (0 ∷ 1 ∷ []) (unasked_of 2)
 
@@ -166,7 +166,7 @@ in_order : (fault_of (remembered two_asked) (data_out true 0 0 8 32) ≡ None)
 unfolding remembered fault_of
 in_order = (refl, refl, refl, refl)
 
--- the tags of those that are open, and whether any is
+-- the tags of the open R2Ts, and whether any is open
 abbrev all_sent : Past
 all_sent = asked (3 ∷ []) two_came
 
@@ -181,7 +181,7 @@ open_ones = (refl, refl, refl, refl, refl, refl)
 
 -- ---- how much is wanted
 
--- four blocks of 512 bytes, the first unasked, in bytes
+-- four blocks of 512 bytes, the first unsolicited, in bytes
 three_blocks : ask_at 512 262144 2048 0 ≡ record { number = 0; offset = 512; length = 1536 }
 three_blocks = refl
 
@@ -207,7 +207,7 @@ no_data : (is_whole (remembered (begun agreed (command fr 16 0))) ≡ true) × (
 unfolding remembered fault_of
 no_data = (refl, refl, refl)
 
--- of 1048577 bytes none is asked for
+-- a command of 1048577 bytes is asked for none of them
 too_long : (is_whole (remembered (begun agreed (command fw 1048577 3))) ≡ true) × (due_asks (remembered (begun agreed (command fw 1048576 3)))
     ≡ record { number = 0; offset = 3; length = 32 } ∷ [])
 unfolding remembered
@@ -215,12 +215,12 @@ too_long = (refl, refl)
 
 -- ---- faults
 
--- immediate data of a command that takes none, and where ImmediateData is No
+-- immediate data of a command that takes none, and immediate data while ImmediateData is No
 fault_1 : (command_fault agreed (command fr 16 1) ≡ Some faults.ImmediateData)
     × (command_fault (record agreed { immediate_data = false }) (command fw 16 1) ≡ Some faults.ImmediateData)
 fault_1 = (refl, refl)
 
--- W without F where InitialR2T is Yes; without W it means nothing
+-- W without F while InitialR2T is Yes; a command without W needs no F
 fault_2 : (command_fault (record agreed { initial_r2t = true }) (command w 16 1) ≡ Some faults.UnsolicitedData)
     × (command_fault (record agreed { initial_r2t = true }) (command 0x40 16 0) ≡ None)
 fault_2 = (refl, refl)
@@ -229,20 +229,21 @@ fault_3 : fault_of (remembered half_way) (data_out true unsolicited_tag 1 5 3) �
 unfolding remembered fault_of
 fault_3 = refl
 
--- DataSN goes on in a sequence, and begins again with the next
+-- DataSN counts on within a sequence, and begins again with the next
 fault_4 : (fault_of (remembered half_way) (data_out true unsolicited_tag 0 4 4) ≡ Some faults.DataSn)
     × (fault_of (remembered (asked (0 ∷ []) unasked)) (data_out false 0 2 8 20) ≡ Some faults.DataSn)
 unfolding remembered fault_of
 fault_4 = (refl, refl)
 
--- above FirstBurstLength or the expected length, with the command and behind it, and above what an R2T asked for
+-- above FirstBurstLength or the expected length, with the command and after it, and above what an R2T asked for
 fault_5 : (command_fault agreed (command fw 128 9) ≡ Some faults.TooMuch) × (command_fault agreed (command fw 4 5) ≡ Some faults.TooMuch)
     × (fault_of (remembered half_way) (data_out true unsolicited_tag 1 4 5) ≡ Some faults.TooMuch)
     × (fault_of (remembered (asked (0 ∷ []) unasked)) (data_out true 0 0 8 33) ≡ Some faults.TooMuch)
 unfolding remembered fault_of
 fault_5 = (refl, refl, refl, refl)
 
--- another tag than that of the open R2T, unsolicited data behind its end, an R2T's tag before it, and data behind all
+-- a tag other than that of the open R2T, unsolicited data after its end, an R2T's tag before that end, and data after
+-- all bursts
 fault_6 : (fault_of (remembered (asked (0 ∷ []) unasked)) (data_out false 1 0 8 20) ≡ Some faults.TransferTag)
     × (fault_of (remembered (asked (0 ∷ []) unasked)) (data_out false unsolicited_tag 0 8 20) ≡ Some faults.TransferTag)
     × (fault_of (remembered write) (data_out false 0 0 1 3) ≡ Some faults.TransferTag)
@@ -250,13 +251,13 @@ fault_6 : (fault_of (remembered (asked (0 ∷ []) unasked)) (data_out false 1 0 
 unfolding remembered fault_of
 fault_6 = (refl, refl, refl, refl)
 
--- what an R2T asked for ends with F, and F stands nowhere else
+-- F is set at the end of what an R2T asked for, and nowhere else
 fault_7 : (fault_of (remembered (asked (0 ∷ []) unasked)) (data_out false 0 0 8 32) ≡ Some faults.Final)
     × (fault_of (remembered (asked (0 ∷ []) unasked)) (data_out true 0 0 8 0) ≡ Some faults.Final)
 unfolding remembered fault_of
 fault_7 = (refl, refl)
 
--- the first fault counts: tag, DataSN, offset, too much, F
+-- the first fault counts, in the order tag, DataSN, offset, too much, F
 first_fault : (fault_of (remembered (asked (0 ∷ []) unasked)) (data_out true 7 7 7 77) ≡ Some faults.TransferTag)
     × (fault_of (remembered (asked (0 ∷ []) unasked)) (data_out true 0 7 7 77) ≡ Some faults.DataSn)
     × (fault_of (remembered (asked (0 ∷ []) unasked)) (data_out true 0 0 7 77) ≡ Some faults.BufferOffset)

@@ -5,7 +5,7 @@ use Rattle.std.specs.List.{flat_map}
 use Rattle.iscsi_transfer.specs.declared.data_in.Piece.{Piece}
 use Rattle.iscsi_transfer.specs.DataIn.{burst_start, burst_end, piece_in, pieces_of, piece_count, part_of}
 
--- a piece has some bytes, no more than a segment, all of them in burst b, and F where it ends the burst
+-- a piece has some bytes, no more than a segment, all of them in burst b, and F if it ends the burst
 pub record Fits (piece : Piece) (length burst segment b : ℕ) : Type 0 where
   pub some : 1 ≤ piece.length
   pub short : piece.length ≤ segment
@@ -24,7 +24,7 @@ PiecesFit = (length burst segment b k : ℕ) → 1 ≤ burst → 1 ≤ segment �
 abbrev pub PiecesAreJoined : Type 0
 PiecesAreJoined = (bytes : List ℕ) (burst segment : ℕ) → 1 ≤ burst → 1 ≤ segment → flat_map (part_of bytes) (pieces_of (length bytes) burst segment) ≡ bytes
 
--- the pieces are so many
+-- the number of pieces is `piece_count`
 abbrev pub PiecesAreCounted : Type 0
 PiecesAreCounted = (size burst segment : ℕ) → 1 ≤ burst → 1 ≤ segment → length (pieces_of size burst segment) ≡ piece_count size burst segment
 
@@ -37,6 +37,6 @@ pub record Lies (piece : Piece) (size burst : ℕ) : Type 0 where
   pub within : piece.offset + piece.length ≤ size
   pub short : piece.length ≤ burst
 
--- each piece lies so
+-- each piece lies in the data, and is no longer than a burst
 abbrev pub PiecesLie : Type 0
 PiecesLie = (size burst segment : ℕ) → 1 ≤ burst → 1 ≤ segment → All (λ piece. Lies piece size burst) (pieces_of size burst segment)

@@ -1,5 +1,5 @@
--- The data that a SCSI Command takes from its initiator (RFC 7143 §4.2.4.2): the frames that brought it,
--- and what is read from them.
+-- The data that a SCSI Command takes from its initiator (RFC 7143 §4.2.4.2): the frames that brought it, and what is
+-- computed from them.
 use Rattle.std.specs.Prelude.{ℕ, List, [], ◌∷◌, ◌++◌, length, reverse, Bool, ◌&&◌, not, if◌then◌else◌}
 use Rattle.std.specs.List.{flat_map, list_any, take_while}
 use Rattle.iscsi_pdu.specs.Frames.{Frame}
@@ -17,7 +17,7 @@ pub record Past : Type 0 where
   -- the Target Transfer Tags of the R2Ts for it, in the order in which they were sent
   pub tags : List ℕ
 
--- the command alone has come
+-- only the command has come
 abbrev pub begun : Values → Frame → Past
 begun values command = record { values = values; command = command; outs = []; tags = [] }
 
@@ -29,25 +29,25 @@ accepted out past = record past { outs = past.outs ++ out ∷ [] }
 abbrev pub asked : List ℕ → Past → Past
 asked tags past = record past { tags = past.tags ++ tags }
 
--- ---- what is read from it
+-- ---- what is computed from it
 
 abbrev pub is_last : Frame → Bool
 is_last frame = is_final frame.header
 
--- RFC 7143 §11.3.1: behind a command that takes data and has no F, unsolicited Data-Outs come
+-- RFC 7143 §11.3.1: unsolicited Data-Outs follow a command that takes data and has no F
 abbrev pub announces : Frame → Bool
 announces command = is_write command.header && not (is_last command)
 
--- RFC 7143 §11.7.1: the Data-Outs up to the first with F, or all where none has it
+-- RFC 7143 §11.7.1: the Data-Outs up to the first with F, or all if none has it
 abbrev pub up_to_last : List Frame → List Frame
 up_to_last [] = []
 up_to_last (out ∷ outs) = out ∷ (if is_last out then [] else up_to_last outs)
 
--- the unsolicited ones
+-- the unsolicited Data-Outs
 abbrev pub unsolicited : Past → List Frame
 unsolicited past = if announces past.command then up_to_last past.outs else []
 
--- whether more of these are still to come
+-- whether more unsolicited Data-Outs are to come
 abbrev pub is_open : Past → Bool
 is_open past = announces past.command && not (list_any is_last past.outs)
 
@@ -58,11 +58,11 @@ data_of outs = flat_map (λ out. out.body) outs
 abbrev pub payload : Past → List ℕ
 payload past = past.command.body ++ data_of past.outs
 
--- how many bytes of it came unasked
+-- how many bytes of it came unsolicited
 abbrev pub u : Past → ℕ
 u past = length (past.command.body ++ data_of (unsolicited past))
 
--- RFC 7143 §11.7.1 and §11.7.5: how many Data-Outs of the open sequence have come: those behind the last with F
+-- RFC 7143 §11.7.1 and §11.7.5: how many Data-Outs of the open sequence have come: those after the last with F
 abbrev pub sequence_length : Past → ℕ
 sequence_length past = length (take_while (λ out. not (is_last out)) (reverse past.outs))
 

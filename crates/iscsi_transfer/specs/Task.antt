@@ -11,16 +11,16 @@ use Rattle.iscsi_transfer.specs.declared.fault.DataFault.{DataFault}
 use Rattle.iscsi_transfer.specs.declared.fault.DataFault.TheVariants as faults
 use Rattle.iscsi_transfer.specs.declared.progress.Ask.{Ask}
 
--- where the data of a command stands
+-- the state of a command's data
 pub record TaskState : Type 0 where
-  -- what has come of it
+  -- the data that has come
   pub payload : List ℕ
   -- how many bytes the command takes
   pub expected : ℕ
   -- FirstBurstLength and MaxBurstLength
   pub first_burst : ℕ
   pub burst : ℕ
-  -- how many bytes came unasked, and whether more unsolicited Data-Outs are to come
+  -- how many bytes came unsolicited, and whether more unsolicited Data-Outs are to come
   pub unsolicited : ℕ
   pub is_open : Bool
   -- how many Data-Outs of the open sequence have come
@@ -32,7 +32,7 @@ pub record TaskState : Type 0 where
   -- the Target Transfer Tags of those whose data has not all come, in the order in which they were sent
   pub open_tags : List ℕ
 
--- how many bursts behind the unsolicited data have come; none while more unsolicited data is to come
+-- how many whole bursts have come after the unsolicited data; none while more unsolicited data is to come
 abbrev pub bursts_in : Bool → ℕ → ℕ → ℕ → ℕ
 bursts_in is_open length unsolicited burst = if is_open then 0 else (length - unsolicited) / burst
 
@@ -55,7 +55,7 @@ remembered past = record {
 
 -- ---- the command
 
--- RFC 7143 §13.14: what may come unasked
+-- RFC 7143 §13.14: how many bytes may come unsolicited
 abbrev pub unsolicited_limit : ℕ → ℕ → ℕ
 unsolicited_limit first_burst expected = min first_burst expected
 
@@ -70,26 +70,26 @@ command_fault values command =
 
 -- ---- what the target asks for
 
--- profile: so many bytes are asked for at most
+-- profile: the longest payload that R2Ts ask for, in bytes
 abbrev pub most_wanted : ℕ
 most_wanted = 1048576
 
--- profile: the length that the payload is to have; where that is too long, what comes unasked is all
+-- profile: the length that the payload is to have; if that is too long to ask for, the unsolicited data is all
 abbrev pub wanted : TaskState → ℕ
 wanted task = if nat_le task.expected most_wanted then task.expected else task.unsolicited
 
--- RFC 7143 §11.8.4 and §13.13: R2T number k asks for the k-th burst behind the unsolicited data, up to the end
+-- RFC 7143 §11.8.4 and §13.13: R2T number k asks for the k-th burst after the unsolicited data, up to the end
 abbrev pub ask_at : ℕ → ℕ → ℕ → ℕ → Ask
 ask_at start burst end k = let offset = start + k * burst in record { number = k; offset = offset; length = min burst (end - offset) }
 
 abbrev pub ask : TaskState → ℕ → Ask
 ask task k = ask_at task.unsolicited task.burst (wanted task) k
 
--- how many R2Ts have what they ask for
+-- how many whole bursts have come after the unsolicited data, each for one R2T
 abbrev pub filled : TaskState → ℕ
 filled task = bursts_in task.is_open (length task.payload) task.unsolicited task.burst
 
--- the one that the payload has come to
+-- the R2T that the payload has reached
 abbrev pub next_ask : TaskState → Ask
 next_ask task = ask task (filled task)
 
@@ -101,7 +101,7 @@ lacks_data task = not task.is_open && nat_lt (length task.payload) (wanted task)
 abbrev pub bursts_wanted : TaskState → ℕ
 bursts_wanted task = div_ceil (wanted task - task.unsolicited) task.burst
 
--- RFC 7143 §13.17: how many may have been sent, as no more than MaxOutstandingR2T are open
+-- RFC 7143 §13.17: how many may have been sent, with no more than MaxOutstandingR2T open
 abbrev pub allowed : TaskState → ℕ
 allowed task = min (bursts_wanted task) (filled task + task.outstanding)
 
@@ -126,7 +126,7 @@ is_whole task = not task.is_open && length task.payload == wanted task
 
 -- ---- a Data-Out
 
--- RFC 7143 §11.7.4: the tag of the open sequence: FFFFFFFFh of unsolicited data, else that of the first open R2T
+-- RFC 7143 §11.7.4: the tag of the open sequence: FFFFFFFFh for unsolicited data, else that of the first open R2T
 abbrev pub sequence_tag : TaskState → ℕ
 sequence_tag task = if task.is_open then no_transfer_tag else get_or task.open_tags 0 no_transfer_tag
 
@@ -138,7 +138,7 @@ sequence_end task =
 abbrev pub has_sequence : TaskState → Bool
 has_sequence task = task.is_open || is_asked task
 
--- RFC 7143 §11.7.1: F ends unsolicited data anywhere, and what an R2T asked for exactly at its end
+-- RFC 7143 §11.7.1: F may end unsolicited data anywhere, and ends what an R2T asked for exactly at its end
 abbrev pub ends_rightly : TaskState → Frame → Bool
 ends_rightly task out =
     let at_end = length task.payload + length out.body == sequence_end task in
@@ -156,7 +156,7 @@ fault_of task out =
 
 -- ---- what happens
 
--- the data of a Data-Out is there
+-- the data of a Data-Out is appended
 abbrev pub grown : TaskState → Frame → TaskState
 grown task out = record task {
   payload = task.payload ++ out.body;
@@ -176,6 +176,6 @@ with_asked tags task = record task {
   open_tags = task.open_tags ++ drop (filled task - task.sent) tags;
 }
 
--- the same without the data: zeros stand in its place
+-- the same without the data: zeros in its place
 abbrev pub blank : TaskState → TaskState
 blank task = record task { payload = replicate (length task.payload) 0 }

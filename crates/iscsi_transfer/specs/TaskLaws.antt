@@ -1,4 +1,4 @@
--- Laws of what is asked for.
+-- Laws of what R2Ts ask for.
 use Rattle.std.specs.Prelude.{◌≡◌, ℕ, ◌+◌, ◌-◌, ◌≤◌, ◌<◌, List, [], ◌∷◌, length, map, drop, true, false, not, ◌&&◌, ◌||◌, ◌==◌, None, if◌then◌else◌}
 use Rattle.std.specs.List.{range_with_len}
 use Rattle.iscsi_pdu.specs.Frames.{Frame}
@@ -16,21 +16,21 @@ pub record AsksFor (start burst end k i : ℕ) : Type 0 where
 abbrev pub EachByteIsAskedFor : Type 0
 EachByteIsAskedFor = (start burst end i : ℕ) → 1 ≤ burst → start ≤ i → i < end → (k : ℕ) × AsksFor start burst end k i
 
--- by one R2T alone
+-- by only one R2T
 abbrev pub NoByteIsAskedForTwice : Type 0
 NoByteIsAskedForTwice = (start burst end i k l : ℕ) → AsksFor start burst end k i → AsksFor start burst end l i → k ≡ l
 
--- and no other byte is
+-- and no other byte is asked for
 abbrev pub NothingElseIsAskedFor : Type 0
 NothingElseIsAskedFor = (start burst end i k : ℕ) → AsksFor start burst end k i → (start ≤ i) × (i < end)
 
 -- ---- in which order
 
--- the numbers of the R2Ts that are due rise by one from how many were sent
+-- the numbers of the R2Ts that are due rise by one, from the number of those sent
 abbrev pub DueRiseByOne : Type 0
 DueRiseByOne = (task : TaskState) → map (λ ask. ask.number) (due_asks task) ≡ range_with_len task.sent (length (due_asks task))
 
--- one that is sent is due no more, and the others stay due
+-- an R2T that is sent is no longer due, and the others stay due
 abbrev pub SentIsDueNoMore : Type 0
 SentIsDueNoMore = (task : TaskState) (tag : ℕ) → due_asks (with_asked (tag ∷ []) task) ≡ drop 1 (due_asks task)
 
@@ -40,31 +40,31 @@ SentIsDueNoMore = (task : TaskState) (tag : ℕ) → due_asks (with_asked (tag �
 abbrev pub FewAreOpen : TaskState → Type 0
 FewAreOpen task = task.sent ≤ filled task + task.outstanding
 
--- those that were sent and have not all their data are the open ones
+-- the open R2Ts are those that were sent and lack data
 abbrev pub OpenAreCounted : Type 0
 OpenAreCounted = (past : Past) → length (remembered past).open_tags ≡ (remembered past).sent - filled (remembered past)
 
--- so it is of a command that has just come
+-- this holds for a command that has just come
 abbrev pub FewAtFirst : Type 0
 FewAtFirst = (values : Values) (command : Frame) → FewAreOpen (remembered (begun values command))
 
--- and stays so as R2Ts that are due are sent
+-- and still holds after R2Ts that are due are sent
 abbrev pub FewWhereSent : Type 0
 FewWhereSent = (task : TaskState) (tags : List ℕ) → length tags ≤ length (due_asks task) → FewAreOpen task → FewAreOpen (with_asked tags task)
 
--- and as data comes
+-- and after data comes
 abbrev pub FewWhereFed : Type 0
 FewWhereFed = (task : TaskState) (out : Frame) → FewAreOpen task → FewAreOpen (with_data task out)
 
 -- ---- none is forgotten
 
--- where a command announces no more data, an R2T is due, or the payload is whole
+-- if a command announces no more data, an R2T is due, or the payload is whole
 abbrev pub CommandIsWholeOrAsks : Type 0
 CommandIsWholeOrAsks = (values : Values) (command : Frame) → 1 ≤ values.max_burst_length → 1 ≤ values.max_outstanding_r2t
     → command_fault values command ≡ None → announces command ≡ false
     → is_due (remembered (begun values command)) ≡ not (is_whole (remembered (begun values command)))
 
--- where a sequence ends, an R2T is due or open, or the payload is whole
+-- when a sequence ends, an R2T is due or open, or the payload is whole
 abbrev pub SequenceIsWholeOrAsks : Type 0
 SequenceIsWholeOrAsks = (task : TaskState) (out : Frame) → 1 ≤ task.burst → 1 ≤ task.outstanding → task.unsolicited ≤ length task.payload
     → fault_of task out ≡ None → is_last out ≡ true
@@ -78,7 +78,7 @@ asks_one_by_one task =
     if lacks_data task && task.sequence_length == 0 && (next_ask task).offset == length task.payload && (next_ask task).number == task.sent
     then next_ask task ∷ [] else []
 
--- where one may be open, a command makes that one due
+-- if one R2T may be open, a command makes that one due
 abbrev pub CommandAsksOneByOne : Type 0
 CommandAsksOneByOne = (values : Values) (command : Frame) → 1 ≤ values.max_burst_length → values.max_outstanding_r2t ≡ 1
     → due_asks (remembered (begun values command)) ≡ asks_one_by_one (remembered (begun values command))

@@ -5,19 +5,19 @@ ghost use Rattle.iscsi_transfer.specs.DataIn.{pieces_of, piece_count};
 
 use std::alloc::{AllocError, Global};
 
-/// What one SCSI Data-In carries of the data of its command (RFC 7143 §11.7). Its DataSN is its place
-/// among the pieces, counted from 0 over all bursts.
+/// The part of a command's data that one SCSI Data-In carries (RFC 7143 §11.7). Its DataSN is its place among the
+/// pieces, counted from 0 over all bursts.
 #[derive(Clone, Copy, Debug, PartialEq, Eq)]
 pub struct Piece {
     /// Where it begins in the data: the Buffer Offset.
     pub offset: usize,
     /// Its length in bytes.
     pub length: usize,
-    /// F: it is the last of its burst.
+    /// F: it is the last piece of its burst.
     pub is_final: bool,
 }
 
-/// How many pieces data has that may have several.
+/// Computes how many pieces data has that may have several.
 fn count_among(length: usize, burst: usize, segment: usize) -> usize
     requires burst { 1 ≤ burst }
     requires segment { 1 ≤ segment }
@@ -26,7 +26,7 @@ fn count_among(length: usize, burst: usize, segment: usize) -> usize
     length / burst * burst.div_ceil(segment) + (length % burst).div_ceil(segment)
 }
 
-/// How many pieces data of this length has: no less data has more. It takes no memory.
+/// Returns how many pieces data of this length has. Less data has no more pieces. Allocates no memory.
 #[tactic(auto, using(crate::proofs::Numbered::few_pieces))]
 pub fn piece_count(length: usize, burst: usize, segment: usize) -> usize
     requires burst { 1 ≤ burst }
@@ -40,7 +40,7 @@ pub fn piece_count(length: usize, burst: usize, segment: usize) -> usize
     count_among(length, burst, segment)
 }
 
-/// Piece number `number` of data that may have several, as [`piece_at`] gives it.
+/// Returns piece number `number` of data that may have several pieces, like [`piece_at`].
 fn piece_among(length: usize, burst: usize, segment: usize, number: usize) -> Piece
     requires burst { 1 ≤ burst }
     requires segment { 1 ≤ segment }
@@ -59,9 +59,9 @@ fn piece_among(length: usize, burst: usize, segment: usize, number: usize) -> Pi
     }
 }
 
-/// Piece number `number` of data of this length, counted from 0: the data is cut at the multiples of
-/// MaxBurstLength, here `burst`, and each burst at the multiples of the initiator's
-/// MaxRecvDataSegmentLength, here `segment`, from its start (RFC 7143 §13.12, §13.13).
+/// Returns piece number `number` of data of this length, counted from 0. The data is cut at the multiples of
+/// MaxBurstLength, here `burst`. Each burst is cut at the multiples of the initiator's MaxRecvDataSegmentLength, here
+/// `segment`, from its start (RFC 7143 §13.12, §13.13).
 #[tactic(auto, using(crate::proofs::Numbered::only_piece))]
 pub fn piece_at(length: usize, burst: usize, segment: usize, number: usize) -> Piece
     requires burst { 1 ≤ burst }
@@ -79,7 +79,7 @@ pub fn piece_at(length: usize, burst: usize, segment: usize, number: usize) -> P
     piece_among(length, burst, segment, number)
 }
 
-/// The pieces in which data of this length is sent, in order, as [`piece_at`] gives them. No data is no
+/// Returns the pieces in which data of this length is sent, in order, as [`piece_at`] computes them. Empty data has no
 /// piece.
 pub fn data_ins(
     alloc: Global,

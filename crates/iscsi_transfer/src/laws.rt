@@ -1,11 +1,10 @@
-//! What holds of the pieces of all data, and of what is asked for. The functions do nothing: their contracts
-//! are the laws.
+//! Laws of the pieces of data, and of what R2Ts ask for. The functions do nothing: their contracts are the laws.
 
 ghost use Rattle.iscsi_transfer.specs.Laws.{PiecesFit, PiecesAreJoined, PiecesAreCounted, LessHasFewer, PiecesLie};
 ghost use Rattle.iscsi_transfer.specs.TaskLaws.{EachByteIsAskedFor, NoByteIsAskedForTwice, NothingElseIsAskedFor, DueRiseByOne, SentIsDueNoMore, OpenAreCounted, FewAtFirst, FewWhereSent, FewWhereFed, CommandIsWholeOrAsks, SequenceIsWholeOrAsks, CommandAsksOneByOne, DataAsksOneByOne};
 
-/// Each piece has some bytes of one burst, no more than a segment, and F where it ends its burst.
-/// Joined, the pieces are the data. Less data has no more pieces.
+/// States that each piece has some bytes of one burst, no more than a segment, and F if it ends its burst. Joined, the
+/// pieces are the data. Less data has no more pieces.
 pub fn pieces_are_the_data()
     ensures fit { PiecesFit }
     ensures lie { PiecesLie }
@@ -14,8 +13,8 @@ pub fn pieces_are_the_data()
     ensures fewer { LessHasFewer }
 {}
 
-/// The R2Ts of a command, by their numbers, ask for each byte behind the unsolicited data up to the length
-/// that is wanted once, and for no other. They are due in rising number, each until it is sent.
+/// States that the R2Ts of a command, by their numbers, ask once for each byte after the unsolicited data, up to the
+/// wanted length. They ask for no other byte. They are due in rising number, each until it is sent.
 pub fn each_byte_is_asked_for_once()
     ensures each { EachByteIsAskedFor }
     ensures once { NoByteIsAskedForTwice }
@@ -24,14 +23,14 @@ pub fn each_byte_is_asked_for_once()
     ensures sent { SentIsDueNoMore }
 {}
 
-/// Where a command announces no more data, and where a sequence of Data-Outs ends, an R2T is due or open
-/// exactly where the payload is not whole.
+/// States that an R2T is due or open exactly if the payload is not whole. This holds after a command that announces no
+/// more data, and at the end of each sequence of Data-Outs.
 pub fn whole_or_asked_for()
     ensures command { CommandIsWholeOrAsks }
     ensures sequence { SequenceIsWholeOrAsks }
 {}
 
-/// No more than MaxOutstandingR2T are open at a time (RFC 7143 §13.17).
+/// States that no more than MaxOutstandingR2T R2Ts are open at a time (RFC 7143 §13.17).
 pub fn few_are_open()
     ensures counted { OpenAreCounted }
     ensures first { FewAtFirst }
@@ -39,7 +38,7 @@ pub fn few_are_open()
     ensures fed { FewWhereFed }
 {}
 
-/// Where that is one, an R2T is due as the payload comes to its offset, and no other.
+/// States that, if MaxOutstandingR2T is 1, an R2T is due when the payload reaches its offset, and no other is.
 pub fn one_is_open_at_a_time()
     ensures command { CommandAsksOneByOne }
     ensures data { DataAsksOneByOne }

@@ -1,5 +1,5 @@
-//! The data of one command, as it goes between a target and an initiator (RFC 7143 §11.7): to the initiator
-//! in Data-Ins, and from it with the command, in Data-Outs that come unasked, and in those that R2Ts ask for.
+//! The data of one command between a target and an initiator (RFC 7143 §11.7). Data for the initiator is sent in
+//! Data-Ins. Data from it comes with the command, in unsolicited Data-Outs, and in Data-Outs that R2Ts ask for.
 //!
 //! ```text
 //! 10240 bytes, MaxBurstLength 8192, MaxRecvDataSegmentLength 4096:
@@ -21,17 +21,17 @@
 //!
 //! - [`data_ins`] cuts the data at the multiples of MaxBurstLength, and each burst at the multiples of
 //!   MaxRecvDataSegmentLength from its start. F is set on the last piece of each burst.
-//! - [`piece_count`] is how many pieces there are, and [`piece_at`] computes each from its number, so that
-//!   no list of them has to be kept.
+//! - [`piece_count`] returns how many pieces there are. [`piece_at`] computes each from its number, so that no list of
+//!   them has to be kept.
 //! - Joined, the pieces are the data ([`laws::pieces_are_the_data`]).
-//! - A [`Task`] takes a command's data: it tells the first fault of the command and of each Data-Out
-//!   ([`DataFault`]), and what stands of the payload, for every past of the task (`specs/Payload.antt`).
-//! - It asks for each byte behind the unsolicited data once and for no other
-//!   ([`laws::each_byte_is_asked_for_once`]), with no more than MaxOutstandingR2T open at a time
-//!   ([`laws::few_are_open`]; where that is one, [`laws::one_is_open_at_a_time`]), and where a sequence ends,
-//!   an R2T is due or open exactly where the payload is not whole ([`laws::whole_or_asked_for`]).
+//! - A [`Task`] collects a command's data. For every past of the task (`specs/Payload.antt`), it reports the payload so
+//!   far, and the first fault of the command and of each Data-Out ([`DataFault`]).
+//! - It asks once for each byte after the unsolicited data, and for no other ([`laws::each_byte_is_asked_for_once`]).
+//! - No more than MaxOutstandingR2T R2Ts are open at a time ([`laws::few_are_open`]; if that is one,
+//!   [`laws::one_is_open_at_a_time`]).
+//! - When a sequence ends, an R2T is due or open exactly if the payload is not whole ([`laws::whole_or_asked_for`]).
 //! - The data stays in the buffers in which it came ([`data_parts::Parts`]). Only [`Task::start`] and
-//!   [`Task::data_out`] take memory; for a command that takes no data the first takes none.
+//!   [`Task::data_out`] allocate memory. For a command that takes no data, [`Task::start`] allocates none.
 #![tactic(auto)]
 
 mod data_in;

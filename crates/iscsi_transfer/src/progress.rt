@@ -11,16 +11,16 @@ use iscsi_login::Values;
 use iscsi_pdu::{Frame, Header};
 use std::marker::Model;
 
-/// So many bytes are asked for at most.
+/// The longest payload that R2Ts ask for, in bytes.
 pub(crate) const MOST_WANTED: usize = 1_048_576;
 
-/// So many R2Ts of a command are open at a time at most: no login agrees on more.
+/// The most R2Ts of a command that are open at a time. No login agrees on more.
 pub const MOST_OPEN: usize = 4;
 
-/// The Target Transfer Tag of unsolicited data (RFC 7143 §11.7.4). That of an R2T is below it.
+/// The Target Transfer Tag of unsolicited data (RFC 7143 §11.7.4). The tag of an R2T is below it.
 pub const NO_TRANSFER_TAG: u32 = 0xffff_ffff;
 
-/// A part of a command's data that is asked for by an R2T (RFC 7143 §11.8).
+/// A part of a command's data for which an R2T asks (RFC 7143 §11.8).
 #[derive(Clone, Copy, Debug, PartialEq, Eq)]
 pub struct Ask {
     /// R2TSN: its place among the command's R2Ts, counted from 0.
@@ -31,8 +31,8 @@ pub struct Ask {
     pub length: u32,
 }
 
-/// How far the data of one SCSI Command has come (RFC 7143 §4.2.4.2), without the data: in its place clauses see so many zeros.
-/// It is all that is kept of a command whose data is to be thrown away.
+/// How far the data of one SCSI Command has come (RFC 7143 §4.2.4.2), without the data itself: clauses see as many
+/// zeros in its place. It is all that is kept of a command whose data is to be thrown away.
 #[derive(Drop)]
 pub struct Progress {
     /// How many bytes have come.
@@ -41,7 +41,7 @@ pub struct Progress {
     expected: usize,
     first_burst: usize,
     burst: usize,
-    /// How many bytes came unasked.
+    /// How many bytes came unsolicited.
     unsolicited: usize,
     /// More unsolicited Data-Outs are to come.
     is_open: bool,
@@ -76,14 +76,14 @@ impl Model for Progress {
     ghost invariant = { IsCounted };
 }
 
-/// Behind the command unsolicited Data-Outs come: it has W and no F (RFC 7143 §11.3.1).
+/// Returns whether unsolicited Data-Outs follow the command: it has W and no F (RFC 7143 §11.3.1).
 pub(crate) fn announces(command: &Frame) -> bool
     ensures { result ≡ announces command.now }
 {
     command.header.is_write() && !command.header.is_final()
 }
 
-/// How many bytes the command takes from the initiator.
+/// Returns how many bytes the command takes from the initiator.
 pub(crate) fn expected(command: &Frame) -> usize
     ensures value { result ≡ expected_in command.now }
     ensures bound { result ≤ 4294967295 }
@@ -96,7 +96,7 @@ pub(crate) fn expected(command: &Frame) -> usize
 }
 
 impl Progress {
-    /// That of a SCSI Command that has just come.
+    /// Creates the progress of a SCSI Command that has just come.
     pub(crate) fn begun(command: &Frame, values: &Values) -> Progress
         requires burst { 1 ≤ values.now.max_burst_length }
         requires outstanding { values.now.max_outstanding_r2t ≤ 4 }
@@ -128,7 +128,7 @@ impl Progress {
         }
     }
 
-    /// How long the payload is to be.
+    /// Returns how long the payload is to be.
     fn wanted(&self) -> usize
         ensures { result ≡ wanted_in self.now }
     {
@@ -139,14 +139,14 @@ impl Progress {
         }
     }
 
-    /// The unsolicited data has ended, and more is wanted.
+    /// Returns whether the unsolicited data has ended, and more is wanted.
     pub fn lacks_data(&self) -> bool
         ensures { result ≡ lacks_data self.now }
     {
         !self.is_open && self.length < self.wanted()
     }
 
-    /// How many R2Ts have what they ask for.
+    /// Returns how many whole bursts have come after the unsolicited data, each for one R2T.
     fn filled(&self) -> usize
         ensures value { result ≡ filled self.now }
         ensures bound { self.now.unsolicited + result * self.now.burst ≤ length self.now.payload }
@@ -160,7 +160,7 @@ impl Progress {
         }
     }
 
-    /// Where the burst begins that the payload has come to.
+    /// Returns where the burst begins that the payload has reached.
     fn next_offset(&self) -> usize
         ensures value { result ≡ (next_ask self.now).offset }
         ensures bound { result ≤ length self.now.payload }
@@ -168,7 +168,7 @@ impl Progress {
         self.unsolicited + self.filled() * self.burst
     }
 
-    /// The length of that burst.
+    /// Returns the length of the burst that the payload has reached.
     fn next_length(&self) -> usize
         ensures { result ≡ (next_ask self.now).length }
     {
@@ -176,7 +176,7 @@ impl Progress {
             .min(self.wanted().saturating_sub(self.next_offset()))
     }
 
-    /// The Target Transfer Tag of the open sequence.
+    /// Returns the Target Transfer Tag of the open sequence.
     fn sequence_tag(&self) -> u32
         ensures { result ≡ sequence_tag self.now }
     {
@@ -187,7 +187,7 @@ impl Progress {
         }
     }
 
-    /// Where the open sequence ends at the latest.
+    /// Returns where the open sequence ends at the latest.
     fn sequence_end(&self) -> usize
         ensures { result ≡ sequence_end self.now }
     {
@@ -198,7 +198,7 @@ impl Progress {
         }
     }
 
-    /// How many R2Ts were sent.
+    /// Returns how many R2Ts were sent.
     fn sent(&self) -> usize
         ensures value { result ≡ self.now.sent }
         ensures behind { filled self.now ≤ result }
@@ -206,7 +206,7 @@ impl Progress {
         self.filled() + self.open_tags.len()
     }
 
-    /// How many may have been sent, as no more than MaxOutstandingR2T are open (RFC 7143 §13.17).
+    /// Returns how many R2Ts may have been sent, with no more than MaxOutstandingR2T open (RFC 7143 §13.17).
     fn allowed(&self) -> usize
         ensures { result ≡ allowed self.now }
     {
@@ -217,7 +217,8 @@ impl Progress {
         bursts.min(self.filled() + self.outstanding)
     }
 
-    /// The first R2T that is due, which is to be sent now, and then [`Progress::asked`] says its tag.
+    /// Returns the first R2T that is due. The caller is to send it now, and then report its tag with
+    /// [`Progress::asked`].
     pub fn due(&self) -> Option<Ask>
         ensures value { result ≡ first (due_asks self.now) }
         ensures few { length (due_asks self.now) ≤ 4 }
@@ -235,14 +236,14 @@ impl Progress {
         })
     }
 
-    /// An R2T is open: not all that it asked for has come.
+    /// Returns whether an R2T is open: not all that it asked for has come.
     pub fn is_asked(&self) -> bool
         ensures { result ≡ is_asked self.now }
     {
         self.lacks_data() && !self.open_tags.is_empty()
     }
 
-    /// The first R2T that was due is sent, with this Target Transfer Tag.
+    /// Records that the first R2T that was due is sent, with this Target Transfer Tag.
     pub fn asked(&mut self, tag: u32)
         requires due { is_due self.old ≡ true }
         ensures { self.new ≡ with_asked (tag ∷ []) self.old }
@@ -250,7 +251,7 @@ impl Progress {
         self.open_tags.push(tag);
     }
 
-    /// What is wrong with a Data-Out of this command: the first of [`DataFault::TransferTag`],
+    /// Returns what is wrong with a Data-Out of this command: the first of [`DataFault::TransferTag`],
     /// [`DataFault::DataSn`], [`DataFault::BufferOffset`], [`DataFault::TooMuch`] and [`DataFault::Final`].
     pub fn fault_of(&self, out: &Frame) -> Option<DataFault>
         ensures { result ≡ fault_in self.now out.now }
@@ -258,7 +259,7 @@ impl Progress {
         self.first_fault(out)
     }
 
-    /// The same; one with which nothing is wrong brings no more than the command takes.
+    /// Like `fault_of`; `None` also guarantees that the data fits.
     pub(crate) fn judged(&self, out: &Frame) -> Option<DataFault>
         ensures fault { result ≡ fault_in self.now out.now }
         ensures counted { IfNone result (self.now.sequence_length ≤ 4294967295) }
@@ -266,7 +267,7 @@ impl Progress {
         ensures takes { IfNone result (Takes self.now (brought out.now.header (length out.now.body))) }
     {
         let fault = self.first_fault(out);
-        // A burst has some bytes, so that the end of a sequence fills one R2T alone.
+        // A burst has at least one byte, so the end of a sequence completes only one R2T.
         prove!(1 <= self.burst);
         fault
     }
@@ -294,8 +295,8 @@ impl Progress {
         }
     }
 
-    /// A Data-Out of this command comes whose data is thrown away: nothing changes where something is wrong with it
-    /// ([`Progress::fault_of`]).
+    /// Accepts a Data-Out of this command, and throws its data away. If something is wrong with it
+    /// ([`Progress::fault_of`]), nothing changes.
     pub fn data_out(&mut self, out: &Frame) -> Result<(), DataFault>
         ensures ok { OnOk result (self.new ≡ blank (with_data self.old out.now)) }
         ensures lawful { OnOk result (fault_in self.old out.now ≡ None) }
@@ -309,7 +310,7 @@ impl Progress {
         Ok(())
     }
 
-    /// The data of a Data-Out is there: so many bytes. No R2T was sent.
+    /// Counts the data of a Data-Out, `size` bytes. Which R2Ts are open stays the same.
     fn grow(&mut self, header: &Header, size: usize)
         requires counted { self.old.sequence_length ≤ 4294967295 }
         requires short { length self.old.payload + size ≤ self.old.expected }
@@ -328,7 +329,7 @@ impl Progress {
         };
     }
 
-    /// A Data-Out is accepted, with so many bytes.
+    /// Accepts a Data-Out with `size` bytes. Its R2T is no longer open once all that it asked for has come.
     pub(crate) fn take(&mut self, header: &Header, size: usize)
         requires counted { self.old.sequence_length ≤ 4294967295 }
         requires short { length self.old.payload + size ≤ self.old.expected }
@@ -342,7 +343,7 @@ impl Progress {
         }
     }
 
-    /// The payload is whole: no unsolicited Data-Out is to come, and nothing is to be asked for.
+    /// Returns whether the payload is whole: no unsolicited Data-Out is to come, and nothing is to be asked for.
     pub fn is_whole(&self) -> bool
         ensures { result ≡ is_whole_in self.now }
     {

@@ -13,11 +13,11 @@ use iscsi_pdu::Frame;
 use std::alloc::{AllocError, Global};
 use std::marker::Model;
 
-/// The data of one SCSI Command as it comes from the initiator (RFC 7143 §4.2.4.2): with the command, in
-/// Data-Outs that come unasked, and in those that R2Ts ask for. Clauses see what it remembers of its past.
+/// The data of one SCSI Command as it comes from the initiator (RFC 7143 §4.2.4.2): with the command, in unsolicited
+/// Data-Outs, and in Data-Outs for R2Ts. Clauses see what it remembers of its past.
 #[derive(Drop)]
 pub struct Task {
-    /// What has come.
+    /// The data that has come.
     payload: Parts,
     progress: Progress,
 }
@@ -33,8 +33,8 @@ impl Model for Task {
     ghost invariant = { λ t. t.progress.payload ≡ replicate (length t.payload) 0 };
 }
 
-/// What is wrong with the immediate data of a SCSI Command, or with the Data-Outs that it announces: the
-/// first of [`DataFault::ImmediateData`], [`DataFault::UnsolicitedData`] and [`DataFault::TooMuch`].
+/// Returns what is wrong with the immediate data of a SCSI Command, or with the Data-Outs that it announces: the first
+/// of [`DataFault::ImmediateData`], [`DataFault::UnsolicitedData`] and [`DataFault::TooMuch`].
 pub fn command_fault(command: &Frame, values: &Values) -> Option<DataFault>
     ensures { result ≡ command_fault_in values.now command.now }
 {
@@ -50,7 +50,7 @@ pub fn command_fault(command: &Frame, values: &Values) -> Option<DataFault>
     }
 }
 
-/// The data that came with a command. Where none did it takes no memory.
+/// Returns the data that came with a command. If none came, allocates no memory.
 fn immediate(alloc: Global, body: Vec<u8>) -> Result<Parts, AllocError>
     ensures ok { IfOk result (λ parts. parts ≡ body.items) }
     ensures err { OnErr result (1 ≤ length body.items) }
@@ -64,8 +64,8 @@ fn immediate(alloc: Global, body: Vec<u8>) -> Result<Parts, AllocError>
 }
 
 impl Task {
-    /// The task of a SCSI Command that has just come. The immediate data stays in the buffer in which it came, and
-    /// no room is made for what is to come.
+    /// Starts the task of a SCSI Command that has just come. The immediate data stays in the buffer in which it came,
+    /// and no room is made for what is to come.
     pub fn start(alloc: Global, command: Frame, values: &Values) -> Result<Task, DataFault>
         requires burst { 1 ≤ values.now.max_burst_length }
         requires outstanding { values.now.max_outstanding_r2t ≤ 4 }
@@ -82,15 +82,16 @@ impl Task {
         Ok(Task { payload, progress })
     }
 
-    /// The unsolicited data has ended, and more is wanted.
+    /// Returns whether the unsolicited data has ended, and more is wanted.
     pub fn lacks_data(&self) -> bool
         ensures { result ≡ lacks_data self.now }
     {
         self.progress.lacks_data()
     }
 
-    /// The first R2T that is due (RFC 7143 §11.8), which is to be sent now, and then [`Task::asked`] says its tag.
-    /// R2Ts are due as soon as the unsolicited data has ended, and no more than MaxOutstandingR2T are open.
+    /// Returns the first R2T that is due (RFC 7143 §11.8). The caller is to send it now, and then report its tag with
+    /// [`Task::asked`]. R2Ts are due as soon as the unsolicited data has ended, and no more than MaxOutstandingR2T are
+    /// open.
     pub fn due(&self) -> Option<Ask>
         ensures value { result ≡ first (due_asks self.now) }
         ensures few { length (due_asks self.now) ≤ 4 }
@@ -98,14 +99,14 @@ impl Task {
         self.progress.due()
     }
 
-    /// An R2T is open: not all that it asked for has come.
+    /// Returns whether an R2T is open: not all that it asked for has come.
     pub fn is_asked(&self) -> bool
         ensures { result ≡ is_asked self.now }
     {
         self.progress.is_asked()
     }
 
-    /// The first R2T that was due is sent, with this Target Transfer Tag.
+    /// Records that the first R2T that was due is sent, with this Target Transfer Tag.
     pub fn asked(&mut self, tag: u32)
         requires due { is_due self.old ≡ true }
         ensures same { self.new ≡ with_asked (tag ∷ []) self.old }
@@ -114,7 +115,7 @@ impl Task {
         self.progress.asked(tag);
     }
 
-    /// What is wrong with a Data-Out of this command: the first of [`DataFault::TransferTag`],
+    /// Returns what is wrong with a Data-Out of this command: the first of [`DataFault::TransferTag`],
     /// [`DataFault::DataSn`], [`DataFault::BufferOffset`], [`DataFault::TooMuch`] and [`DataFault::Final`].
     pub fn fault_of(&self, out: &Frame) -> Option<DataFault>
         ensures { result ≡ fault_in self.now out.now }
@@ -122,8 +123,8 @@ impl Task {
         self.progress.fault_of(out)
     }
 
-    /// A Data-Out of this command comes. Its data belongs to the payload, in the buffer in which it came; or something
-    /// is wrong with it ([`Task::fault_of`]), or an allocation fails ([`DataFault::Memory`]), and nothing changes.
+    /// Accepts a Data-Out of this command. Its data is appended to the payload, in the buffer in which it came. If
+    /// something is wrong with it ([`Task::fault_of`]) or an allocation fails ([`DataFault::Memory`]), nothing changes.
     pub fn data_out(&mut self, out: Frame) -> Result<(), DataFault>
         ensures ok { OnOk result (self.new ≡ with_data self.old out) }
         ensures stands { OnOk result ((past : Past) → self.old ≡ remembered past → self.new ≡ remembered (accepted out past)) }
@@ -141,28 +142,28 @@ impl Task {
         Ok(())
     }
 
-    /// The payload is whole: no unsolicited Data-Out is to come, and nothing is to be asked for.
+    /// Returns whether the payload is whole: no unsolicited Data-Out is to come, and nothing is to be asked for.
     pub fn is_whole(&self) -> bool
         ensures { result ≡ is_whole_in self.now }
     {
         self.progress.is_whole()
     }
 
-    /// How far its data has come. The data is thrown away, and its buffers go back to the system.
+    /// Returns how far its data has come. The data is thrown away, and its buffers are freed.
     pub fn into_progress(self) -> Progress
         ensures { result ≡ blank self }
     {
         self.progress
     }
 
-    /// What has come of the data.
+    /// Returns the data that has come.
     pub fn payload(&self) -> Data<'_>
         ensures { result ≡ self.now.payload }
     {
         self.payload.data()
     }
 
-    /// What has come of the data, with its buffers.
+    /// Returns the data that has come, with its buffers.
     pub fn into_payload(self) -> Parts
         ensures { result ≡ self.payload }
     {
