@@ -23,8 +23,8 @@ use Rattle.iscsi_session.specs.Texts.{exchange_of, text_answer_in}
 use Rattle.iscsi_session.specs.Functions.{FunctionReach, own_reach, reached, awaited, plugs, plugged, function_result, function_answer}
 use Rattle.iscsi_exchange.specs.ExchangeState.{ExchangeState}
 
--- RFC 7143 §11.18, §11.19: the ping data is returned, as much of it as the initiator takes in one PDU
--- and no more than a PDU of this target bears; the reserved tag asks for no answer
+-- RFC 7143 §11.18, §11.19: the ping data is returned, cut to what the initiator takes in one PDU and to what a PDU of
+-- this target can have. The reserved tag asks for no answer.
 abbrev pub ping_answers : Stamp → Values → Frame → List Answer
 ping_answers numbers_now values frame =
     if initiator_task_tag frame.header == reserved_tag then []
@@ -34,7 +34,7 @@ ping_answers numbers_now values frame =
       body = take (min values.max_recv_data_segment_length most_data) frame.body;
     }) ∷ []
 
--- RFC 7143 §11.14.1: the session, or its one connection by its CID, is closed
+-- RFC 7143 §11.14.1: the session is closed, or its one connection by its CID
 abbrev pub closes : Params → Frame → Bool
 closes params frame = logout_reason frame.header == 0 || logout_reason frame.header == 1 && connection_id frame.header == params.connection_id
 
@@ -42,7 +42,7 @@ abbrev pub logout_response : LogoutResult → Stamp → Frame → Answer
 logout_response result numbers_now frame = answers.LogoutResponse
     (record { initiator_task_tag = initiator_task_tag frame.header; stamp = numbers_now; response = result })
 
--- RFC 7143 §11.15.1
+-- RFC 7143 §11.15.1: the answer to a Logout
 abbrev pub logout_answer : Stamp → Params → Frame → Answer
 logout_answer numbers_now params frame =
     if closes params frame then logout_response results.Closed numbers_now frame
@@ -50,7 +50,7 @@ logout_answer numbers_now params frame =
     else if logout_reason frame.header == 2 then logout_response results.NoRecovery numbers_now frame
     else reject reasons.InvalidField numbers_now frame
 
--- a function that waits for data is not answered as it acts
+-- a function that waits for data is not answered when it acts
 abbrev pub acted_answers : List ℕ → Stamp → TaskResult → List ℕ → List Answer
 acted_answers [] numbers_now result function = function_answer numbers_now result function ∷ []
 acted_answers (k ∷ others) numbers_now result function = []
@@ -67,7 +67,7 @@ act_answers_by opcodes.DataOut waited result exchange numbers_now params frame =
 act_answers_by opcodes.Snack waited result exchange numbers_now params frame = []
 act_answers_by (opcodes.Other n) waited result exchange numbers_now params frame = []
 
--- the commands of its own session that a request is to look at, where these are the numbers of the target's units
+-- a function as applied to the commands of its own session; these are the numbers of the target's units
 abbrev pub reach_of : List ℕ → ℕ → Past → FunctionReach
 reach_of luns k past = own_reach luns (frame_of past.came k).header
 
@@ -77,7 +77,7 @@ ended luns k past =
     let reach = reach_of luns k past in
     if is_function (frame_of past.came k) then draining k (awaited past reach) (removing (reached reach past) (moved k past)) else moved k past
 
--- and an ABORT TASK may plug a number; its answer is stamped before
+-- an ABORT TASK may plug a number, after its answer is stamped
 abbrev pub behind : List ℕ → ℕ → Past → Past → Past
 behind luns k past after =
     if is_function (frame_of past.came k) && plugs past (reach_of luns k past) then plugged (ref_cmd_sn (frame_of past.came k).header) after else after
@@ -94,7 +94,7 @@ act_answers luns k past =
 abbrev pub acted : List ℕ → ℕ → Past → Past
 acted luns k past = answering (act_answers luns k past) (behind luns k past (ended luns k past))
 
--- what a Task Management Function Request that acts orders of its target: its header
+-- the order that a Task Management Function Request gives its target when it acts: its header
 abbrev pub ordered : ℕ → Past → List (List ℕ)
 ordered k past = if is_function (frame_of past.came k) then (frame_of past.came k).header ∷ [] else []
 

@@ -1,4 +1,4 @@
--- What a SCSI Command is answered once it is done.
+-- The answers to a SCSI Command that is done.
 use Rattle.std.specs.Prelude.{ℕ, ◌-◌, List, [], ◌∷◌, ◌++◌, length, map, take, ◌&&◌, ◌||◌, not, ◌==◌, nat_lt, option_map, if◌then◌else◌}
 use Rattle.std.specs.List.{enumerate_from}
 use Rattle.scsi_sense.specs.Codes.{status_number}
@@ -17,7 +17,8 @@ use Rattle.iscsi_transfer.specs.DataIn.{pieces_of, part_of}
 use Rattle.iscsi_transfer.specs.declared.data_in.Piece.{Piece}
 use Rattle.iscsi_outbox.specs.declared.shared.SharedFields.{SharedFields}
 
--- RFC 7143 §11.3.4: how many bytes the initiator expects. Own: where data is given, none unless the command reads and does not write.
+-- RFC 7143 §11.3.4: how many bytes the initiator expects. Own: if data is returned, none unless the command reads and
+-- does not write.
 abbrev pub expected_length : Frame → Outcome → ℕ
 expected_length frame done =
     if length done.given == 0 || is_read frame.header && not (is_write frame.header) then expected_transfer_length frame.header else 0
@@ -46,16 +47,16 @@ data_in stamp frame sent piece = answers.DataIn (record {
   body = part_of sent piece.1;
 })
 
--- what all of a command have in common
+-- the fields that all Data-Ins of a command have in common
 abbrev pub shared_fields : Stamp → Frame → SharedFields
 shared_fields stamp frame =
     record { initiator_task_tag = initiator_task_tag frame.header; exp_cmd_sn = stamp.exp_cmd_sn; max_cmd_sn = stamp.max_cmd_sn }
 
--- one for each piece of the data, in order
+-- a Data-In for each piece of the data, in order
 unfoldable pub data_answers : Stamp → Values → Frame → List ℕ → List Answer
 data_answers stamp values frame sent = map (data_in stamp frame sent) (enumerate_from 0 (sent_pieces values sent))
 
--- the SCSI Response (RFC 7143 §11.4), behind so many Data-Ins (§11.4.8)
+-- the SCSI Response (RFC 7143 §11.4), after this number of Data-Ins (§11.4.8)
 unfoldable pub scsi_answer : Stamp → Frame → Outcome → ℕ → Answer
 scsi_answer stamp frame done data_ins = answers.ScsiResponse (record {
   initiator_task_tag = initiator_task_tag frame.header;
@@ -66,7 +67,7 @@ scsi_answer stamp frame done data_ins = answers.ScsiResponse (record {
   sense = option_map sense_bytes done.sense;
 })
 
--- all that a command is answered, in order: its data in pieces, and how it ended
+-- all answers to a command, in order: its data in pieces, and how it ended
 abbrev pub command_answers : Stamp → Values → Frame → Outcome → List Answer
 command_answers stamp values frame done =
     let sent = data_sent frame done in

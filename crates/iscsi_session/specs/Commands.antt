@@ -10,8 +10,8 @@ use Rattle.iscsi_pdu.specs.Frames.{Frame}
 use Rattle.scsi_unit.specs.CameOut.{CameOut}
 use Rattle.scsi_unit.specs.Units.{UnitStates, come_out}
 
--- The units after a command with all its data, by how it came out, and what its initiator is told. A command with an
--- additional header, or with both R and W, is answered 05/2400 in place of being done (own).
+-- The units after a command with all its data, by how it came out, and the outcome for its initiator. A command with an
+-- additional header, or with both R and W, is answered 05/2400 instead of being done (own).
 unfoldable pub carried_out : CameOut → UnitStates → NexusName → Frame → List ℕ → UnitStates × Outcome
 carried_out came units nexus frame payload =
     if nat_lt 0 (additional_length frame.header) || is_read frame.header && is_write frame.header

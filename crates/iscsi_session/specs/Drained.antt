@@ -3,7 +3,7 @@ use Rattle.std.specs.Prelude.{ℕ, List}
 use Rattle.iscsi_transfer.specs.Task.{blank}
 use Rattle.iscsi_session.specs.declared.transfers.Transfer.{Transfer}
 
--- without the data: zeros stand in its place
+-- the same without the data: zeros in its place
 abbrev pub blanked : Transfer → Transfer
 blanked transfer = record transfer { task = blank transfer.task }
 

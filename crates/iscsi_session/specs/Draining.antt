@@ -11,7 +11,7 @@ use Rattle.iscsi_session.specs.declared.verdict.Verdict.{Verdict}
 use Rattle.iscsi_session.specs.Transfers.{verdict_on}
 use Rattle.iscsi_session.specs.State.{TransferList, no_transfer, bears, place_with, place_for, judged_at, fed_at}
 
--- the data of those that were removed, as long as an R2T is open
+-- an R2T is open for the data of a removed command
 abbrev pub is_draining : Drained → Bool
 is_draining drained = is_asked drained.transfer.task
 
@@ -36,7 +36,7 @@ fed_drain drains frame (Some i) =
     let transfer = (drained_at drains i).transfer in
     slice_set drains i (record (drained_at drains i) { transfer = record transfer { task = blank (with_data transfer.task frame) } })
 
--- a Data-Out for a command that is not finished, or for one whose data is drained
+-- the verdict on a Data-Out for a command that is not finished, or for one whose data is drained
 abbrev pub judged_in : TransferList → Frame → Verdict
 judged_in transfers frame =
     if is_some (place_for frame transfers.list) then judged_at transfers.list frame (place_for frame transfers.list)
@@ -55,18 +55,18 @@ is_live_in tag transfers = is_some (place_with tag transfers.list) || is_some (d
 abbrev pub function_tag : Drained → ℕ
 function_tag drained = initiator_task_tag drained.function
 
--- not all has come that the function with this tag waits for
+-- data is still to come for which the function with this tag waits
 abbrev pub lacks_for : List Drained → ℕ → Bool
 lacks_for drains tag = list_any (λ drained. function_tag drained == tag && is_draining drained) drains
 
--- where data stands of the first function that need wait no more
+-- the place of the first data whose function need not wait any longer
 abbrev pub telling_place : List Drained → Option ℕ
 telling_place drains = position (λ drained. not (lacks_for drains (function_tag drained))) drains
 
 abbrev pub function_at : List Drained → Option ℕ → Option (List ℕ)
 function_at drains at = option_map (λ i. (drained_at drains i).function) at
 
--- that function is finished
+-- the function with this tag is finished
 abbrev pub drains_without : ℕ → List Drained → List Drained
 drains_without tag drains = filter (λ drained. not (function_tag drained == tag)) drains
 
@@ -74,7 +74,7 @@ abbrev pub told_in : TransferList → Option ℕ → TransferList
 told_in transfers None = transfers
 told_in transfers (Some i) = record transfers { drains = drains_without (function_tag (drained_at transfers.drains i)) transfers.drains }
 
--- what a function is to wait for, of the commands that it reaches
+-- the data of a command that it reaches, as a function is to wait for it
 abbrev pub drained_for : List ℕ → Transfer → Drained
 drained_for function transfer = record { function = function; transfer = blanked transfer }
 

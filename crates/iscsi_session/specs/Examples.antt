@@ -64,7 +64,7 @@ data_out tag = request 0x05 0x80 (low tag) (low 0)
 
 -- ---- sessions
 
--- the first CmdSN, and behind a login of one answer; CID 0; the units of the target are 0 and 1
+-- the first CmdSN, after a login of one answer; CID 0; the units of the target are 0 and 1
 abbrev pub params_from : ℕ → Params
 params_from first = record {
   nexus = record { initiator_name = 0x61 ∷ []; isid = replicate 6 0 };
@@ -100,19 +100,19 @@ from first = begun (params_from first)
 abbrev acts : Past → ℕ → Past
 acts past k = acted (0 ∷ 1 ∷ []) k past
 
--- a command that gives no data is done
+-- a command that returns no data is done
 abbrev does : Past → ℕ → Past
 does past k = answered_command good k past
 
 abbrev judges : Past → Frame → Past
 judges past frame = judged (verdict past frame) frame past
 
--- the first of the queue is done, where its data is whole
+-- the first of the queue is done, if its data is whole
 abbrev does_first : Past → ℕ → Past
 does_first past turn = fold does past (ready past)
 
--- a frame is judged, what is due acts, what is due is asked for, a function whose data has come is answered, and what is in the
--- queue is done
+-- A frame is judged, what is due acts, and what is due is asked for. A function whose data has come is answered, and
+-- what is in the queue is done.
 abbrev pub comes : Past → Frame → Past
 comes past frame =
     let a = judges past frame in
@@ -133,7 +133,7 @@ two_told : stamps prepared ≡ record { stat_sn = 1; exp_cmd_sn = 5; max_cmd_sn 
 unfolding computed
 two_told = refl
 
--- 5; 7, which waits; 6, and 7 behind it
+-- 5; 7, which waits; 6, and 7 after it
 held_numbers : stamps (all_come (from 5) (command 3 5 ∷ command 4 7 ∷ command 5 6 ∷ []))
     ≡ record { stat_sn = 1; exp_cmd_sn = 6; max_cmd_sn = 37 } ∷ record { stat_sn = 2; exp_cmd_sn = 8; max_cmd_sn = 38 } ∷ record
     { stat_sn = 3; exp_cmd_sn = 8; max_cmd_sn = 39 } ∷ []
@@ -174,7 +174,7 @@ closing_ends : ends (params_from 5) (logout 0 5) ≡ true
 unfolding computed
 closing_ends = refl
 
--- a Logout for recovery is answered and does not close; the number behind the window then comes in
+-- a Logout for recovery is answered and does not close; the number after the window is then inside it
 abbrev after_recovery : Past
 after_recovery = comes prepared (logout 2 5)
 
@@ -255,7 +255,7 @@ ninth_ping = refl
 
 -- ---- data that is asked for
 
--- a command with F and W that takes so many bytes
+-- a command with F and W that takes this many bytes
 abbrev pub taking : ℕ → ℕ → ℕ → Frame
 taking n tag number = record {
   header = 0x01 ∷ 0xa0 ∷ replicate 14 0 ++ low tag ++ low n ++ low number ++ replicate 20 0;
@@ -272,7 +272,8 @@ brings tag transfer_tag data_sn offset final body = record {
   body = body;
 }
 
--- 6 waits for 5 and is asked for its data all the same; the R2T carries the next StatSN, which the answer to 5 then has
+-- 6 waits for 5 and is asked for its data all the same. The R2T carries the next StatSN, which the answer to 5 then
+-- has.
 abbrev asking_ahead : Past
 asking_ahead = comes prepared (writing 3 6)
 
@@ -377,7 +378,7 @@ no_unit_is_told : function_result held_of_each (own_reach (0 ∷ 1 ∷ []) (func
 unfolding computed
 no_unit_is_told = refl
 
--- of the commands of another session those behind it too
+-- of the commands of another session, also those after it
 abbrev gone_elsewhere : Frame → List ℕ
 gone_elsewhere function = reached (record { function = function.header; luns = 0 ∷ 1 ∷ []; is_own = false }) held_of_each
 

@@ -52,7 +52,7 @@ four_at_once : said (long_write 4) ≡ nth_r2t 0 0 ∷ nth_r2t 1 8 ∷ nth_r2t 2
 unfolding computed
 four_at_once = refl
 
--- the tags of the next command's R2Ts go on
+-- the tags of the next command's R2Ts continue from there
 tags_go_on : (comes (long_write 2) (taking 16 4 6)).r2ts
     ≡ record { command = 0; tag = 0 } ∷ record { command = 0; tag = 1 } ∷ record { command = 1; tag = 2 } ∷ record { command = 1; tag = 3 } ∷ []
 unfolding computed

@@ -1,4 +1,4 @@
--- Room for what a READ of 1 MiB is answered, computed.
+-- Room for the answers to a READ of 1 MiB, computed.
 use Rattle.std.specs.Prelude.{◌≡◌, ℕ, ◌+◌, ◌*◌, [], ◌∷◌, ◌++◌, replicate, refl}
 use Rattle.iscsi_pdu.specs.Frames.{Frame}
 use Rattle.iscsi_login.specs.Values.{default_values}
@@ -9,7 +9,7 @@ use Rattle.iscsi_session.specs.Room.{room_for}
 abbrev read : Frame
 read = record { header = 0x01 ∷ 0xc0 ∷ replicate 18 0 ++ 0x00 ∷ 0x10 ∷ 0x00 ∷ 0x00 ∷ replicate 24 0; body = [] }
 
--- the default values, but for MaxRecvDataSegmentLength
+-- the default values, except for MaxRecvDataSegmentLength
 abbrev cut_at : ℕ → Values
 cut_at segment = record default_values { max_recv_data_segment_length = segment }
 

@@ -32,13 +32,13 @@ immediate_in past names = length (filter (λ k. is_immediate (frame_of past.came
 
 -- ---- which SCSI Commands a function removes, by the headers of both
 
--- a Task Management Function Request, as it looks at the commands of one session of its target
+-- a Task Management Function Request, as applied to the commands of one session of its target
 pub record FunctionReach : Type 0 where
   -- its header
   pub function : List ℕ
   -- the numbers of the target's units
   pub luns : List ℕ
-  -- the session is the one that it came from
+  -- whether the session is the one that it came from
   pub is_own : Bool
 
 abbrev pub own_reach : List ℕ → List ℕ → FunctionReach
@@ -47,7 +47,7 @@ own_reach luns function = record { function = function; luns = luns; is_own = tr
 abbrev pub has_unit : List ℕ → ℕ → Bool
 has_unit luns n = list_any (λ m. m == n) luns
 
--- the number of the unit that the LUN of a header names, where the target has it
+-- the number of the unit that the LUN of a header names, if the target has it
 abbrev pub unit_named : List ℕ → List ℕ → Option ℕ
 unit_named luns header = option_and_then (λ n. if has_unit luns n then Some n else None) (lun_number (lun_field header))
 
@@ -60,7 +60,7 @@ abbrev pub is_one_unit : Option ℕ → Option ℕ → Bool
 is_one_unit None other = false
 is_one_unit (Some n) other = is_number n other
 
--- of the session that the request came from: a command for immediate delivery, or numbered before the request (serially, RFC 1982)
+-- a command of another session, for immediate delivery, or numbered before the request (serially, RFC 1982)
 abbrev pub is_earlier : FunctionReach → List ℕ → Bool
 is_earlier reach command = not reach.is_own || is_immediate command || is_before (cmd_sn command) (cmd_sn reach.function)
 
@@ -82,20 +82,20 @@ reaches_by scopes.NoTask reach command = false
 unfoldable pub reaches : FunctionReach → List ℕ → Bool
 reaches reach command = reaches_by (scope reach) reach command
 
--- of those that are not finished, held or taken
+-- the commands that it reaches, of those that are not finished, held or taken
 unfoldable pub reached : FunctionReach → Past → List ℕ
 reached reach past = filter (λ k. reaches reach (frame_of past.came k).header) (unfinished past)
 
 -- ---- plugging (RFC 7143 §11.5.1, ABORT TASK)
 
--- own: what stands at a number that was plugged. Its opcode is none of an initiator's, and it does nothing.
+-- own: the placeholder for a number that was plugged. Its opcode is not one of an initiator's, and it does nothing.
 abbrev pub plug : Frame
 plug = record { header = 0x3E ∷ replicate 47 0; body = [] }
 
 abbrev pub is_plug : Frame → Bool
 is_plug frame = opcode_number frame.header == 0x3E
 
--- a number comes as if its request had
+-- a number counts as if its request had come
 abbrev pub plugged : ℕ → Past → Past
 plugged n past = record past { came = past.came ++ record { number = Some (order.index_of (numbers past) n); frame = plug } ∷ [] }
 
@@ -132,7 +132,7 @@ plugs_by scopes.NoTask past reach = false
 unfoldable pub plugs : Past → FunctionReach → Bool
 plugs past reach = plugs_by (scope reach) past reach
 
--- ---- what a function comes to (RFC 7143 §11.6.1)
+-- ---- the response to a function (RFC 7143 §11.6.1)
 
 abbrev pub abort_result : Aborted → TaskResult
 abort_result Live = results.Complete
@@ -140,7 +140,7 @@ abort_result Missing = results.Complete
 abort_result Plugged = results.Complete
 abort_result Nothing = results.NoTask
 
--- of one that is for all commands of a unit
+-- the response to a function that is for all commands of a unit
 abbrev pub set_result : FunctionReach → TaskResult
 set_result reach = if is_some (unit_named reach.luns reach.function) then results.Complete else results.NoUnit
 
@@ -167,15 +167,15 @@ function_answer numbers_now result function = answers.TaskManagementResponse
 abbrev pub waits : FunctionReach → Bool
 waits reach = waits_by (scope reach)
 
--- the commands whose data a function is to wait for: of those that it removes the ones for which an R2T is open
+-- the commands whose data a function is to wait for: of those that it removes, the ones for which an R2T is open
 unfoldable pub awaited : Past → FunctionReach → List ℕ
 awaited past reach = if waits reach then filter (is_asked_of past) (reached reach past) else []
 
--- not all has come that it waits for
+-- data is still to come for which it waits
 abbrev pub lacks : Past → ℕ → Bool
 lacks past k = list_any (λ d. d.function == k && is_asked_of past d.command) (drains_of past)
 
--- those that need wait no more, in the order in which they acted
+-- the functions that need not wait any longer, in the order in which they acted
 unfoldable pub drained_functions : Past → List ℕ
 drained_functions past = filter (λ k. not (lacks past k)) (pending past)
 

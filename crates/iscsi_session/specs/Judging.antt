@@ -1,4 +1,4 @@
--- What a frame in full feature phase is judged to be.
+-- The verdict on a frame in full feature phase.
 use Rattle.std.specs.Prelude.{ℕ, ◌+◌, List, [], ◌∷◌, Bool, true, false, ◌&&◌, ◌||◌, not, ◌==◌, nat_lt, Option, is_some, is_none, option_map, if◌then◌else◌}
 use Rattle.iscsi_pdu.specs.Header.{opcode_of, opcode_number, is_immediate, cmd_sn, initiator_task_tag}
 use Rattle.iscsi_pdu.specs.Frames.{Frame}
@@ -20,20 +20,21 @@ use Rattle.iscsi_session.specs.Functions.{function_with, immediate_in}
 use Rattle.iscsi_session.specs.declared.verdict.Verdict.{Verdict}
 use Rattle.iscsi_session.specs.declared.verdict.Verdict.TheVariants.{Ignored, Dropped, Rejected, Violating, Accepted, Feeding}
 
--- RFC 7143 §11.2.1.8: no request that is to be answered bears this tag
+-- RFC 7143 §11.2.1.8: no request that is to be answered has this tag
 abbrev pub reserved_tag : ℕ
 reserved_tag = 0xFFFFFFFF
 
--- RFC 7143 §4.2.2.1: a request for immediate delivery has no number; every other one is ignored where
--- its number is outside the window, or has come before
+-- RFC 7143 §4.2.2.1: a request for immediate delivery has no number. Every other one is ignored if its number is
+-- outside the window, or has come before.
 abbrev pub is_fresh : Past → Frame → Bool
 is_fresh past frame = is_immediate frame.header || order.is_new (numbers past) (cmd_sn frame.header)
 
--- RFC 7143 §11.2.1.8: a tag is live while its SCSI Command or its Task Management Function Request is held or unfinished, or its data is drained
+-- RFC 7143 §11.2.1.8: a tag is live while its SCSI Command or its Task Management Function Request is held or
+-- unfinished, or its data is drained
 abbrev pub is_live : Past → ℕ → Bool
 is_live past tag = is_some (command_with past tag) || is_some (function_with past tag)
 
--- own: so many of these for immediate delivery may be unfinished
+-- own: how many of these for immediate delivery may be unfinished
 abbrev pub most_immediate : ℕ
 most_immediate = 8
 
@@ -44,7 +45,7 @@ is_full past = not (nat_lt (immediate_in past (unfinished past) + immediate_in p
 abbrev pub is_over : Past → Frame → Bool
 is_over past frame = is_immediate frame.header && is_full past
 
--- it bears the reserved tag, or a live one
+-- it has the reserved tag, or a live one
 abbrev pub is_taken : Past → Frame → Bool
 is_taken past frame = initiator_task_tag frame.header == reserved_tag || is_live past (initiator_task_tag frame.header)
 
@@ -52,7 +53,8 @@ is_taken past frame = initiator_task_tag frame.header == reserved_tag || is_live
 abbrev pub is_faulty : Values → Frame → Bool
 is_faulty values frame = is_command frame && is_some (command_fault values frame)
 
--- a SCSI Command or a Task Management Function Request: its number, the limit of those for immediate delivery, its tag, its data, in this order
+-- a SCSI Command or a Task Management Function Request is checked in this order: its number, the limit of those for
+-- immediate delivery, its tag, its data
 unfoldable pub task_verdict : Past → Frame → Verdict
 task_verdict past frame =
     if not (is_fresh past frame) then Ignored
@@ -61,7 +63,7 @@ task_verdict past frame =
     else if is_faulty past.params.values frame then Violating
     else Accepted
 
--- a Data-Out for this command
+-- the verdict on a Data-Out for this command
 abbrev pub data_verdict : Past → Frame → Option ℕ → Verdict
 data_verdict past frame at = verdict_on frame (option_map (task_at past) at)
 
@@ -80,7 +82,7 @@ is_none_of_discovery (opcodes.Other n) frame = false
 unfoldable pub is_refused : Params → Frame → Bool
 is_refused params frame = is_none params.target && is_none_of_discovery (opcode_of (opcode_number frame.header)) frame
 
--- by its opcode first
+-- the opcode is checked first
 unfoldable pub verdict_by : Opcode → Past → Frame → Verdict
 verdict_by opcodes.ScsiCommand past frame = task_verdict past frame
 verdict_by opcodes.NopOut past frame = if is_fresh past frame then Accepted else Ignored
@@ -98,7 +100,7 @@ request_verdict past frame = verdict_by (opcode_of (opcode_number frame.header))
 abbrev pub verdict : Past → Frame → Verdict
 verdict past frame = if is_refused past.params frame then Rejected reasons.CommandNotSupported else request_verdict past frame
 
--- ---- what comes of it
+-- ---- what follows from a verdict
 
 -- RFC 7143 §11.17
 abbrev pub reject : RejectReason → Stamp → Frame → Answer

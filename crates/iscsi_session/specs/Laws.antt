@@ -1,4 +1,4 @@
--- What holds of every past that the steps of a session can reach.
+-- Laws of every past that the steps of a session can reach.
 use Rattle.std.specs.Prelude.{◌≡◌, All, ℕ, ◌<◌, ◌^◌, List, [], ◌∷◌, ◌++◌, Bool, true, None}
 use Rattle.iscsi_pdu.specs.Header.{cmd_sn}
 use Rattle.iscsi_pdu.specs.Frames.{Frame}
@@ -13,7 +13,8 @@ use Rattle.iscsi_session.specs.Steps.{Step, Work, served, ready, settled}
 abbrev pub TakenOnce : Type 0
 TakenOnce = (came : List Request) → AreDistinct (taken came)
 
--- of the SCSI Commands that are not removed those that are finished are the first of those taken, in order; of the other requests too
+-- of the SCSI Commands that are not removed, the finished ones are the first of those taken, in order; of the other
+-- requests too
 pub record FinishedInOrder (past : Past) : Type 0 where
   pub later_commands : List ℕ
   pub commands : left past.removed (commands past.came (taken past.came)) ≡ commands past.came past.finished ++ later_commands
@@ -31,14 +32,15 @@ DueInOrder = (past : Past) (k : ℕ) (rest : List ℕ) → IsLawful past → due
 abbrev pub DoneInOrder : Type 0
 DoneInOrder = (past : Past) (k : ℕ) (rest : List ℕ) → IsLawful past → queue past ≡ k ∷ rest → queue (finished k past) ≡ rest
 
--- a session begins so, and each run of its steps keeps it so, whatever fails
+-- a session begins lawful, and each run of its steps keeps it lawful, whatever fails
 pub record StepsAreLawful : Type 0 where
   pub begun : (params : Params) → IsLawful (begun params)
   pub served : (fails : Step → Bool) (place : ℕ) (frame : Frame) (work : Work) → cmd_sn frame.header < 2 ^ 32 → IsLawful work.past
       → IsLawful (served fails place frame work).past
   pub settled : (fails : Step → Bool) (place : ℕ) (work : Work) → IsLawful work.past → IsLawful (settled fails place work).past
 
--- RFC 7143 §11.8.3: the R2Ts of a step all carry the StatSN that the next answer has, and behind them none is due of the command
+-- RFC 7143 §11.8.3: the R2Ts of a step all carry the StatSN of the next answer, and after them none of the command is
+-- due
 pub record AreSentAtOnce (past : Past) (k : ℕ) : Type 0 where
   pub stamps : All (λ r2t. r2t.stamp ≡ stamp past) (r2ts_of past k)
   pub unused : stamp (asked k past) ≡ stamp past
@@ -47,16 +49,17 @@ pub record AreSentAtOnce (past : Past) (k : ℕ) : Type 0 where
 abbrev pub R2tsAreSentAtOnce : Type 0
 R2tsAreSentAtOnce = (past : Past) (k : ℕ) → AreSentAtOnce past k
 
--- No request that was taken has to act, no R2T to be sent, and no Task Management Function Request to be answered whose data
--- has come. A discovery session has no SCSI Command.
+-- No request that was taken has to act, and no R2T has to be sent. Each Task Management Function Request whose data has
+-- come is answered. A discovery session has no SCSI Command.
 pub record NothingIsDue (past : Past) : Type 0 where
   pub acts : due past ≡ []
   pub asks : asking past ≡ []
   pub answers : drained_functions past ≡ []
   pub discovery : past.params.target ≡ None → unfinished past ≡ []
 
--- Nothing is due between two frames: a session begins so, and each frame leaves it so with which it goes on, whatever fails, and
--- so does whoever removes commands. Behind `settled` no command can be done either; in a discovery session none ever can.
+-- Nothing is due between two frames. That holds when a session begins, after each frame with which it goes on, whatever
+-- fails, and after commands are removed. After `settled` no command can be done either; in a discovery session none
+-- ever can.
 pub record NothingStaysDue : Type 0 where
   pub begun : (params : Params) → NothingIsDue (begun params)
   pub served : (fails : Step → Bool) (place : ℕ) (frame : Frame) (work : Work) → cmd_sn frame.header < 2 ^ 32 → IsLawful work.past

@@ -1,5 +1,5 @@
--- The requests of a session in full feature phase: plain lists of what came, and of what acted and is
--- finished, and what is read from them.
+-- The requests of a session in full feature phase: plain lists of what came, of what acted and is finished, and what is
+-- computed from them.
 use Rattle.std.specs.Prelude.{ℕ, zero, suc, ◌+◌, List, [], ◌∷◌, ◌++◌, length, map, filter, filter_map, flat_map, max, Bool, true, false, not, ◌==◌, Option, Some, None, is_some, slice_index_or, if◌then◌else◌}
 use Rattle.std.specs.List.{position_or_len, range_with_len}
 use Rattle.iscsi_pdu.specs.Header.{opcode_number, is_immediate, cmd_sn}
@@ -17,7 +17,7 @@ pub record Request : Type 0 where
   pub number : Option ℕ
   pub frame : Frame
 
--- a SCSI Data-Out that was accepted, and the name of the SCSI Command whose tag it bore (RFC 7143 §11.7)
+-- a SCSI Data-Out that was accepted, and the name of the SCSI Command whose tag it had (RFC 7143 §11.7)
 pub record DataOut : Type 0 where
   pub command : ℕ
   pub frame : Frame
@@ -28,8 +28,8 @@ pub record SentR2t : Type 0 where
   -- its Target Transfer Tag
   pub tag : ℕ
 
--- data that is drained (RFC 7143 §4.2.3.3): of a SCSI Command that was removed while an R2T was open for it; the Task Management
--- Function Request of its session that removed it is answered when that data has come
+-- data that is drained (RFC 7143 §4.2.3.3), of a SCSI Command that was removed while an R2T was open for it. The Task
+-- Management Function Request of its session that removed it is answered when that data has come.
 pub record Drain : Type 0 where
   pub function : ℕ
   pub command : ℕ
@@ -116,7 +116,7 @@ abbrev pub has_number : ℕ → Option ℕ → Bool
 has_number k None = false
 has_number k (Some number) = number == k
 
--- where the request with this number stands; where there is none, behind all
+-- the place of the request with this number; if there is none, after all others
 abbrev pub place_of : List Request → ℕ → ℕ
 place_of came k = position_or_len (λ r. has_number k r.number) came
 
@@ -125,12 +125,13 @@ abbrev pub moment : List Request → ℕ → ℕ
 moment came zero = place_of came zero
 moment came (suc k) = max (moment came k) (place_of came (suc k))
 
--- at one place the one for immediate delivery, or numbers rising (no more than there are places)
+-- the requests taken at one place: the one for immediate delivery, or numbers rising (no more than there are places)
 unfoldable pub taken_at : List Request → ℕ → List ℕ
 taken_at came p =
     (if is_some (request_at came p).number then [] else p ∷ []) ++ map (place_of came) (filter (λ k. moment came k == p) (range_with_len 0 (p + 1)))
 
--- RFC 7143 §4.2.2.1: one for immediate delivery is taken at once, and one with a number when it and all before it have come
+-- RFC 7143 §4.2.2.1: one for immediate delivery is taken at once, and one with a number once it and all before it have
+-- come
 unfoldable pub taken : List Request → List ℕ
 taken came = flat_map (taken_at came) (range_with_len 0 (length came))
 
@@ -151,7 +152,7 @@ numbers past =
 unfoldable pub held : Past → List ℕ
 held past = map (place_of past.came) (filter (order.has_come (numbered past.came)) (range_with_len (numbers past).handed order.window))
 
--- those that are taken and have not acted, in the order in which they act; one that was removed comes to nothing then
+-- those that are taken and have not acted, in the order in which they act; one that was removed does nothing then
 unfoldable pub due : Past → List ℕ
 due past = left past.acted (taken past.came)
 
@@ -188,7 +189,7 @@ bears_status (answers.Reject refusal) = true
 abbrev pub bearing : List Answer → ℕ
 bearing given = length (filter bears_status given)
 
--- the answers that bore status: those of the login, and those behind it
+-- the answers that bore status: those of the login, and those after it
 abbrev pub statuses : Past → ℕ
 statuses past = past.params.next_stat_sn + bearing past.answers
 

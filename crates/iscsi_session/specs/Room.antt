@@ -1,4 +1,4 @@
--- How much room the answers of a command take, known before it is done.
+-- How much room the answers to a command take, known before it is done.
 use Rattle.std.specs.Prelude.{ℕ, ◌+◌, ◌*◌, length, min, Bool, ◌&&◌, ◌||◌, not, nat_lt, if◌then◌else◌, Option, Some, None}
 use Rattle.iscsi_pdu.specs.ScsiCommand.{is_read, is_write, expected_transfer_length}
 use Rattle.iscsi_pdu.specs.Frames.{Frame}
@@ -8,15 +8,15 @@ use Rattle.scsi_unit.specs.DiskCommands.{most_given}
 use Rattle.iscsi_login.specs.declared.values.Values.{Values}
 use Rattle.iscsi_exchange.specs.Exchange.{TextPiece}
 
--- own: the most data that a command may be answered
+-- own: the most data that may be sent in answer to a command
 abbrev pub most_sent : Frame → ℕ
 most_sent frame = if is_read frame.header && not (is_write frame.header) then min most_given (expected_transfer_length frame.header) else 0
 
--- RFC 7143 §13.12, §13.13: pieces may be this long, own, and none but the last has padding
+-- RFC 7143 §13.12, §13.13: pieces may be this long (own), and none but the last has padding
 abbrev pub cuts_long : Values → Bool
 cuts_long values = is_aligned (limits_of values) && not (nat_lt values.max_burst_length 16384 || nat_lt values.max_recv_data_segment_length 16384)
 
--- own: so much of the data of a command is copied at most; what is longer is sent from where it lies, as far as its pieces are long
+-- own: how much data of a command is copied at most; if its pieces are long, more data is sent from where it lies
 abbrev pub most_copied : Values → Frame → ℕ
 most_copied values frame = if nat_lt 16384 (most_sent frame) && cuts_long values then 2048 else most_sent frame
 
@@ -24,15 +24,16 @@ most_copied values frame = if nat_lt 16384 (most_sent frame) && cuts_long values
 abbrev pub most_pieces : Values → Frame → ℕ
 most_pieces values frame = piece_count (most_copied values frame) values.max_burst_length values.max_recv_data_segment_length
 
--- RFC 7143 §11.7, §11.4: a Data-In takes 48 bytes and at most 3 of padding beside its data, a SCSI Response with sense data 68
+-- RFC 7143 §11.7, §11.4: a Data-In takes 48 bytes and at most 3 of padding, besides its data, and a SCSI Response with
+-- sense data takes 68
 abbrev pub room_for : Values → Frame → ℕ
 room_for values frame = most_pieces values frame * 51 + most_copied values frame + 68
 
--- RFC 7143 §11.19, §11.17: a NOP-In takes 48 bytes and at most 3 of padding beside the ping data, a Reject 96
+-- RFC 7143 §11.19, §11.17: a NOP-In takes 48 bytes and at most 3 of padding, besides the ping data, and a Reject 96
 abbrev pub room_to_act : Frame → ℕ
 room_to_act frame = length frame.body + 99
 
--- RFC 7143 §11.11, §11.17: a Text Response takes 48 bytes and at most 3 of padding beside its text, a Reject 96
+-- RFC 7143 §11.11, §11.17: a Text Response takes 48 bytes and at most 3 of padding, besides its text, and a Reject 96
 abbrev pub room_to_tell : Option TextPiece → ℕ
 room_to_tell None = 99
 room_to_tell (Some piece) = length piece.text + 99

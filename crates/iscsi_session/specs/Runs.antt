@@ -1,4 +1,4 @@
--- What a call of a session comes to: its steps, all done, or done up to one that failed.
+-- What a call of a session leads to: all its steps are done, or those before one that failed.
 use Rattle.std.specs.Prelude.{◌≡◌, ℕ, List, [], ◌∷◌, ◌++◌, flat_map, Bool, true, false, Option, Some, None, if◌then◌else◌, ⊤}
 use Rattle.scsi_unit.specs.Units.{UnitStates}
 use Rattle.iscsi_session.specs.Comings.{TargetUnits, CameAs}
@@ -13,7 +13,7 @@ use Rattle.iscsi_session.specs.Answers.{command_answers}
 use Rattle.scsi_sense.specs.Done.{Outcome}
 use Rattle.iscsi_session.specs.Steps.{Step, is_step, is_of, Work, settled, answered_command}
 
--- the code stands where this work does, and its session goes on
+-- the code is in the state of this work, whose session goes on
 pub record Starts (work : Work) (state : SessionState) (target : TargetUnits) : Type 0 where
   pub lawful : IsLawful work.past
   pub remembered : state ≡ remembered work.past
@@ -28,7 +28,8 @@ pub record Output : Type 0 where
 abbrev pub output : List ℕ → List (List ℕ) → Output
 output bytes orders = record { bytes = bytes; orders = orders }
 
--- of what it began with: the code stands where this work does, and what it was answered and ordered more waits behind what did
+-- the code is in the state of this work; what it answered and ordered beyond the given work waits after what waited
+-- before
 pub record Leaves (given work : Work) (state : SessionState) (before waiting : Output) (target : TargetUnits) : Type 0 where
   pub lawful : IsLawful work.past
   pub remembered : state ≡ remembered work.past
@@ -43,23 +44,23 @@ pub record Leaves (given work : Work) (state : SessionState) (before waiting : O
 
 -- ---- which step fails
 
--- none, or of the frame of each place this one
+-- no step, or for the frame of each place this one
 abbrev pub is_failed : Option (ℕ → Step) → ℕ → Step → Bool
 is_failed None place step = false
 is_failed (Some failed) place step = is_step (failed place) step
 
--- of the steps that the frame of this place sets off, those fail
+-- of the steps that the frame of this place sets off, exactly these fail
 abbrev pub FailsAs : Option (ℕ → Step) → ℕ → (Step → Bool) → Type 0
 FailsAs failed place fails = (step : Step) → is_of place step ≡ true → fails step ≡ is_failed failed place step
 
--- it was reached last
+-- the step that failed was reached last
 abbrev pub IsReached : Option (ℕ → Step) → ℕ → Work → Type 0
 IsReached None place work = ⊤
 IsReached (Some failed) place work = (before : List Step) × (work.reached ≡ before ++ failed place ∷ [])
 
 -- ---- the call
 
--- Wherever the code stood, it stands where these steps lead; the session goes on, or not.
+-- Whatever state the code was in, it is in the state to which these steps lead; the session goes on, or not.
 pub record Runs (run : (Step → Bool) → ℕ → Work → Work) (failed : Option (ℕ → Step)) (goes_on : Bool) (old new : SessionState) (before waiting : Output)
     (units after : TargetUnits) : Type 0 where
   pub leads : (place : ℕ) (fails : Step → Bool) (work : Work) → FailsAs failed place fails → Starts work old units
@@ -75,7 +76,7 @@ IsSettled state = (units : UnitStates) (bytes : List ℕ)
 
 -- an allocation failed before one of the steps, which are of this kind, and nothing of that step was done
 pub record Stops (is_kind : Step → Bool) (Leads : Option (ℕ → Step) → Type 0) : Type 0 where
-  -- of the frame of each place
+  -- the step, for the frame of each place
   pub step : ℕ → Step
   pub of_frame : (place : ℕ) → is_of place (step place) ≡ true
   pub of_kind : (place : ℕ) → is_kind (step place) ≡ true
@@ -83,24 +84,24 @@ pub record Stops (is_kind : Step → Bool) (Leads : Option (ℕ → Step) → Ty
 
 -- ---- one step
 
--- the first of a line took a step, where there is one
+-- the first of a line took a step, if there is one
 abbrev pub StepsFirst : (ℕ → Work → Work) → List ℕ → Work → Bool → SessionState → SessionState → Output → Output → TargetUnits → Type 0
 StepsFirst does [] work more old new before waiting after = (more ≡ false) × (new ≡ old) × (waiting ≡ before) × (after ≡ work.units)
 StepsFirst does (k ∷ others) work more old new before waiting after = (more ≡ true) × Leaves work (does k work) new before waiting after
 
--- What the act of this request leaves, where these are the numbers of the target's units.
+-- What the act of this request leaves, if these are the numbers of the target's units.
 pub record ActsAs (luns : List ℕ) (k : ℕ) (past : Past) (a : Act) (new : SessionState) (before waiting : Output) : Type 0 where
   pub act : a ≡ (if ends past.params (frame_of past.came k) then Ended else Taken)
   pub stands : Stands (acted luns k past) new
   pub out : waiting.bytes ≡ before.bytes ++ flat_map spelling (act_answers luns k past)
   pub orders : waiting.orders ≡ before.orders ++ ordered k past
 
--- the first of these acts, where there is one
+-- the first of these acts, if there is one
 abbrev pub ActsFirst : List ℕ → List ℕ → Past → Act → SessionState → SessionState → Output → Output → Type 0
 ActsFirst luns [] past a old new before waiting = (a ≡ Idle) × (new ≡ old) × (waiting ≡ before)
 ActsFirst luns (k ∷ others) past a old new before waiting = ActsAs luns k past a new before waiting
 
--- What the doing of this command leaves, which came out so.
+-- What a command leaves that was done with this outcome.
 pub record AnswersAs (done : Outcome) (k : ℕ) (past : Past) (new : SessionState) (before waiting : List ℕ) : Type 0 where
   pub stands : Stands (answered_command done k past) new
   pub out : waiting ≡ before ++ flat_map spelling (command_answers (stamp (finished k past)) past.params.values (frame_of past.came k) done)

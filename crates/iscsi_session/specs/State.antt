@@ -26,7 +26,7 @@ pub record TaskLists : Type 0 where
   pub next : ℕ
   -- how many numbers were taken whose requests are not finished
   pub unfinished : ℕ
-  -- of the numbers from the next one on, as many as the window has: the requests that have come
+  -- for each number from the next one on, as many as the window has: the request, if it has come
   pub held : List (Option Frame)
   -- the requests that are taken and have not acted, in order
   pub due : List Frame
@@ -54,7 +54,7 @@ pub record SessionState : Type 0 where
   pub functions : List (List ℕ)
   pub exchange : ExchangeState
 
--- own: what stands in place of a request that was removed. Its opcode is none of an initiator's, and it does nothing.
+-- own: the placeholder for a request that was removed. Its opcode is not one of an initiator's, and it does nothing.
 abbrev pub void : Bool → Frame
 void immediate = record { header = (if immediate then 0x7F else 0x3F) ∷ replicate 47 0; body = [] }
 
@@ -73,7 +73,7 @@ standing past = standing_from past.removed 0 past.came
 abbrev pub frame_numbered : List Request → ℕ → Option Frame
 frame_numbered came k = option_map (λ r. r.frame) (find (λ r. has_number k r.number) came)
 
--- where so many numbers are taken
+-- the lists, if this many numbers are taken
 abbrev pub tasks_with : Past → ℕ → List Frame → TaskLists
 tasks_with past handed line = record {
   next = (past.params.first_cmd_sn + handed) % 2 ^ 32;
@@ -89,7 +89,7 @@ tasks_of past = tasks_with past (numbers past).handed (frames_of (standing past)
 abbrev pub transfer_of : Past → ℕ → Transfer
 transfer_of past k = record { header = (frame_of past.came k).header; task = task_at past k }
 
--- the header of the function that waits for it, and the data
+-- the data, and the header of the function that waits for it
 abbrev pub drained_of : Past → Drain → Drained
 drained_of past d = record { function = (frame_of past.came d.function).header; transfer = blanked (transfer_of past d.command) }
 
@@ -113,7 +113,7 @@ remembered past = record {
   exchange = exchange_of past;
 }
 
--- the numbers alone
+-- only the numbers
 abbrev pub window_of : TaskLists → windows.WindowState
 window_of tasks = record { next = tasks.next; unfinished = tasks.unfinished; held = map is_some tasks.held }
 
@@ -128,7 +128,7 @@ AreDistinct (k ∷ ks) = (order.has_come ks k ≡ false) × AreDistinct ks
 abbrev pub IsDelivered : Request → Type 0
 IsDelivered request = is_some request.number ≡ not (is_immediate request.frame.header)
 
--- the functions that were to wait acted, and what they were to wait for was removed, once
+-- the functions that were to wait have acted, and the commands that they wait for were removed, each once
 pub record AreDrained (past : Past) : Type 0 where
   pub functions : All (λ d. is_function (frame_of past.came d.function) ≡ true) past.drains
   pub acted : All (λ d. is_in d.function past.finished ≡ true) past.drains
@@ -147,7 +147,7 @@ pub record IsLawful (past : Past) : Type 0 where
   pub acted : All (λ k. is_in k past.acted ≡ true) past.finished
   pub queued : commands past.came past.finished ++ queue past ≡ left past.removed (commands past.came past.acted)
   pub at_once : others past.came past.finished ≡ others past.came past.acted
-  -- the numbers that are taken are those of the requests that are
+  -- the numbers taken are those of the requests taken
   pub handed : counted past.came (taken past.came) ≡ (numbers past).handed
   -- data came and was asked for only of commands that came
   pub fed : All (λ d. d.command < length past.came) past.data_outs
@@ -192,11 +192,11 @@ abbrev pub takes : ℕ → TaskLists → TaskLists
 takes zero tasks = tasks
 takes (suc n) tasks = takes n (takes_next tasks)
 
--- all that have come before the first missing one
+-- all that have come before the first missing one are taken
 abbrev pub takes_all : TaskLists → TaskLists
 takes_all tasks = takes (prefix_len (λ o. is_some o) tasks.held) tasks
 
--- one with a number is finished
+-- a request with a number is finished
 abbrev pub one_fewer : Frame → TaskLists → TaskLists
 one_fewer frame tasks = if is_immediate frame.header then tasks else record tasks { unfinished = tasks.unfinished - 1 }
 
@@ -213,7 +213,7 @@ reaches_frame reach frame = is_command frame && reaches reach frame.header
 abbrev pub void_if : FunctionReach → Frame → Frame
 void_if reach frame = if reaches_frame reach frame then void (is_immediate frame.header) else frame
 
--- one of the queue leaves it, and is finished
+-- whether a command stays in the queue; one that it reaches leaves it, and is finished
 abbrev pub stays : FunctionReach → Frame → Bool
 stays reach frame = not (reaches_frame reach frame)
 
@@ -228,7 +228,7 @@ without reach tasks = record tasks {
   queue = filter (stays reach) tasks.queue;
 }
 
--- the first of the queue leaves it, or goes behind the others
+-- the first of the queue leaves it, or moves to its end
 abbrev pub swept_one : FunctionReach → Frame → List Frame → TaskLists → TaskLists
 swept_one reach frame others tasks =
     if reaches_frame reach frame then one_fewer frame (record tasks { queue = others }) else record tasks { queue = others ++ frame ∷ [] }
@@ -246,7 +246,7 @@ abbrev pub plugged_behind : ℕ → TaskLists → List Frame → TaskLists
 plugged_behind n tasks [] = tasks
 plugged_behind n tasks (frame ∷ others) = takes_all (holding n plug (one_fewer frame (record tasks { due = others })))
 
--- no more acts than this follow: a Task Management Function Request may plug a number
+-- how many acts follow at most: a Task Management Function Request may plug a number
 abbrev pub weight : Frame → ℕ
 weight frame = if is_function frame then 2 else 1
 
@@ -297,7 +297,7 @@ begun_transfer header task = record { header = header; task = task }
 abbrev pub immediate_transfers : List Transfer → ℕ
 immediate_transfers transfers = length (filter (λ transfer. is_immediate transfer.header) transfers)
 
--- a Data-Out for the command at this place
+-- the verdict on a Data-Out for the command at this place
 abbrev pub judged_at : List Transfer → Frame → Option ℕ → Verdict
 judged_at transfers frame at = verdict_on frame (option_map (λ i. (transfer_at transfers i).task) at)
 
@@ -305,7 +305,7 @@ abbrev pub fed_at : List Transfer → Frame → Option ℕ → List Transfer
 fed_at transfers frame None = transfers
 fed_at transfers frame (Some i) = slice_set transfers i (record (transfer_at transfers i) { task = with_data (transfer_at transfers i).task frame })
 
--- of those that a Task Management Function Request does not reach
+-- the data of the commands that a Task Management Function Request does not reach
 abbrev pub transfers_without : FunctionReach → List Transfer → List Transfer
 transfers_without reach transfers = filter (λ transfer. not (reaches reach transfer.header)) transfers
 
@@ -327,7 +327,7 @@ removed_at transfers (Some i) = remove transfers i
 abbrev pub asking_place : List Transfer → Option ℕ
 asking_place transfers = position (λ transfer. is_due transfer.task) transfers
 
--- the R2Ts that are due of the command at this place
+-- the due R2Ts of the command at this place
 abbrev pub r2ts_at : TransferList → Stamp → ℕ → List R2t
 r2ts_at transfers numbers_now i =
     let transfer = transfer_at transfers.list i in r2ts_for transfer.header transfers.next_tag numbers_now (due_asks transfer.task)
@@ -335,7 +335,7 @@ r2ts_at transfers numbers_now i =
 abbrev pub sent_to : List R2t → Transfer → Transfer
 sent_to r2ts transfer = record transfer { task = with_asked (map (λ r2t. r2t.target_transfer_tag) r2ts) transfer.task }
 
--- these are sent
+-- these R2Ts are sent
 abbrev pub sent_at : ℕ → List R2t → TransferList → TransferList
 sent_at i r2ts transfers = record {
   next_tag = (transfers.next_tag + length r2ts) % 0xFFFFFFFF;

@@ -12,9 +12,9 @@ use Rattle.iscsi_session.specs.Acts.{acted, ordered, ends}
 use Rattle.iscsi_session.specs.Answers.{command_answers}
 use Rattle.iscsi_session.specs.Commands.{carried_out}
 
--- The place is that of the frame among those of its connection; the turn counts the requests that this frame
--- lets be taken, and then the commands that are done, each from 0 on. A frame makes R2Ts of one command due at most, or brings
--- the last data that one Task Management Function Request waits for.
+-- The place is that of the frame among those of its connection. The turn counts the requests that become ready with
+-- this frame, and then the commands that are done, each from 0 on. A frame makes R2Ts of one command due at most, or
+-- brings the last data that one Task Management Function Request waits for.
 pub data Step : Type 0 where
   Judging : (place : ℕ) → Step
   Taking : (place : ℕ) (turn : ℕ) → Step
@@ -106,11 +106,11 @@ act k work = record work {
   orders = work.orders ++ ordered k work.past;
 }
 
--- a command is asked for data by all R2Ts that are due of it
+-- all due R2Ts of a command are sent
 unfoldable pub ask : ℕ → Work → Work
 ask k work = record work { past = asked k work.past }
 
--- a function is answered whose data has come
+-- a function whose data has come is answered
 unfoldable pub tell : ℕ → Work → Work
 tell k work = record work { past = answered_function k work.past }
 
@@ -126,18 +126,18 @@ finish k work =
 
 -- ---- one after the other
 
--- the first of these takes a step, where there is one
+-- the first of these takes a step, if there is one
 abbrev pub first_steps : (Step → Bool) → Step → (ℕ → Work → Work) → List ℕ → Work → Work
 first_steps fails step does [] work = work
 first_steps fails step does (k ∷ others) work = take_step fails step (does k) work
 
--- the first of a line takes a step, and the line is looked at again: at most so many times
+-- the first of a line takes a step, and the line is looked at again, at most this many times
 abbrev pub one_by_one : (Step → Bool) → (ℕ → Step) → (Past → List ℕ) → (ℕ → Work → Work) → ℕ → ℕ → Work → Work
 one_by_one fails step line does turn zero work = work
 one_by_one fails step line does turn (suc most) work =
     one_by_one fails step line does (suc turn) most (first_steps fails (step turn) does (line work.past) work)
 
--- no more acts than these: each request that has not acted, and one number that it may plug
+-- how many acts follow at most: each request that has not acted, and one number that it may plug
 abbrev pub waiting_in : Past → ℕ
 waiting_in past = (length (held past) + length (due past)) * 2
 
@@ -153,11 +153,11 @@ ask_due fails place work = first_steps fails (Asking place) ask (asking work.pas
 unfoldable pub tell_due : (Step → Bool) → ℕ → Work → Work
 tell_due fails place work = first_steps fails (Answering place) tell (drained_functions work.past) work
 
--- a frame is judged, and the requests that it lets be taken act
+-- a frame is judged, and the requests that became ready act
 unfoldable pub taken_in : (Step → Bool) → ℕ → Frame → Work → Work
 taken_in fails place frame work = act_all fails place (take_step fails (Judging place) (judge frame) work)
 
--- and the R2Ts that it made due are sent
+-- and the R2Ts that became due are sent
 unfoldable pub asked_in : (Step → Bool) → ℕ → Frame → Work → Work
 asked_in fails place frame work = ask_due fails place (taken_in fails place frame work)
 
@@ -165,7 +165,7 @@ asked_in fails place frame work = ask_due fails place (taken_in fails place fram
 unfoldable pub served : (Step → Bool) → ℕ → Frame → Work → Work
 served fails place frame work = tell_due fails place (asked_in fails place frame work)
 
--- the first command of the queue can be done where its data is whole
+-- the first command of the queue can be done if its data is whole
 abbrev pub ready_in : Past → List ℕ → List ℕ
 ready_in past [] = []
 ready_in past (k ∷ others) = if is_whole_of past k then k ∷ others else []

@@ -20,7 +20,7 @@ is_text frame = opcode_number frame.header == 0x04
 abbrev pub exchange_behind : Params → ExchangeState → Frame → ExchangeState
 exchange_behind params exchange frame = if is_text frame then (hears exchange frame params).exchange else exchange
 
--- the exchange behind the requests that acted
+-- the exchange after the requests that acted
 unfoldable pub exchange_of : Past → ExchangeState
 exchange_of past = fold (exchange_behind past.params) no_exchange (frames_of past.came past.acted)
 
@@ -30,6 +30,6 @@ text_answer numbers_now None frame = reject reasons.InvalidField numbers_now fra
 text_answer numbers_now (Some piece) frame = answers.TextResponse
     (record { initiator_task_tag = initiator_task_tag frame.header; stamp = numbers_now; step = piece.step; text = piece.text })
 
--- what the exchange so far answers a Text Request
+-- the answer of the exchange so far to a Text Request
 abbrev pub text_answer_in : ExchangeState → Stamp → Params → Frame → Answer
 text_answer_in exchange numbers_now params frame = text_answer numbers_now (hears exchange frame params).piece frame

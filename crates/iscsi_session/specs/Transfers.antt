@@ -40,16 +40,16 @@ payload_of past k = (task_at past k).payload
 abbrev pub is_whole_of : Past → ℕ → Bool
 is_whole_of past k = is_whole (task_at past k)
 
--- a Data-Out for a command whose data stands so; one for none is dropped
+-- the verdict on a Data-Out for a command with data in this state; one for no command is dropped
 abbrev pub verdict_on : Frame → Option TaskState → Verdict
 verdict_on frame None = Dropped
 verdict_on frame (Some task) = if is_some (fault_of task frame) then Violating else Feeding
 
--- the parts of its data that it is to be asked for
+-- the parts of its data that R2Ts are to ask for
 abbrev pub asks_of : Past → ℕ → List Ask
 asks_of past k = due_asks (task_at past k)
 
--- there are some
+-- there are such parts
 abbrev pub is_due_of : Past → ℕ → Bool
 is_due_of past k = is_due (task_at past k)
 
@@ -97,12 +97,12 @@ r2t_for header tag numbers_now ask = record {
   desired_length = ask.length;
 }
 
--- one for each of these parts, in their order (RFC 7143 §11.8.2): their tags rise by one from this one on
+-- one for each of these parts, in their order (RFC 7143 §11.8.2), with tags that rise by one from this one on
 abbrev pub r2ts_for : List ℕ → ℕ → Stamp → List Ask → List R2t
 r2ts_for header tag numbers_now [] = []
 r2ts_for header tag numbers_now (ask ∷ asks) = r2t_for header tag numbers_now ask ∷ r2ts_for header ((tag + 1) % 0xFFFFFFFF) numbers_now asks
 
--- RFC 7143 §13.17: those for all that a command is to be asked for, one behind the other
+-- RFC 7143 §13.17: those for all that a command is to be asked for, one after the other
 unfoldable pub r2ts_of : Past → ℕ → List R2t
 r2ts_of past k = r2ts_for (frame_of past.came k).header (next_transfer_tag past) (stamp past) (asks_of past k)
 
@@ -112,7 +112,7 @@ r2t_answers r2ts = map (λ r2t. answers.R2t r2t) r2ts
 abbrev pub sent_for : ℕ → R2t → SentR2t
 sent_for k r2t = record { command = k; tag = r2t.target_transfer_tag }
 
--- they are sent
+-- these R2Ts are sent
 abbrev pub asked : ℕ → Past → Past
 asked k past = answering (r2t_answers (r2ts_of past k)) (record past { r2ts = past.r2ts ++ map (sent_for k) (r2ts_of past k) })
 

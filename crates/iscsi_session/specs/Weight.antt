@@ -1,4 +1,4 @@
--- What the requests of a session count for, and the pasts that keep it small (own).
+-- How much the requests of a session weigh, and the pasts that keep that small (own).
 use Rattle.std.specs.Prelude.{◌≡◌, ◌==◌, All, ℕ, ◌+◌, ◌*◌, ◌≤◌, List, [], length, filter, filter_map, Bool, true}
 use Rattle.std.specs.List.{list_any}
 use Rattle.iscsi_pdu.specs.Header.{header_length, initiator_task_tag}
@@ -9,11 +9,11 @@ use Rattle.iscsi_session.specs.Drained.{Drained}
 use Rattle.iscsi_session.specs.State.{TaskLists, SessionState, IsLawful, remembered}
 use Rattle.iscsi_session.specs.Draining.{function_tag}
 
--- so many bytes for each request that is held or unfinished: its frame, and the buffer of its data
+-- the weight in bytes of each request that is held or unfinished: its frame, and the buffer of its data
 abbrev pub request_weight : ℕ
 request_weight = 1310720
 
--- the requests that are held behind a missing number, are due, or stand in the queue
+-- the requests that are held after a missing number, are due, or are in the queue
 abbrev pub pending : TaskLists → ℕ
 pending tasks = length (filter_map (λ o. o) tasks.held) + length tasks.due + length tasks.queue
 
@@ -29,12 +29,12 @@ waiting_functions state = length (filter (waits_for state.transfers.drains) stat
 abbrev pub open_requests : SessionState → ℕ
 open_requests state = pending state.tasks + waiting_functions state
 
--- so many bytes that wait to be sent, and the requests
+-- the bytes that wait to be sent, and the weight of the requests
 abbrev pub weight_with : ℕ → SessionState → ℕ
 weight_with waiting state = waiting + open_requests state * request_weight
 
--- It can have happened, of frames whose headers are whole, and no more requests for immediate delivery are
--- unfinished than may be.
+-- A possible past, of frames whose headers are whole, in which no more requests for immediate delivery are unfinished
+-- than may be.
 pub record IsWithinLimits (past : Past) : Type 0 where
   pub lawful : IsLawful past
   pub headers : All (λ request. length request.frame.header ≡ header_length) past.came
@@ -47,7 +47,7 @@ pub record IsAtRest (state : SessionState) : Type 0 where
   pub idle : due past ≡ []
   pub remembered : state ≡ remembered past
 
--- what a frame adds at most: a request, and answers that are short
+-- the most that a frame adds: a request, and answers that are short
 abbrev pub most_added : ℕ
 most_added = 2 * request_weight
 
@@ -56,7 +56,7 @@ pub record Eases (old new : SessionState) (before waiting : List ℕ) : Type 0 w
   pub rests : IsAtRest new
   pub lighter : weight_with (length waiting) new ≤ weight_with (length before) old
 
--- so much more at most, and a session that goes on is at rest
+-- the weight grows by that at most, and a session that goes on is at rest
 pub record Loads (goes_on : Bool) (old new : SessionState) (before waiting : List ℕ) : Type 0 where
   pub rests : goes_on ≡ true → IsAtRest new
   pub heavier : weight_with (length waiting) new ≤ weight_with (length before) old + most_added

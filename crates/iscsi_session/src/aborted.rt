@@ -1,6 +1,6 @@
 //! What an ABORT TASK finds.
 
-/// What stands where an ABORT TASK points (RFC 7143 §11.6.1).
+/// What an ABORT TASK finds for the task that it refers to (RFC 7143 §11.6.1).
 #[derive(Clone, Copy)]
 pub(crate) enum Aborted {
     /// A command that is not finished.

@@ -1,12 +1,12 @@
-//! What a request does when it is taken.
+//! The result of executing a request.
 
-/// What an act came to.
+/// What came of executing the next request.
 #[derive(Clone, Copy, Debug, PartialEq, Eq)]
 pub(crate) enum Act {
-    /// There was none: no request is taken that has not acted.
+    /// There was none: every request that was taken has been executed.
     Idle,
-    /// A request acted.
+    /// A request was executed.
     Taken,
-    /// A request acted that ends the session (RFC 7143 §11.14).
+    /// A request was executed that ends the session (RFC 7143 §11.14).
     Ended,
 }

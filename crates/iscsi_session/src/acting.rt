@@ -1,4 +1,4 @@
-//! The requests that are taken act.
+//! Executing the requests that are taken.
 
 ghost use Rattle.std.specs.Prelude.{◌≡◌, ◌≤◌, ◌<◌, ◌++◌, ◌∷◌, ℕ, List, [], None, Some, length, flat_map, true, false, if◌then◌else◌, IfOk, OnOk, OnErr};
 ghost use Rattle.scsi_unit.specs.Units.{numbers_of};
@@ -25,10 +25,9 @@ use iscsi_pdu::{
 };
 use out_of_memory::Memory;
 
-/// What the answer of a NOP-Out or of a Logout takes beside the ping data, in bytes at most.
+/// The most bytes that the answer to a NOP-Out or a Logout takes, not counting the ping data.
 const ROOM_TO_ACT: usize = 99;
 
-/// It is a SCSI Command.
 pub(crate) fn is_command(frame: &Frame) -> bool
     ensures { result ≡ is_command frame.now }
 {
@@ -36,8 +35,8 @@ pub(crate) fn is_command(frame: &Frame) -> bool
 }
 
 impl Session {
-    /// The requests that are due act, one after the other, until there is none or one ends the session:
-    /// whether it goes on. Where an allocation fails those before have acted.
+    /// Executes the requests that are due, one after the other, until there is none or one ends the session. Returns
+    /// whether the session continues. If an allocation fails, the requests before it have been executed.
     pub(crate) fn act_all(
         &mut self,
         luns: &[u8],
@@ -62,9 +61,9 @@ impl Session {
         }
     }
 
-    /// The next request that was taken acts: a SCSI Command joins the queue, every other request is
-    /// answered at the end of the buffer, and a Task Management Function Request is put behind the orders. Where an
-    /// allocation fails nothing changes.
+    /// Executes the next request that was taken. A SCSI Command joins the queue, and every other request is answered at
+    /// the end of `out`. The header of a Task Management Function Request is appended to `orders`. If an allocation
+    /// fails, nothing changes.
     fn act(
         &mut self,
         luns: &[u8],
@@ -97,8 +96,8 @@ impl Session {
         }
     }
 
-    /// The first request that is due, a NOP-Out, a Logout or one that was removed, is finished; the first two are
-    /// answered. There must be room for the answer, so it takes no memory.
+    /// Finishes the first request that is due: a NOP-Out, a Logout, or one that was removed. Answers the first two.
+    /// There must be room for the answer, so no memory is allocated.
     fn answer(&mut self, out: &mut Outbox) -> Act
         requires { (frame : pdu.Frame) (others : List pdu.Frame) → self.old.tasks.due ≡ frame ∷ others → room_to_act frame ≤ out.old.spare }
         ensures acts { (luns : List ℕ) (past : Past) (k : ℕ) (others : List ℕ) → Stands past self.old → due past ≡ k ∷ others
@@ -118,7 +117,7 @@ impl Session {
                 Act::Taken
             }
             Opcode::Logout => self.log_out(&frame, out),
-            // None of these is accepted but the first three, and they are no requests of this kind.
+            // Only the first three of these are accepted, and they are requests of another kind.
             Opcode::ScsiCommand
             | Opcode::TaskManagement
             | Opcode::Text
@@ -129,7 +128,7 @@ impl Session {
         }
     }
 
-    /// A NOP-In returns the ping data of a NOP-Out (RFC 7143 §11.19), where it asks for an answer.
+    /// Sends the ping data of a NOP-Out back in a NOP-In (RFC 7143 §11.19), if the NOP-Out asks for an answer.
     fn return_ping(&mut self, frame: &Frame, out: &mut Outbox)
         requires { room_to_act frame.now ≤ out.old.spare }
         ensures stands { (past : Past) → Stands past self.old → Stands (answering (ping_answers (stamp past) past.params.values frame.now) past) self.new }
@@ -153,7 +152,7 @@ impl Session {
         out.put(&answer);
     }
 
-    /// The session, or its one connection by its CID, is closed by this Logout (RFC 7143 §11.14.1).
+    /// Returns whether this Logout closes the session, or its one connection by its CID (RFC 7143 §11.14.1).
     fn closes(&self, header: &Header) -> bool
         ensures { (frame : pdu.Frame) → frame.header ≡ header.now → result ≡ closes self.now.params frame }
     {
@@ -164,7 +163,7 @@ impl Session {
         }
     }
 
-    /// A Logout is answered (RFC 7143 §11.15).
+    /// Answers a Logout (RFC 7143 §11.15), and returns whether the session ends.
     fn log_out(&mut self, frame: &Frame, out: &mut Outbox) -> Act
         requires { room_to_act frame.now ≤ out.old.spare }
         ensures act { result ≡ (if closes self.old.params frame.now then Act.Ended else Act.Taken) }
@@ -179,7 +178,7 @@ impl Session {
         self.act_of(&frame.header)
     }
 
-    /// Whether the session ends with this Logout.
+    /// Returns whether the session ends with this Logout.
     fn act_of(&self, header: &Header) -> Act
         ensures { (frame : pdu.Frame) → frame.header ≡ header.now → result ≡ (if closes self.now.params frame then Act.Ended else Act.Taken) }
     {
@@ -190,7 +189,6 @@ impl Session {
         }
     }
 
-    /// What a Logout is answered.
     fn logout_answer(&self, stamp: Stamp, frame: &Frame) -> Answer<'static>
         ensures value { result ≡ logout_answer stamp self.now.params frame.now }
         ensures short { length (spelling result) ≤ 96 }

@@ -1,4 +1,4 @@
-//! A command that is done is answered.
+//! Answering a command that is done.
 
 ghost use Rattle.std.specs.Prelude.{◌≡◌, ◌≤◌, ◌++◌, ◌∷◌, ℕ, List, drop, flat_map, length};
 ghost use Rattle.scsi_unit.specs.DiskCommands.{most_given};
@@ -19,10 +19,9 @@ use scsi_sense::Done;
 use std::alloc::Global;
 
 impl Session {
-    /// The first command of the queue is done: it is finished, and answered behind what waits to be sent.
-    /// There must be room for its answers ([`make_room`](crate::making_room::make_room)), so it takes no memory.
-    /// A buffer comes back that is used no more, where there is one, and the data that the command took, with its
-    /// buffers.
+    /// Finishes the first command of the queue, which is done, and appends its answers to `out`. There must be room for
+    /// them ([`make_room`](crate::making_room::make_room)), so no memory is allocated. Returns a buffer for reuse, if
+    /// there is one, and the data that the command took, with its buffers.
     pub(crate) fn answer_command(
         &mut self,
         alloc: Global,

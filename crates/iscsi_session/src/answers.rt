@@ -1,4 +1,4 @@
-//! What a command is answered.
+//! The answers to a command.
 
 ghost use Rattle.std.specs.Prelude.{◌≡◌, ◌≤◌, ◌<◌, ◌+◌, ◌++◌, length, take, drop, option_map, flat_map};
 ghost use Rattle.scsi_sense.specs.Given.{headroom, tailroom};
@@ -21,7 +21,7 @@ use iscsi_pdu::{Answer, Frame, Header, R2t, Reject, RejectReason, Residual, Scsi
 use scsi_sense::{Done, Given, HEADROOM};
 use std::alloc::Global;
 
-/// By how many bytes more or less than the initiator expected were moved (RFC 7143 §11.4.5).
+/// Returns by how many bytes more or less were moved than the initiator expected (RFC 7143 §11.4.5).
 fn residual(expected: u32, moved: u32) -> Residual
     ensures { result ≡ residual_of expected moved }
 {
@@ -34,7 +34,7 @@ fn residual(expected: u32, moved: u32) -> Residual
     }
 }
 
-/// The sense data of a command, where there is some.
+/// Returns the sense data of a command, if there is some.
 fn sense_data(done: &Done) -> Option<[u8; 18]>
     ensures { result ≡ option_map sense_bytes done.now.sense }
 {
@@ -44,8 +44,8 @@ fn sense_data(done: &Done) -> Option<[u8; 18]>
     }
 }
 
-/// How many bytes the initiator expects. Where data is given it expects none, unless the command reads
-/// and does not write.
+/// Returns how many bytes the initiator expects. If the command returned data, that is none, unless it reads and does
+/// not write.
 fn expected(frame: &Frame, done: &Done) -> u32
     ensures { result ≡ expected_length frame.now done.now }
 {
@@ -56,7 +56,7 @@ fn expected(frame: &Frame, done: &Done) -> u32
     0
 }
 
-/// The SCSI Response of a command, behind so many Data-Ins (RFC 7143 §11.4).
+/// Returns the SCSI Response of a command, which follows this number of Data-Ins (RFC 7143 §11.4).
 #[tactic(auto, unfolding(crate::specs::Answers::scsi_answer))]
 fn response(numbers: Stamp, frame: &Frame, done: &Done, data_ins: u32) -> Answer<'static>
     ensures value { result ≡ scsi_answer numbers frame.now done.now data_ins }
@@ -73,7 +73,7 @@ fn response(numbers: Stamp, frame: &Frame, done: &Done, data_ins: u32) -> Answer
     })
 }
 
-/// How many bytes of data the initiator is sent: no more of what was given than it expects.
+/// Returns how many bytes of data are sent to the initiator: of what the command returned, no more than it expects.
 fn sent_length(frame: &Frame, done: &Done) -> usize
     ensures value { result ≡ length (data_sent frame.now done.now) }
     ensures data { take result done.now.given ≡ data_sent frame.now done.now }
@@ -82,7 +82,7 @@ fn sent_length(frame: &Frame, done: &Done) -> usize
     (expected(frame, done) as usize).min(done.given.len())
 }
 
-/// The buffer of a command's data, cut to as much of it as is sent.
+/// Returns the buffer of a command's data, cut to the part that is sent.
 fn sent_buffer(given: Given, sent: usize) -> BytesMut
     requires some { 0 < sent }
     requires within { sent ≤ length given }
@@ -96,12 +96,12 @@ fn sent_buffer(given: Given, sent: usize) -> BytesMut
     buffer
 }
 
-/// All that a command is answered is put behind what waits to be sent: its data in pieces, and how it ended.
-/// There is room for that ([`make_room`](crate::making_room::make_room)), so it takes no memory. A buffer comes back
-/// that is used no more.
+/// Queues a command's Data-Ins and its SCSI Response. There must be room for them
+/// ([`make_room`](crate::making_room::make_room)), so no memory is allocated. Returns a buffer for reuse, if there is
+/// one.
 ///
-/// Data for which no such room was made is sent from where the command put it. So is the data of a command that gives
-/// little, where it is one piece and nothing waits: its buffer becomes what waits. All other data is copied.
+/// Large data, for which no such room was made, is queued without a copy and cut as it is sent. Small data that fits
+/// one PDU is sent from its own buffer, if the queue is empty. Anything else is copied.
 pub(crate) fn put_answers(
     alloc: Global,
     out: &mut Outbox,
@@ -134,7 +134,7 @@ pub(crate) fn put_answers(
     Some(done.given.into_buffer())
 }
 
-/// A Reject of the frame with this header (RFC 7143 §11.17).
+/// Returns a Reject of the frame with this header (RFC 7143 §11.17).
 pub(crate) fn rejected(reason: RejectReason, stamp: Stamp, header: Header) -> Answer<'static>
     ensures value { (frame : pdu.Frame) → frame.header ≡ header → result ≡ reject reason stamp frame }
     ensures short { length (spelling result) ≤ 96 }
@@ -146,7 +146,7 @@ pub(crate) fn rejected(reason: RejectReason, stamp: Stamp, header: Header) -> An
     })
 }
 
-/// An R2T (RFC 7143 §11.8).
+/// Returns an R2T as an answer (RFC 7143 §11.8).
 fn asking(r2t: R2t) -> Answer<'static>
     ensures value { result ≡ AnyAnswer.R2t r2t }
     ensures short { length (spelling result) ≤ 48 }
@@ -154,7 +154,7 @@ fn asking(r2t: R2t) -> Answer<'static>
     Answer::R2t(r2t)
 }
 
-/// Writes an R2T where there is room for it.
+/// Writes an R2T into room that was reserved for it.
 pub(crate) fn put_r2t(out: &mut Outbox, r2t: R2t)
     requires { 48 ≤ out.old.spare }
     ensures written { out.new.items ≡ out.old.items ++ spelling (AnyAnswer.R2t r2t) }

@@ -1,4 +1,4 @@
-//! The R2Ts that ask for the data of the SCSI Commands of a session.
+//! The R2Ts that ask for the data of a session's SCSI Commands.
 
 ghost use Rattle.std.specs.Prelude.{◌≡◌, ◌<◌, ◌≤◌, ◌+◌, ◌*◌, ◌%◌, ◌++◌, ◌∷◌, List, [], Some, length, flat_map, IfSome};
 ghost use Rattle.iscsi_pdu.specs.Answer.{spelling};
@@ -12,11 +12,11 @@ use iscsi_outbox::Outbox;
 use iscsi_pdu::{HEADER_LENGTH, Header, R2t, Stamp};
 use iscsi_transfer::{Ask, MOST_OPEN, NO_TRANSFER_TAG};
 
-/// The R2Ts that are due of one command take no more room, in bytes.
+/// The most bytes that the due R2Ts of one command take.
 pub(crate) const ROOM_TO_ASK: usize = MOST_OPEN * HEADER_LENGTH;
 
 impl Transfers {
-    /// Where the first command stands that is to be asked for data.
+    /// Returns the place of the first command that is to be asked for data.
     pub(crate) fn asking(&self) -> Option<usize>
         ensures place { result ≡ asking_place self.now.list }
         ensures there { IfSome result (λ place. place < length self.now.list) }
@@ -26,8 +26,8 @@ impl Transfers {
             .position(|transfer| transfer.task.due().is_some())
     }
 
-    /// The R2Ts that are due of the command at this place are sent, with these numbers, and stand at the end of the
-    /// buffer, one behind the other.
+    /// Sends the due R2Ts of the command at this place, with these sequence numbers. They are appended to `out`, one
+    /// after the other.
     pub(crate) fn ask(&mut self, place: usize, stamp: Stamp, out: &mut Outbox)
         requires there { place < length self.old.list }
         requires room { ROOM_TO_ASK ≤ out.old.spare }
@@ -41,7 +41,7 @@ impl Transfers {
         }
     }
 
-    /// The first R2T that is due of the command at this place.
+    /// Returns the first due R2T of the command at this place.
     fn due_at(&self, place: usize) -> Option<Ask>
         requires { place < length self.now.list }
         ensures value { result ≡ first (due_asks (transfer_at self.now.list place).task) }
@@ -51,7 +51,7 @@ impl Transfers {
         self.list[place].task.due()
     }
 
-    /// It is sent, with these numbers.
+    /// Returns the R2T for this part, with these sequence numbers, and records that it is sent.
     fn send(&mut self, place: usize, ask: Ask, stamp: Stamp) -> R2t
         requires there { place < length self.old.list }
         requires due { first (due_asks (transfer_at self.old.list place).task) ≡ Some ask }
@@ -67,7 +67,7 @@ impl Transfers {
     }
 }
 
-/// The Target Transfer Tag behind this one.
+/// Returns the Target Transfer Tag after this one.
 fn next_after(tag: u32) -> u32
     requires { tag < 0xFFFFFFFF }
     ensures { result ≡ (tag + 1) % 0xFFFFFFFF }
@@ -78,7 +78,7 @@ fn next_after(tag: u32) -> u32
     tag + 1
 }
 
-/// An R2T to the command with this header (RFC 7143 §11.8).
+/// Returns an R2T to the command with this header (RFC 7143 §11.8).
 fn r2t_to(header: &Header, tag: u32, stamp: Stamp, ask: Ask) -> R2t
     ensures { result ≡ r2t_for header.now tag stamp ask }
 {

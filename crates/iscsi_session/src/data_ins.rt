@@ -16,7 +16,7 @@ use iscsi_pdu::{Answer, DataIn, Frame, Stamp};
 use iscsi_transfer::{Piece, piece_at, piece_count};
 use scsi_sense::HEADROOM;
 
-/// In how many pieces data of this length is sent.
+/// Returns in how many pieces data of this length is sent.
 pub(crate) fn count_of(values: &Values, length: usize) -> usize
     requires { AreInRange values.now }
     ensures { result ≡ piece_count length values.now.max_burst_length values.now.max_recv_data_segment_length }
@@ -28,7 +28,7 @@ pub(crate) fn count_of(values: &Values, length: usize) -> usize
     )
 }
 
-/// The piece with this number, of data of this length.
+/// Returns the piece with this number, of data of this length.
 fn piece_of(values: &Values, length: usize, number: usize) -> Piece
     requires values { AreInRange values.now }
     requires number { number < piece_count length values.now.max_burst_length values.now.max_recv_data_segment_length }
@@ -42,7 +42,7 @@ fn piece_of(values: &Values, length: usize, number: usize) -> Piece
     )
 }
 
-/// A SCSI Data-In with a piece of a command's data (RFC 7143 §11.7).
+/// Returns a SCSI Data-In with a piece of a command's data (RFC 7143 §11.7).
 fn data_in<'a>(
     numbers: Stamp,
     frame: &Frame,
@@ -67,7 +67,7 @@ fn data_in<'a>(
     }
 }
 
-/// What all SCSI Data-Ins of a command have in common.
+/// Returns the fields that all SCSI Data-Ins of a command have in common.
 pub(crate) fn shared_fields(numbers: Stamp, frame: &Frame) -> SharedFields
     ensures { result ≡ shared_fields numbers frame.now }
 {
@@ -78,7 +78,7 @@ pub(crate) fn shared_fields(numbers: Stamp, frame: &Frame) -> SharedFields
     }
 }
 
-/// Writes the Data-Ins of a command where there is room for them.
+/// Writes the Data-Ins of a command into room that was reserved for them.
 #[tactic(auto, unfolding(crate::specs::Answers::data_answers))]
 pub(crate) fn put_data(
     out: &mut Outbox,
@@ -101,7 +101,7 @@ pub(crate) fn put_data(
     }
 }
 
-/// Puts a header into the room in front of data.
+/// Writes a header into the room in front of data.
 fn put_over(buffer: &mut BytesMut, header: &[u8; HEADROOM])
     requires { headroom ≤ length buffer.old.items }
     ensures items { buffer.new.items ≡ header.now ++ drop headroom buffer.old.items }
@@ -111,7 +111,7 @@ fn put_over(buffer: &mut BytesMut, header: &[u8; HEADROOM])
     room.copy_from_slice(header);
 }
 
-/// Puts a header into the room in front of data, and the padding behind it.
+/// Writes a header into the room in front of data, and the padding after the data.
 fn put_header(buffer: &mut BytesMut, header: &[u8; HEADROOM])
     requires room { headroom ≤ length buffer.old.items }
     requires spare { 3 ≤ buffer.old.spare }
@@ -124,8 +124,8 @@ fn put_header(buffer: &mut BytesMut, header: &[u8; HEADROOM])
     buffer.extend_reserved(&[0; 3][..padding]);
 }
 
-/// Makes the Data-In of a command around its data, where that is one piece and lies behind room for a header.
-/// No byte of it is copied.
+/// Makes the Data-In of a command around its data, which is one piece and lies after room for a header. No byte of it
+/// is copied.
 fn put_around(buffer: &mut BytesMut, numbers: Stamp, values: &Values, frame: &Frame)
     requires values { AreInRange values.now }
     requires room { headroom ≤ length buffer.old.items }
@@ -143,8 +143,8 @@ fn put_around(buffer: &mut BytesMut, numbers: Stamp, values: &Values, frame: &Fr
     put_header(buffer, &header);
 }
 
-/// The data of a command is one piece, and lies in this buffer behind room for a header: with what ends the command
-/// it becomes what waits, where nothing does. No byte of it is copied. The buffer comes back that was there.
+/// Begins an empty outbox with a command's data, which is one piece, and with `last`, which ends the command. The data
+/// lies in `buffer` after room for a header, and no byte of it is copied. Returns the buffer that was there.
 pub(crate) fn put_alone(
     out: &mut Outbox,
     numbers: Stamp,

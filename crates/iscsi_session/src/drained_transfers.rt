@@ -1,4 +1,4 @@
-//! The data of SCSI Commands that were removed, for which functions wait.
+//! The data of removed SCSI Commands for which functions wait.
 
 ghost use Rattle.std.specs.Prelude.{◌≡◌, ◌++◌, ◌&&◌, ◌==◌, OnOk, OnErr};
 ghost use Rattle.std.specs.List.{list_any};
@@ -14,8 +14,8 @@ use iscsi_transfer::Progress;
 use out_of_memory::Memory;
 use std::marker::Model;
 
-/// How far the data of a SCSI Command has come that was removed while an R2T was open, and for which a function waits. The
-/// data itself is not kept.
+/// How far the data of a SCSI Command has come that was removed while an R2T was open, and for which a function waits.
+/// The data itself is not kept.
 #[derive(Drop)]
 pub(crate) struct DrainedTransfer {
     /// The header of the function.
@@ -35,7 +35,7 @@ impl Model for DrainedTransfer {
 }
 
 impl Transfer {
-    /// It is removed, and this function waits for its data.
+    /// Turns the transfer of a removed command into one for which this function waits.
     fn into_drained(self, function: Header) -> DrainedTransfer
         ensures { result ≡ drained_for function self }
     {
@@ -46,7 +46,7 @@ impl Transfer {
         }
     }
 
-    /// A function reaches it, and an R2T is open.
+    /// Returns whether a function reaches the command, and an R2T is open.
     fn is_awaited(&self, reach: &Reach) -> bool
         ensures { result ≡ is_awaited reach.now self.now }
     {
@@ -55,28 +55,28 @@ impl Transfer {
 }
 
 impl DrainedTransfer {
-    /// An R2T is open: not all that it asked for has come.
+    /// Returns whether an R2T is open: not all that it asked for has come.
     fn is_draining(&self) -> bool
         ensures { result ≡ is_draining self.now }
     {
         self.progress.is_asked()
     }
 
-    /// The command with this tag is drained here.
+    /// Returns whether this is data of the command with this tag, and an R2T is open.
     fn drains(&self, tag: u32) -> bool
         ensures { result ≡ (is_draining self.now && bears tag self.now.transfer) }
     {
         self.is_draining() && self.header.initiator_task_tag() == tag
     }
 
-    /// The function with this tag waits for it.
+    /// Returns whether the function with this tag waits for this data.
     fn is_for(&self, tag: u32) -> bool
         ensures { result ≡ (function_tag self.now == tag) }
     {
         self.function.initiator_task_tag() == tag
     }
 
-    /// The function with this tag waits for it, and not all has come.
+    /// Returns whether the function with this tag waits for this data, and not all of it has come.
     fn holds_up(&self, tag: u32) -> bool
         ensures { result ≡ (function_tag self.now == tag && is_draining self.now) }
     {
@@ -85,14 +85,14 @@ impl DrainedTransfer {
 }
 
 impl Transfers {
-    /// Where the data of the command with this tag is drained.
+    /// Returns where the data of the command with this tag is drained.
     pub(crate) fn drain_of(&self, tag: u32) -> Option<usize>
         ensures { result ≡ drain_with tag self.now.drains }
     {
         self.drains.iter().position(|drained| drained.drains(tag))
     }
 
-    /// What a Data-Out is judged to be whose tag no command bears that is not finished.
+    /// Returns the verdict on a Data-Out whose tag belongs to no unfinished command.
     pub(crate) fn judge_drained(&self, frame: &Frame) -> Verdict
         ensures { result ≡ judged_drain self.now.drains frame.now (drain_for frame.now self.now.drains) }
     {
@@ -105,7 +105,7 @@ impl Transfers {
         }
     }
 
-    /// The data of a lawful Data-Out is taken whose tag no command bears that is not finished.
+    /// Accepts the data of a Data-Out that has no fault, and whose tag belongs to no unfinished command.
     pub(crate) fn feed_drained(&mut self, frame: &Frame)
         requires { judged_drain self.old.drains frame.now (drain_for frame.now self.old.drains) ≡ Feeding }
         ensures { self.new ≡ record self.old { drains = fed_drain self.old.drains frame.now (drain_for frame.now self.old.drains) } }
@@ -113,11 +113,11 @@ impl Transfers {
         let Some(place) = self.drain_of(frame.header.initiator_task_tag()) else {
             return;
         };
-        // It is lawful, so this does not fail.
+        // It has no fault, so this does not fail.
         let _ = self.drains[place].progress.data_out(frame);
     }
 
-    /// A function is to wait for data of the commands that it reaches.
+    /// Returns whether a function is to wait for data of the commands that it reaches.
     pub(crate) fn awaits(&self, reach: &Reach) -> bool
         ensures { result ≡ awaits_in reach.now self.now.list }
     {
@@ -127,15 +127,15 @@ impl Transfers {
         self.has_asked(reach)
     }
 
-    /// An R2T is open for one that a function reaches.
+    /// Returns whether an R2T is open for a command that a function reaches.
     fn has_asked(&self, reach: &Reach) -> bool
         ensures { result ≡ list_any (is_awaited reach.now) self.now.list }
     {
         self.list.iter().any(|transfer| transfer.is_awaited(reach))
     }
 
-    /// The commands that a function reaches are removed, and the function waits for the data that open R2Ts have asked
-    /// for of them. Where an allocation fails nothing changes.
+    /// Removes the commands that a function reaches. The function waits for the data of these commands that open R2Ts
+    /// have asked for. If an allocation fails, nothing changes.
     pub(crate) fn drain(&mut self, reach: &Reach) -> Result<(), Memory>
         ensures ok { OnOk result (self.new ≡ record self.old
             { list = transfers_without reach.now self.old.list; drains = self.old.drains ++ awaited_in reach.now self.old.list }) }
@@ -157,14 +157,14 @@ impl Transfers {
         Ok(())
     }
 
-    /// Not all has come that the function with this tag waits for.
+    /// Returns whether data is still to come for which the function with this tag waits.
     fn lacks_for(&self, tag: u32) -> bool
         ensures { result ≡ lacks_for self.now.drains tag }
     {
         self.drains.iter().any(|drained| drained.holds_up(tag))
     }
 
-    /// Where data stands of the first function that need wait no more.
+    /// Returns the place of the first data whose function need not wait any longer.
     fn telling(&self) -> Option<usize>
         ensures { result ≡ telling_place self.now.drains }
     {
@@ -173,7 +173,7 @@ impl Transfers {
         ))
     }
 
-    /// The header of the first function whose data has come.
+    /// Returns the header of the first function whose data has come.
     pub(crate) fn drained(&self) -> Option<Header>
         ensures { result ≡ function_at self.now.drains (telling_place self.now.drains) }
     {
@@ -183,7 +183,7 @@ impl Transfers {
         }
     }
 
-    /// The function with this tag waits for nothing any more.
+    /// Forgets the data for which the function with this tag waited.
     pub(crate) fn forget(&mut self, tag: u32)
         ensures { self.new ≡ record self.old { drains = drains_without tag self.old.drains } }
     {

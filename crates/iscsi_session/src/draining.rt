@@ -1,4 +1,4 @@
-//! The functions that wait for data are answered.
+//! Answering the functions that wait for data.
 
 ghost use Rattle.std.specs.Prelude.{◌≡◌, ◌++◌, ◌∷◌, ◌<◌, ℕ, List, None, Some, true, false, OnOk, OnErr};
 ghost use Rattle.iscsi_pdu.specs.Frames as pdu;
@@ -19,8 +19,8 @@ use iscsi_pdu::{HEADER_LENGTH, TaskResult};
 use out_of_memory::Memory;
 
 impl Session {
-    /// The first request that is due acts: this function, which waits for data of commands that it removes. Where an
-    /// allocation fails nothing changes.
+    /// Executes the first request that is due: this function, which waits for data of commands that it removes. If an
+    /// allocation fails, nothing changes.
     pub(crate) fn drain(&mut self, reach: &Reach) -> Result<(), Memory>
         ensures stands { OnOk result ((luns : List ℕ) (past : Past) (k : ℕ) (others : List ℕ) → Stands past self.old → due past ≡ k ∷ others
             → is_function (frame_of past.came k) ≡ true → reach.now ≡ own_reach luns (frame_of past.came k).header
@@ -36,7 +36,7 @@ impl Session {
         Ok(())
     }
 
-    /// The function whose data has come is finished, and answered at the end of the buffer. Where an allocation fails
+    /// Finishes the first function whose data has come, and appends its answer to `out`. If an allocation fails,
     /// nothing changes.
     pub(crate) fn answer_drained(&mut self, out: &mut Outbox) -> Result<(), Memory>
         ensures ok { OnOk result ((orders : List (List ℕ)) (units : TargetUnits) → Runs tell_due None true self.old self.new

@@ -27,28 +27,27 @@ use out_of_memory::Memory;
 use std::alloc::Global;
 use std::marker::Model;
 
-/// It is a Task Management Function Request.
 pub(crate) fn is_function(frame: &Frame) -> bool
     ensures { result ≡ is_function_in frame.now }
 {
     matches!(frame.header.opcode(), Opcode::TaskManagement)
 }
 
-/// It stands at a number that was plugged.
+/// Returns whether a frame is the placeholder for a number that was plugged.
 pub(crate) fn is_plug(frame: &Frame) -> bool
     ensures { result ≡ is_plug_in frame.now }
 {
     matches!(frame.header.opcode(), Opcode::Other(PLUGGED))
 }
 
-/// The number that a function refers to is before its own.
+/// Returns whether the number that a function refers to is before its own.
 fn refers_back(function: &Header) -> bool
     ensures { result ≡ refers_back function.now }
 {
     is_before(function.ref_cmd_sn(), function.cmd_sn())
 }
 
-/// What an ABORT TASK comes to that finds this.
+/// Returns the response to an ABORT TASK that finds this.
 fn abort_result(found: Aborted) -> TaskResult
     ensures { result ≡ abort_result found }
 {
@@ -58,7 +57,7 @@ fn abort_result(found: Aborted) -> TaskResult
     }
 }
 
-/// What a function is answered.
+/// Returns the answer to a function.
 pub(crate) fn answer_to(function: &Header, stamp: Stamp, response: TaskResult) -> Answer<'static>
     ensures value { result ≡ function_answer stamp response function.now }
     ensures short { length (spelling result) ≤ 48 }
@@ -85,7 +84,7 @@ impl Model for Functions {
 }
 
 impl Functions {
-    /// No function. It takes no memory.
+    /// Creates an empty list. Allocates no memory.
     pub(crate) fn new(alloc: Global) -> Functions
         ensures { result ≡ [] }
     {
@@ -94,7 +93,6 @@ impl Functions {
         }
     }
 
-    /// Where the function with this tag stands.
     fn place_of(&self, tag: u32) -> Option<usize>
         ensures { result ≡ function_place tag self.now }
     {
@@ -103,14 +101,14 @@ impl Functions {
             .position(|header| header.initiator_task_tag() == tag)
     }
 
-    /// A function with this tag is not finished.
+    /// Returns whether a function with this tag is not finished.
     pub(crate) fn is_live(&self, tag: u32) -> bool
         ensures { result ≡ is_some (function_place tag self.now) }
     {
         self.place_of(tag).is_some()
     }
 
-    /// How many for immediate delivery are not finished.
+    /// Returns how many unfinished functions are for immediate delivery.
     pub(crate) fn immediate(&self) -> usize
         ensures { result ≡ immediate_functions self.now }
     {
@@ -123,7 +121,7 @@ impl Functions {
         immediate
     }
 
-    /// A function that has just come is kept. Where an allocation fails nothing changes.
+    /// Adds a function that has just come. If an allocation fails, nothing changes.
     pub(crate) fn begin(&mut self, header: Header) -> Result<(), Memory>
         ensures ok { OnOk result (self.new ≡ self.old ++ header ∷ []) }
         ensures err { OnErr result (self.new ≡ self.old) }
@@ -133,14 +131,14 @@ impl Functions {
         Ok(())
     }
 
-    /// The function that was kept last is kept no more.
+    /// Removes the function that was added last.
     pub(crate) fn forget_last(&mut self)
         ensures { (list : List (List ℕ)) (last : List ℕ) → self.old ≡ list ++ last ∷ [] → self.new ≡ list }
     {
         self.list.pop();
     }
 
-    /// The function with this tag is finished.
+    /// Finishes the function with this tag.
     pub(crate) fn finish(&mut self, tag: u32)
         ensures { self.new ≡ function_removed self.old (function_place tag self.old) }
     {
@@ -151,8 +149,8 @@ impl Functions {
 }
 
 impl Session {
-    /// The first request that is due, a Task Management Function Request, acts. It is answered at the end of the
-    /// buffer unless it waits for data, and its header is put behind the orders. Where an allocation fails nothing changes.
+    /// Executes the first request that is due, a Task Management Function Request. Appends its answer to `out`, unless
+    /// it waits for data, and its header to `orders`. If an allocation fails, nothing changes.
     pub(crate) fn answer_function(
         &mut self,
         luns: &[u8],
@@ -199,8 +197,9 @@ impl Session {
         Ok(Act::Taken)
     }
 
-    /// The first request that is due is finished. It is this function: what it reaches is removed, or the number
-    /// that it refers to is plugged. It gives the numbers before that. Where an allocation fails nothing changes.
+    /// Finishes the first request that is due, which is this function. Removes what it reaches, or plugs the number
+    /// that it refers to. Returns the command numbers as they are before the plug. If an allocation fails, nothing
+    /// changes.
     fn end_tasks(&mut self, reach: &Reach) -> Result<CommandNumbers, Memory>
         requires { 0 < length self.old.tasks.due }
         ensures stands { IfOk result (λ numbers. (luns : List ℕ) (past : Past) (k : ℕ) (others : List ℕ) → Stands past self.old
@@ -225,7 +224,7 @@ impl Session {
         Ok(self.tasks.numbers())
     }
 
-    /// The SCSI Commands that a function reaches are removed: whether there was one. It takes no memory.
+    /// Removes the SCSI Commands that a function reaches, and returns whether there was one. Allocates no memory.
     pub fn remove(&mut self, reach: &Reach) -> bool
         ensures some { (past : Past) → Stands past self.old → result ≡ not (length (reached reach.now past) == 0) }
         ensures stands { (past : Past) → Stands past self.old → Stands (removing (reached reach.now past) past) self.new }
@@ -237,7 +236,7 @@ impl Session {
         some
     }
 
-    /// A function plugs the number that it refers to: the ABORT TASK of a task that has not come.
+    /// Returns whether a function plugs the number that it refers to: it is the ABORT TASK of a task that has not come.
     #[tactic(auto, unfolding(crate::specs::Functions::plugs))]
     fn plugs(&self, reach: &Reach) -> bool
         ensures past { (past : Past) → Stands past self.now → result ≡ plugs_in past reach.now }
@@ -249,7 +248,7 @@ impl Session {
         }
     }
 
-    /// What an ABORT TASK finds.
+    /// Returns what an ABORT TASK finds.
     fn abort_finds(&self, reach: &Reach) -> Aborted
         ensures past { (past : Past) → Stands past self.now → result ≡ abort_finds past reach.now }
         ensures vacant { result ≡ Aborted.Missing → is_vacant self.now.tasks (ref_cmd_sn reach.now.function) ≡ true }
@@ -270,7 +269,7 @@ impl Session {
         Aborted::Nothing
     }
 
-    /// What a function comes to (RFC 7143 §11.6.1).
+    /// Returns the response to a function (RFC 7143 §11.6.1).
     #[tactic(auto, unfolding(crate::specs::Functions::function_result))]
     fn function_result(&self, reach: &Reach) -> TaskResult
         ensures { (past : Past) → Stands past self.now → result ≡ function_result past reach.now }

@@ -1,4 +1,4 @@
-//! The judging of a frame.
+//! Judging a frame.
 
 ghost use Rattle.std.specs.Prelude.{◌≡◌, ◌≢◌, ◌||◌, is_some, ◌++◌, ◌∷◌, ℕ, List, [], true, false, flat_map, IfOk, OnOk, OnErr};
 ghost use Rattle.iscsi_pdu.specs.Answer.{spelling};
@@ -21,16 +21,16 @@ use iscsi_pdu::{Frame, Header, Opcode, RejectReason};
 use iscsi_transfer::command_fault;
 use out_of_memory::Memory;
 
-/// So many SCSI Commands and Task Management Function Requests for immediate delivery may be unfinished.
+/// How many SCSI Commands and Task Management Function Requests for immediate delivery may be unfinished.
 const MOST_IMMEDIATE: usize = 8;
 
 /// The length of a Reject, in bytes.
 const LONGEST_REJECT: usize = 96;
 
 impl Session {
-    /// A frame is judged: its opcode, its number, the limit of commands for immediate delivery, its tag
-    /// and its data, in this order. One that is accepted is kept until it acts, and one that is rejected
-    /// is answered at the end of the buffer. Where an allocation fails nothing changes.
+    /// Checks a frame: its opcode, its number, the limit of commands for immediate delivery, its tag and its data, in
+    /// this order. Keeps an accepted request until it is executed, and answers a rejected frame at the end of `out`. If
+    /// an allocation fails, nothing changes.
     pub(crate) fn receive(&mut self, frame: Frame, out: &mut Outbox) -> Result<Verdict, Memory>
         requires { AreInRange self.old.params.values }
         ensures verdict { IfOk result (λ v. (past : Past) → Stands past self.old → v ≡ verdict past frame) }
@@ -52,7 +52,7 @@ impl Session {
         Ok(verdict)
     }
 
-    /// What a frame is judged to be. In a discovery session most are refused.
+    /// Returns the verdict on a frame. In a discovery session most frames are refused.
     fn judge(&self, frame: &Frame) -> Verdict
         ensures verdict { (past : Past) → Stands past self.now → result ≡ verdict past frame.now }
         ensures vacant { result ≡ Verdict.Accepted → is_vacant_for self.now.tasks frame.now ≡ true }
@@ -66,7 +66,7 @@ impl Session {
         self.judge_request(frame)
     }
 
-    /// The session is a discovery session, and does not serve this.
+    /// Returns whether the session is a discovery session, and does not serve this frame.
     #[tactic(auto, unfolding(crate::specs::Judging::is_refused))]
     fn is_refused(&self, frame: &Frame) -> bool
         ensures { result ≡ is_refused self.now.params frame.now }
@@ -82,7 +82,7 @@ impl Session {
         }
     }
 
-    /// What a frame is judged to be that the session serves.
+    /// Returns the verdict on a frame that the session serves.
     #[tactic(auto, using(crate::proofs::Verdicts::verdict_at), unfolding(crate::specs::Judging::verdict_by))]
     fn judge_request(&self, frame: &Frame) -> Verdict
         ensures verdict { (past : Past) → Stands past self.now → result ≡ request_verdict past frame.now }
@@ -107,7 +107,7 @@ impl Session {
         }
     }
 
-    /// A request for immediate delivery has no number; every other one is new, or ignored.
+    /// Returns whether a request is for immediate delivery, and so has no number, or has a new number.
     fn is_fresh(&self, frame: &Frame) -> bool
         ensures fresh { (past : Past) → Stands past self.now → result ≡ is_fresh past frame.now }
         ensures vacant { result ≡ is_vacant_for self.now.tasks frame.now }
@@ -115,7 +115,7 @@ impl Session {
         frame.header.is_immediate() || self.tasks.is_new(frame.header.cmd_sn())
     }
 
-    /// What a SCSI Command or a Task Management Function Request is judged to be.
+    /// Returns the verdict on a SCSI Command or a Task Management Function Request.
     fn judge_task(&self, frame: &Frame) -> Verdict
         ensures verdict { (past : Past) → Stands past self.now → result ≡ task_verdict past frame.now }
         ensures vacant { result ≡ Verdict.Accepted → is_vacant_for self.now.tasks frame.now ≡ true }
@@ -137,14 +137,15 @@ impl Session {
         Verdict::Accepted
     }
 
-    /// Too many SCSI Commands and Task Management Function Requests for immediate delivery are not finished.
+    /// Returns whether a frame is for immediate delivery, and too many SCSI Commands and Task Management Function
+    /// Requests for immediate delivery are unfinished.
     fn is_over(&self, frame: &Frame) -> bool
         ensures { (past : Past) → Stands past self.now → result ≡ is_over past frame.now }
     {
         frame.header.is_immediate() && self.is_full()
     }
 
-    /// It bears the reserved tag, or a live one.
+    /// Returns whether a frame has the reserved tag, or a live one.
     fn is_taken(&self, frame: &Frame) -> bool
         ensures taken { (past : Past) → Stands past self.now → result ≡ is_taken past frame.now }
         ensures places { result ≡ false → (is_live_in (initiator_task_tag frame.now.header) self.now.transfers
@@ -154,15 +155,15 @@ impl Session {
         tag == RESERVED_TAG || self.is_live(tag)
     }
 
-    /// The data that a SCSI Command brings is not as agreed.
+    /// Returns whether a frame is a SCSI Command that brings data which is not as agreed.
     fn is_faulty(&self, frame: &Frame) -> bool
         ensures { result ≡ is_faulty self.now.params.values frame.now }
     {
         is_command(frame) && command_fault(frame, &self.params.values).is_some()
     }
 
-    /// As many SCSI Commands and Task Management Function Requests for immediate delivery as may be are not
-    /// finished.
+    /// Returns whether as many SCSI Commands and Task Management Function Requests for immediate delivery are
+    /// unfinished as may be.
     fn is_full(&self) -> bool
         ensures { (past : Past) → Stands past self.now → result ≡ is_full past }
     {
@@ -172,7 +173,8 @@ impl Session {
             >= MOST_IMMEDIATE
     }
 
-    /// A SCSI Command or a Task Management Function Request with this tag is not finished.
+    /// Returns whether a SCSI Command or a Task Management Function Request with this tag is not finished, or data with
+    /// this tag is drained.
     fn is_live(&self, tag: u32) -> bool
         ensures live { (past : Past) → Stands past self.now → result ≡ is_live past tag }
         ensures places { result ≡ (is_live_in tag self.now.transfers || is_some (function_place tag self.now.functions)) }
@@ -180,7 +182,7 @@ impl Session {
         self.transfers.is_live(tag) || self.functions.is_live(tag)
     }
 
-    /// A request that is accepted is kept until it acts. Where an allocation fails nothing changes.
+    /// Keeps an accepted request until it is executed. If an allocation fails, nothing changes.
     fn accept(&mut self, frame: Frame) -> Result<(), Memory>
         requires values { AreInRange self.old.params.values }
         requires vacant { is_vacant_for self.old.tasks frame ≡ true }
@@ -198,7 +200,7 @@ impl Session {
         self.tasks.keep(frame)
     }
 
-    /// A SCSI Command is kept, with the data that it brings. Where an allocation fails nothing changes.
+    /// Keeps a SCSI Command, with the data that it brings. If an allocation fails, nothing changes.
     fn accept_command(&mut self, frame: Frame) -> Result<(), Memory>
         requires values { AreInRange self.old.params.values }
         requires command { is_command_in frame ≡ true }
@@ -216,7 +218,7 @@ impl Session {
         Ok(())
     }
 
-    /// A Task Management Function Request is kept. Where an allocation fails nothing changes.
+    /// Keeps a Task Management Function Request. If an allocation fails, nothing changes.
     fn accept_function(&mut self, frame: Frame) -> Result<(), Memory>
         requires function { is_function_in frame ≡ true }
         requires vacant { is_vacant_for self.old.tasks frame ≡ true }
@@ -233,7 +235,7 @@ impl Session {
         Ok(())
     }
 
-    /// The data of a Data-Out that is lawful is taken. Where an allocation fails nothing changes.
+    /// Accepts the data of a Data-Out that has no fault. If an allocation fails, nothing changes.
     fn feed(&mut self, frame: Frame) -> Result<(), Memory>
         requires { judged_in self.old.transfers frame ≡ Verdict.Feeding }
         ensures stands { OnOk result ((past : Past) → Stands past self.old
@@ -244,7 +246,7 @@ impl Session {
         self.transfers.feed(frame)
     }
 
-    /// A frame is answered by a Reject. Where an allocation fails nothing changes.
+    /// Answers a frame with a Reject. If an allocation fails, nothing changes.
     fn reject(
         &mut self,
         reason: RejectReason,

@@ -1,21 +1,22 @@
-//! One iSCSI session in full feature phase (RFC 7143 §4.2): its requests from the frames that bring
-//! them to their answers.
+//! One iSCSI session in full feature phase (RFC 7143 §4.2): its requests, from the frames that bring them to their
+//! answers.
 //!
 //! ```text
-//!   frame   judged   held in the window      due        queue      done, where its data is whole,
-//!   ----->  --------> behind a missing  ---> acts  ---> SCSI  ---> on the units,
-//!           rejected  number                 │          Commands   and answered
+//!   frame   judged   held in the window      executed      queue      done, once its data is whole,
+//!   ----->  --------> after a missing   ---> when due ---> SCSI  ---> on the units,
+//!           rejected  number                 │             Commands   and answered
 //!                │                           └ NOP-Out, Text, Logout, Task Management: answered at once
-//!                └ Data-Out: the data of its command grows; where more is wanted, an R2T asks for it
+//!                └ Data-Out: the data of its command grows; if more is wanted, an R2T asks for it
 //! ```
 //!
-//! [`Session::serve`] judges a frame, lets the requests act that it lets be taken, and sends the R2T that it
-//! made due; a Task Management function takes commands out of these lines, and an ABORT TASK may plug the number of one that
-//! has not come;
-//! [`Session::settle`] does the commands that acted and whose data is whole. What each call does is
-//! said of the session's past (`specs/Requests.antt`), plain lists in which a request is named by its place among those that came: a
-//! session that stood where one past is stands where its steps lead (`specs/Steps.antt`), all of them, or
-//! those before an allocation that failed. What holds of every past is in [`laws`].
+//! - [`Session::serve`] checks a frame, executes the requests that became ready, and sends any R2T that became due. A
+//!   Task Management function removes commands that are held, due or queued. An ABORT TASK may plug the number of a
+//!   command that has not come.
+//! - [`Session::settle`] performs the commands in the queue, up to the first whose data is not whole.
+//!
+//! What each call does is defined on the session's past (`specs/Requests.antt`). A past is a few plain lists, in which
+//! a request is named by its place among those that came. A call takes a session from one past to another, by steps
+//! (`specs/Steps.antt`): all of them, or those before an allocation that failed. [`laws`] has what holds of every past.
 #![tactic(auto)]
 
 mod aborted;

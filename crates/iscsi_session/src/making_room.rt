@@ -1,4 +1,4 @@
-//! Room for what a command is answered, made before it is done.
+//! Room for the answers to a command, made before the command is done.
 
 ghost use Rattle.std.specs.Prelude.{◌≡◌, ◌≤◌, ◌<◌, ◌+◌, nat_lt, is_some, IfSome, IfNone, OnOk};
 ghost use Rattle.iscsi_login.specs.Values.{AreInRange};
@@ -17,20 +17,20 @@ use scsi_cdb::MOST_BLOCKS;
 /// The longest SCSI Response, in bytes: its header, and sense data with its length.
 pub(crate) const LONGEST_RESPONSE: usize = 68;
 
-/// What a SCSI Data-In takes beside its data, in bytes at most: its header and the padding.
+/// The most bytes that a SCSI Data-In takes, not counting its data: its header and the padding.
 const LONGEST_FRAME: usize = 51;
 
-/// A command gives no more data than this, in bytes.
+/// The most data that a command returns, in bytes.
 const MOST_GIVEN: usize = MOST_BLOCKS as usize * BLOCK_LENGTH;
 
-/// Of a command that may give more than this, in bytes, the data is sent from where it lies where its pieces may be
+/// If a command may return more bytes than this, its data is sent from where it lies, provided that its pieces may be
 /// as long.
 const LONG: usize = 16_384;
 
-/// Of the data of such a command no more is copied, in bytes.
+/// The most data of such a command that is copied, in bytes.
 const MOST_COPIED: usize = 2048;
 
-/// The most data in bytes that a command may be answered.
+/// Returns how much data may be sent in answer to a command, in bytes at most.
 fn most_sent(frame: &Frame) -> usize
     ensures value { result ≡ most_data_sent frame.now }
     ensures bound { result ≤ most_given }
@@ -42,14 +42,15 @@ fn most_sent(frame: &Frame) -> usize
     MOST_GIVEN.min(header.expected_transfer_length() as usize)
 }
 
-/// A command may give much data, and so its buffer may be large.
+/// Returns whether a command may return much data, so that its buffer may be large.
 pub(crate) fn is_long(frame: &Frame) -> bool
     ensures { result ≡ nat_lt 16384 (most_data_sent frame.now) }
 {
     most_sent(frame) > LONG
 }
 
-/// At which multiples data is cut that is sent from where it lies. There are none where its pieces would be short.
+/// Returns the multiples at which data is cut that is sent from where it lies, or `None` if its pieces would be short
+/// or padded.
 fn long_limits(values: &Values) -> Option<Limits>
     requires { AreInRange values.now }
     ensures some { is_some result ≡ cuts_long values.now }
@@ -63,7 +64,7 @@ fn long_limits(values: &Values) -> Option<Limits>
     Some(limits)
 }
 
-/// How much data of a command is copied, in bytes at most.
+/// Returns how much data of a command is copied, in bytes at most.
 fn most_copied(values: &Values, frame: &Frame) -> usize
     requires { AreInRange values.now }
     ensures value { result ≡ most_copied values.now frame.now }
@@ -75,8 +76,8 @@ fn most_copied(values: &Values, frame: &Frame) -> usize
     most_sent(frame)
 }
 
-/// At which multiples so much data of a command is cut, where it is sent from where it lies. There are none where it
-/// is to be copied, and there is room for that then.
+/// Returns the multiples at which `sent` bytes of a command's data are cut, if they are sent from where they lie.
+/// `None` means that they are copied, and that there is room for that.
 pub(crate) fn limits_for(values: &Values, frame: &Frame, sent: usize) -> Option<Limits>
     requires values { AreInRange values.now }
     requires sent { sent ≤ most_data_sent frame.now }
@@ -91,7 +92,7 @@ pub(crate) fn limits_for(values: &Values, frame: &Frame, sent: usize) -> Option<
     long_limits(values)
 }
 
-/// How many Data-Ins are copied for a command, at most.
+/// Returns how many Data-Ins are copied for a command, at most.
 fn most_pieces(values: &Values, frame: &Frame) -> usize
     requires { AreInRange values.now }
     ensures value { result ≡ most_pieces values.now frame.now }
@@ -100,7 +101,8 @@ fn most_pieces(values: &Values, frame: &Frame) -> usize
     count_of(values, most_copied(values, frame))
 }
 
-/// How many bytes the answers of a command may take, at most, beside data that is sent from where it lies.
+/// Returns how many bytes the answers to a command may take, at most, not counting data that is sent from where it
+/// lies.
 pub(crate) fn room_for(values: &Values, frame: &Frame) -> usize
     requires { AreInRange values.now }
     ensures { result ≡ room_for values.now frame.now }
@@ -108,7 +110,7 @@ pub(crate) fn room_for(values: &Values, frame: &Frame) -> usize
     most_pieces(values, frame) * LONGEST_FRAME + most_copied(values, frame) + LONGEST_RESPONSE
 }
 
-/// Makes room for all that a command is answered. Where an allocation fails what waits stays the same.
+/// Makes room for all answers to a command. If an allocation fails, what waits stays the same.
 pub(crate) fn make_room(out: &mut Outbox, values: &Values, frame: &Frame) -> Result<(), Memory>
     requires { AreInRange values.now }
     ensures room { OnOk result (room_for values.now frame.now ≤ out.new.spare) }

@@ -1,4 +1,4 @@
-//! What a Task Management Function Request reaches.
+//! The commands that a Task Management Function Request reaches.
 
 ghost use Rattle.std.specs.Prelude.{◌≡◌};
 ghost use Rattle.scsi_unit.specs.Lun.{lun_number};
@@ -11,14 +11,14 @@ use iscsi_order::is_before;
 use iscsi_pdu::{Frame, Header, TaskResult};
 use std::marker::Model;
 
-/// A Task Management Function Request, as it looks at the commands of one session of its target.
+/// A Task Management Function Request, as applied to the commands of one session of its target.
 #[derive(Drop)]
 pub struct Reach<'a> {
     /// Its header.
     pub function: Header,
     /// The numbers of the target's units.
     pub luns: &'a [u8],
-    /// The session is the one that it came from.
+    /// Whether the session is the one that it came from.
     pub is_own: bool,
 }
 
@@ -30,7 +30,7 @@ impl<'a> Model for Reach<'a> {
     ghost view = { λ r. record { function = r.function; luns = r.luns.now; is_own = r.is_own } };
 }
 
-/// The number in a LUN: byte 1, where all other bytes are zero (SAM-5 "Single level LUN structure").
+/// Returns the number in a LUN: byte 1, if all other bytes are zero (SAM-5 "Single level LUN structure").
 #[tactic(auto, unfolding(scsi_unit::specs::Lun::lun_number))]
 fn number_in(lun: [u8; 8]) -> Option<u8>
     ensures { result ≡ lun_number lun }
@@ -42,7 +42,7 @@ fn number_in(lun: [u8; 8]) -> Option<u8>
 }
 
 impl Reach<'_> {
-    /// The function removes the SCSI Command with this header (RFC 7143 §11.5.1).
+    /// Returns whether the function removes the SCSI Command with this header (RFC 7143 §11.5.1).
     #[tactic(auto, unfolding(crate::specs::Functions::reaches))]
     pub(crate) fn has(&self, command: &Header) -> bool
         ensures { result ≡ reaches_in self.now command.now }
@@ -58,14 +58,14 @@ impl Reach<'_> {
         }
     }
 
-    /// The SCSI Commands that the function removes.
+    /// Returns which SCSI Commands the function removes.
     pub(crate) fn scope(&self) -> Scope
         ensures { result ≡ scope_in self.now }
     {
         Scope::of(self.function.task_function())
     }
 
-    /// The command is of the task set (SAM-5) of the unit that the request names.
+    /// Returns whether the command is of the task set (SAM-5) of the unit that the request names.
     fn is_in_set(&self, command: &Header) -> bool
         ensures { result ≡ is_in_set self.now command.now }
     {
@@ -78,8 +78,8 @@ impl Reach<'_> {
         }
     }
 
-    /// Of the session that the request came from: the command is for immediate delivery, or is numbered before the
-    /// request.
+    /// Returns whether the command is for immediate delivery, is numbered before the request, or is of another session
+    /// than the request.
     fn is_earlier(&self, command: &Header) -> bool
         ensures { result ≡ is_earlier self.now command.now }
     {
@@ -88,7 +88,7 @@ impl Reach<'_> {
             || is_before(command.cmd_sn(), self.function.cmd_sn())
     }
 
-    /// The number of the unit that the LUN of a header names, where the target has it.
+    /// Returns the number of the unit that the LUN of a header names, if the target has it.
     fn unit_named(&self, header: &Header) -> Option<u8>
         ensures { result ≡ unit_named self.now.luns header.now }
     {
@@ -100,14 +100,13 @@ impl Reach<'_> {
         }
     }
 
-    /// The target has a unit of this number.
     fn has_unit(&self, number: u8) -> bool
         ensures { result ≡ has_unit self.now.luns number }
     {
         self.luns.iter().any(|lun| *lun == number)
     }
 
-    /// What the request is answered, where it is for all commands of a unit (RFC 7143 §11.6.1).
+    /// Returns the response to a request that is for all commands of a unit (RFC 7143 §11.6.1).
     pub(crate) fn set_result(&self) -> TaskResult
         ensures { result ≡ set_result self.now }
     {
@@ -118,14 +117,14 @@ impl Reach<'_> {
         }
     }
 
-    /// The function waits for the data that R2Ts have asked for. ABORT TASK does not.
+    /// Returns whether the function waits for the data that R2Ts have asked for. ABORT TASK does not.
     pub(crate) fn waits(&self) -> bool
         ensures { result ≡ waits_in self.now }
     {
         self.scope().waits()
     }
 
-    /// The function removes this request, a SCSI Command.
+    /// Returns whether this request is a SCSI Command that the function removes.
     pub(crate) fn has_frame(&self, frame: &Frame) -> bool
         ensures { result ≡ reaches_frame self.now frame.now }
     {

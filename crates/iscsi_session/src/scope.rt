@@ -12,7 +12,7 @@ use scsi_sense::Attention;
 pub(crate) enum Scope {
     /// One task of its session.
     Task,
-    /// The task set of a logical unit, of its session alone.
+    /// The task set of a logical unit, of its session only.
     OwnTaskSet,
     /// The task set of a logical unit, of all sessions of the target.
     TaskSet,
@@ -23,7 +23,6 @@ pub(crate) enum Scope {
 }
 
 impl Scope {
-    /// That of a function.
     pub(crate) fn of(function: TaskFunction) -> Scope
         ensures { result ≡ scope_of function }
     {
@@ -39,7 +38,7 @@ impl Scope {
         }
     }
 
-    /// A function of this scope waits for the data that R2Ts have asked for. ABORT TASK does not.
+    /// Returns whether a function of this scope waits for the data that R2Ts have asked for. ABORT TASK does not.
     pub(crate) fn waits(self) -> bool
         ensures { result ≡ waits_by self }
     {
@@ -49,7 +48,7 @@ impl Scope {
         }
     }
 
-    /// A function of this scope removes commands of all sessions of the target.
+    /// Returns whether a function of this scope removes commands of all sessions of the target.
     fn is_for_all(self) -> bool
         ensures { result ≡ is_for_all_by self }
     {
@@ -60,14 +59,14 @@ impl Scope {
     }
 }
 
-/// This Task Management Function Request removes commands of all sessions of the target.
+/// Returns whether this Task Management Function Request removes commands of all sessions of the target.
 pub fn is_for_all_sessions(function: &Header) -> bool
     ensures { result ≡ is_for_all_by (scope_of (task_function (function_code function.now))) }
 {
     Scope::of(function.task_function()).is_for_all()
 }
 
-/// The unit attention that this Task Management Function Request raises.
+/// Returns the unit attention that this Task Management Function Request raises, if any.
 pub fn attention_of(function: &Header) -> Option<Attention>
     ensures { result ≡ attention_by (task_function (function_code function.now)) }
 {

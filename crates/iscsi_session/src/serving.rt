@@ -1,4 +1,4 @@
-//! A frame of a session, and the commands that were taken.
+//! Serving a frame of a session, and performing the commands that were taken.
 
 ghost use Rattle.std.specs.Prelude.{◌≡◌, ◌<◌, ◌≤◌, ◌++◌, ℕ, List, [], None, Some, length, true, false, IfOk, OnOk, OnErr};
 ghost use Rattle.scsi_unit.specs.CameOut.{CameOut, AsDefined};
@@ -26,8 +26,8 @@ use scsi_sense::{Condition, Done, Nexus, Sense};
 use scsi_unit::Units;
 use std::alloc::Global;
 
-/// A command with all its data is done. One with an additional header, or with both R and W, is answered
-/// INVALID FIELD IN CDB in place of being done. Where an allocation fails nothing changes.
+/// Performs a command with all its data. A command with an additional header, or with both R and W, is answered INVALID
+/// FIELD IN CDB instead. If an allocation fails, nothing changes.
 #[tactic(auto, unfolding(crate::specs::Commands::carried_out))]
 fn carry_out<S: Store>(
     alloc: Global,
@@ -52,7 +52,7 @@ fn carry_out<S: Store>(
     Ok(done)
 }
 
-/// A buffer that is used no more goes back to the units.
+/// Gives a buffer that is no longer used back to the units.
 fn give_back<S: Store>(units: &mut Units<S>, buffer: Option<BytesMut>)
     ensures { units.new ≡ units.old }
 {
@@ -61,7 +61,7 @@ fn give_back<S: Store>(units: &mut Units<S>, buffer: Option<BytesMut>)
     }
 }
 
-/// The buffers in which the data of a command came are kept by the units, to be used again.
+/// Gives the units the buffers in which the data of a command came, for reuse.
 fn keep_buffers<S: Store>(units: &mut Units<S>, parts: Option<Parts>)
     ensures { units.new ≡ units.old }
 {
@@ -74,12 +74,20 @@ fn keep_buffers<S: Store>(units: &mut Units<S>, parts: Option<Parts>)
 }
 
 impl Session {
-    /// A frame is judged, the requests that it lets be taken act, the R2Ts that it makes due are sent, and the function is
-    /// answered that waited for its data; all of that is added at the end of the buffer. The header of each Task Management Function Request that acts is
-    /// put behind the orders: the target is to carry it out on its other sessions and on its units, which have these
-    /// numbers. It tells whether the session goes on: a violation and a Logout that closes end it.
-    /// Where an allocation fails the session is to be closed: the steps before it were done and answered whole, and
-    /// their orders stand.
+    /// Serves a frame:
+    ///
+    /// - checks it
+    /// - executes the requests that became ready
+    /// - sends the R2Ts that became due
+    /// - answers the function that waited for its data
+    ///
+    /// What these steps send is appended to `out`. The header of each Task Management Function Request that is executed
+    /// is appended to `orders`. The target is to carry it out on its other sessions and on its units, whose numbers are
+    /// `luns`.
+    ///
+    /// Returns whether the session continues: a violation ends it, and so does a Logout that closes it. If an
+    /// allocation fails, the session is to be closed. The steps before it were done and answered whole, and their
+    /// orders remain.
     pub fn serve(
         &mut self,
         frame: Frame,
@@ -109,8 +117,8 @@ impl Session {
         Ok(true)
     }
 
-    /// The R2Ts that are due are added at the end of the buffer. Room is made for all before the first is sent, so that
-    /// where an allocation fails nothing changes.
+    /// Appends the R2Ts that are due to `out`. Room is made for all before the first is sent, so that nothing changes
+    /// if an allocation fails.
     fn ask_due(&mut self, out: &mut Outbox) -> Result<(), Memory>
         ensures ok { OnOk result ((orders : List (List ℕ)) (units : TargetUnits) → Runs ask_due None true self.old self.new
             (output out.old.items orders) (output out.new.items orders) units units) }
@@ -129,8 +137,8 @@ impl Session {
         Ok(())
     }
 
-    /// No command can be done now: all that were taken are finished, or the first that is not waits for data. What
-    /// [`Session::settle`] would do is then nothing.
+    /// Returns whether no command can be done now: all that were taken are finished, or the first that is not waits for
+    /// data. [`Session::settle`] would then do nothing.
     #[tactic(auto, using(crate::proofs::Settled::settled_is))]
     pub fn is_settled(&self) -> bool
         ensures value { result ≡ is_waiting self.now }
@@ -142,9 +150,9 @@ impl Session {
         }
     }
 
-    /// The commands that were taken are done on the target's units and answered, one after the other, up to
-    /// the first whose data has not all come: of any units, by how each command came out. Where
-    /// an allocation fails the session is to be closed: the steps before it were done and answered whole.
+    /// Performs the commands that were taken on the target's units, one after the other, up to the first whose data has
+    /// not all come. Answers each. The clauses hold for any units, by how each command came out. If an allocation
+    /// fails, the session is to be closed. The steps before it were done and answered whole.
     pub fn settle<S: Store>(
         &mut self,
         alloc: Global,
@@ -166,9 +174,8 @@ impl Session {
         Ok(())
     }
 
-    /// The first command of the queue is done and answered, where its data is whole: whether it was. All room
-    /// is made before
-    /// the units act, so that where an allocation fails nothing changes.
+    /// Performs and answers the first command of the queue, if its data is whole, and returns whether it did. All room
+    /// is made before the units act, so that nothing changes if an allocation fails.
     fn finish<S: Store>(
         &mut self,
         alloc: Global,
@@ -196,7 +203,7 @@ impl Session {
         make_room(out, &self.params.values, frame)?;
         let payload = self.transfers.payload(frame.header.initiator_task_tag());
         let done = carry_out(alloc, units, &self.params.nexus, frame, &payload)?;
-        // There is room for the answers, so nothing fails any more.
+        // There is room for the answers, so nothing fails from here on.
         let (buffer, parts) = self.answer_command(alloc, out, done);
         give_back(units, buffer);
         keep_buffers(units, parts);

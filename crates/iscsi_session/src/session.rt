@@ -15,11 +15,11 @@ use iscsi_pdu::{Frame, Stamp};
 use std::alloc::Global;
 use std::marker::Model;
 
-/// No request that is to be answered bears this tag (RFC 7143 §11.2.1.8).
+/// No request that is to be answered has this tag (RFC 7143 §11.2.1.8).
 pub(crate) const RESERVED_TAG: u32 = 0xffff_ffff;
 
-/// A session (RFC 7143 §4.2): what it was agreed to be, its numbers, and its requests that are not
-/// finished. Clauses see what it remembers of its past.
+/// A session (RFC 7143 §4.2): its parameters, its numbers, and its requests that are not finished. Clauses see what it
+/// remembers of its past.
 #[derive(Drop)]
 pub struct Session {
     pub(crate) params: Params,
@@ -39,7 +39,7 @@ impl Model for Session {
 }
 
 impl Session {
-    /// A session at its beginning. It takes no memory.
+    /// Creates a session at its beginning. Allocates no memory.
     pub fn new(alloc: Global, params: Params) -> Session
         ensures { result ≡ remembered (begun params) }
     {
@@ -53,14 +53,14 @@ impl Session {
         }
     }
 
-    /// Whose session it is, with which target, and the values in force.
+    /// Returns whose session it is, with which target, and the values in force.
     pub fn params(&self) -> &Params
         ensures { result.now ≡ self.now.params }
     {
         &self.params
     }
 
-    /// The sequence numbers of an answer that bears status. The answer behind it has the next StatSN.
+    /// Returns the sequence numbers of an answer that bears status. The answer after it has the next StatSN.
     pub(crate) fn next_stamp(&mut self) -> Stamp
         ensures stamp { (past : Past) → Stands past self.old → result ≡ stamp past }
         ensures stands { (past : Past) (more : List Answer) → Stands past self.old → bearing more ≡ 1 → Stands (answering more past) self.new }
@@ -74,7 +74,7 @@ impl Session {
         }
     }
 
-    /// The sequence numbers of an R2T: StatSN is the next one, and is not used by it (RFC 7143 §11.8.3).
+    /// Returns the sequence numbers of an R2T. Its StatSN is the next one, and is not used by it (RFC 7143 §11.8.3).
     pub(crate) fn stamp(&self) -> Stamp
         ensures { (past : Past) → Stands past self.now → result ≡ stamp past }
     {
@@ -86,8 +86,8 @@ impl Session {
         }
     }
 
-    /// The first command of the queue, where all its data has come: it is to be done now, and then it is
-    /// answered by [`Session::answer_command`].
+    /// Returns the first command of the queue, if all its data has come. It is to be done now, and then answered by
+    /// [`Session::answer_command`].
     pub(crate) fn first(&self) -> Option<&Frame>
         ensures some { IfSome result (λ frame. self.now.tasks.queue ≡ frame.now ∷ drop 1 self.now.tasks.queue) }
         ensures whole { IfSome result (λ frame. whole_at self.now.transfers.list (place_for frame.now self.now.transfers.list) ≡ true) }

@@ -18,16 +18,16 @@ use slab::Slab;
 use std::alloc::Global;
 use std::marker::Model;
 
-/// The requests of a session that are not finished. They stand in a slab, so that one that moves from
-/// one line to another is not copied. Clauses see the three lines, and the window of the numbers.
+/// The requests of a session that are not finished. They are stored in a slab, so that one that moves from one line to
+/// another is not copied. Clauses see the three lines, and the window of the numbers.
 #[derive(Drop)]
 pub(crate) struct Tasks {
     requests: Slab<Frame>,
-    /// The keys of those with a number that wait for the numbers before theirs.
+    /// The keys of the numbered requests that wait for the numbers before theirs.
     window: Window,
-    /// The keys of those that are taken and have not acted, in order.
+    /// The keys of the requests that are taken and are not executed yet, in order.
     due: Vec<usize>,
-    /// The keys of the SCSI Commands that acted, in order.
+    /// The keys of the SCSI Commands in the queue, in order.
     queue: Vec<usize>,
     alloc: Global,
 }
@@ -44,8 +44,7 @@ impl Model for Tasks {
     ghost invariant = { λ t. AreLines t.requests (keys_in t.window.keys) t.due.items t.queue.items };
 }
 
-/// The keys of all numbers that come before the first missing one are handed over, in order. There must be
-/// room for them.
+/// Hands over the keys of all numbers that come before the first missing one, in order. There must be room for them.
 fn take_ready(window: &mut Window, due: &mut Vec<usize>)
     requires { length due.old.items + length window.old.keys ≤ vec_capacity due.old }
     ensures { (window.new, due.new.items) ≡ moves_all (window.old, due.old.items) }
@@ -55,7 +54,7 @@ fn take_ready(window: &mut Window, due: &mut Vec<usize>)
     }
 }
 
-/// A request is finished whose number was handed over. One for immediate delivery has none.
+/// Finishes a request whose number was handed over. A request for immediate delivery has none.
 fn count_out(window: &mut Window, frame: &Frame)
     ensures { window.new ≡ (if is_immediate frame.now.header then window.old else record window.old { unfinished = window.old.unfinished - 1 }) }
 {
@@ -65,7 +64,7 @@ fn count_out(window: &mut Window, frame: &Frame)
 }
 
 impl Tasks {
-    /// No requests, before the first number. It takes no memory.
+    /// Creates an empty list, before the first number. Allocates no memory.
     pub(crate) fn new(alloc: Global, first: u32) -> Tasks
         ensures { result ≡ no_tasks first }
     {
@@ -78,7 +77,7 @@ impl Tasks {
         }
     }
 
-    /// A request that is accepted is kept until it acts. Where an allocation fails nothing changes.
+    /// Keeps an accepted request until it is executed. If an allocation fails, nothing changes.
     pub(crate) fn keep(&mut self, frame: Frame) -> Result<(), Memory>
         requires { is_vacant_for self.old frame ≡ true }
         ensures ok { OnOk result (self.new ≡ kept frame self.old) }
@@ -90,7 +89,7 @@ impl Tasks {
         self.hold(frame.header.cmd_sn(), frame)
     }
 
-    /// A request for immediate delivery is taken at once. Where an allocation fails nothing changes.
+    /// Takes a request for immediate delivery at once. If an allocation fails, nothing changes.
     fn admit(&mut self, frame: Frame) -> Result<(), Memory>
         ensures ok { OnOk result (self.new ≡ record self.old { due = self.old.due ++ frame ∷ [] }) }
         ensures err { OnErr result (self.new ≡ self.old) }
@@ -101,8 +100,8 @@ impl Tasks {
         Ok(())
     }
 
-    /// A request with a number is held, and all that come before the first missing number are taken. Where
-    /// an allocation fails nothing changes.
+    /// Holds a request with a number, and takes all that come before the first missing number. If an allocation fails,
+    /// nothing changes.
     fn hold(&mut self, number: u32, frame: Frame) -> Result<(), Memory>
         requires { is_vacant self.old number ≡ true }
         ensures ok { OnOk result (self.new ≡ takes_all (holding number frame self.old)) }
@@ -116,8 +115,8 @@ impl Tasks {
         Ok(())
     }
 
-    /// The first that is due is finished, and this number is plugged. It gives the numbers in between. Where an
-    /// allocation fails nothing changes.
+    /// Finishes the first request that is due, and plugs this number. Returns the command numbers from between the two.
+    /// If an allocation fails, nothing changes.
     pub(crate) fn plug_behind_first(&mut self, number: u32) -> Result<CommandNumbers, Memory>
         requires vacant { is_vacant self.old number ≡ true }
         requires some { 0 < length self.old.due }
@@ -131,7 +130,7 @@ impl Tasks {
         let frame = self.requests.remove(key);
         count_out(&mut self.window, &frame);
         let numbers = self.window.numbers();
-        // There is room for it where the other one was.
+        // There is room for it in place of the one that was removed.
         let key = self.requests.insert_reserved(plug(self.alloc));
         // It is new, so it is not ignored.
         let _ = self.window.arrive(number, key);
@@ -139,7 +138,7 @@ impl Tasks {
         Ok(numbers)
     }
 
-    /// This number was plugged, and is not taken.
+    /// Returns whether this number was plugged and is not taken.
     pub(crate) fn is_plugged(&self, number: u32) -> bool
         ensures { result ≡ is_some_plug (held_numbered self.now number) }
     {
@@ -152,7 +151,7 @@ impl Tasks {
         }
     }
 
-    /// A request with this CmdSN would be new.
+    /// Returns whether a request with this CmdSN would be new.
     pub(crate) fn is_new(&self, number: u32) -> bool
         ensures vacant { result ≡ is_vacant self.now number }
         ensures past { (past : order.Past) → window.Stands past (window_of self.now) → result ≡ order.is_new past number }
@@ -160,14 +159,14 @@ impl Tasks {
         self.window.is_new(number)
     }
 
-    /// ExpCmdSN and MaxCmdSN.
+    /// Returns ExpCmdSN and MaxCmdSN.
     pub(crate) fn numbers(&self) -> CommandNumbers
         ensures { (past : order.Past) → window.Stands past (window_of self.now) → result ≡ order.numbers_of past }
     {
         self.window.numbers()
     }
 
-    /// The first that is due.
+    /// Returns the first request that is due.
     pub(crate) fn due(&self) -> Option<&Frame>
         ensures some { IfSome result (λ frame. self.now.due ≡ frame.now ∷ drop 1 self.now.due) }
         ensures none { IfNone result (self.now.due ≡ []) }
@@ -176,7 +175,7 @@ impl Tasks {
         self.requests.get(*key)
     }
 
-    /// The first that is due joins the queue. Where an allocation fails nothing changes.
+    /// Moves the first request that is due to the queue. If an allocation fails, nothing changes.
     pub(crate) fn queue_due(&mut self) -> Result<(), Memory>
         ensures ok { OnOk result ((frame : pdu.Frame) (others : List pdu.Frame) → self.old.due ≡ frame ∷ others
             → self.new ≡ record self.old { due = others; queue = self.old.queue ++ frame ∷ [] }) }
@@ -190,7 +189,7 @@ impl Tasks {
         Ok(())
     }
 
-    /// The first that is due acts, and is not finished.
+    /// Removes the first request that is due, without finishing it, and returns it.
     pub(crate) fn drop_due(&mut self) -> Option<Frame>
         ensures some { IfSome result (λ frame. self.old.due ≡ frame ∷ drop 1 self.old.due) }
         ensures same { IfSome result (λ frame. self.new ≡ record self.old { due = drop 1 self.old.due }) }
@@ -205,7 +204,7 @@ impl Tasks {
         Some(frame)
     }
 
-    /// The first that is due is finished.
+    /// Finishes the first request that is due, and returns it.
     pub(crate) fn finish_due(&mut self) -> Option<Frame>
         ensures some { IfSome result (λ frame. self.old.due ≡ frame ∷ drop 1 self.old.due) }
         ensures same { IfSome result (λ frame. self.new ≡ one_fewer frame (record self.old { due = drop 1 self.old.due })) }
@@ -217,7 +216,7 @@ impl Tasks {
         Some(frame)
     }
 
-    /// The first of the queue.
+    /// Returns the first command of the queue.
     pub(crate) fn first(&self) -> Option<&Frame>
         ensures some { IfSome result (λ frame. self.now.queue ≡ frame.now ∷ drop 1 self.now.queue) }
         ensures none { IfNone result (self.now.queue ≡ []) }
@@ -226,7 +225,7 @@ impl Tasks {
         self.requests.get(*key)
     }
 
-    /// The first of the queue is finished.
+    /// Finishes the first command of the queue, and returns it.
     pub(crate) fn finish(&mut self) -> Option<Frame>
         ensures some { IfSome result (λ frame. self.old.queue ≡ frame ∷ drop 1 self.old.queue) }
         ensures same { IfSome result (λ frame. self.new ≡ one_fewer frame (record self.old { queue = drop 1 self.old.queue })) }
@@ -242,8 +241,8 @@ impl Tasks {
         Some(frame)
     }
 
-    /// The SCSI Commands that a Task Management Function Request reaches are removed: what is held or due is voided,
-    /// and what stands in the queue is finished.
+    /// Removes the SCSI Commands that a Task Management Function Request reaches. What is held or due is voided, and
+    /// what is in the queue is finished.
     pub(crate) fn remove(&mut self, reach: &Reach)
         ensures { self.new ≡ without reach.now self.old }
     {
@@ -251,7 +250,7 @@ impl Tasks {
         self.sweep_queue(reach);
     }
 
-    /// Of those that are held or due.
+    /// Voids the commands it reaches that are held or due.
     fn void_waiting(&mut self, reach: &Reach)
         ensures { self.new ≡ record self.old { held = map (option_map (void_if reach.now)) self.old.held; due = map (void_if reach.now) self.old.due } }
     {
@@ -259,27 +258,26 @@ impl Tasks {
         void_line(self.alloc, &mut self.requests, &self.due, reach);
     }
 
-    /// Of those in the queue.
+    /// Finishes the commands it reaches that are in the queue.
     fn sweep_queue(&mut self, reach: &Reach)
         ensures { self.new ≡ record self.old {
           unfinished = self.old.unfinished - length (filter (counts_out reach.now) self.old.queue);
           queue = filter (stays reach.now) self.old.queue;
         } }
     {
-        // Each goes behind the others once, or leaves.
+        // Each moves to the end of the queue once, or leaves it.
         for _ in 0..self.queued() {
             self.turn_queue(reach);
         }
     }
 
-    /// How many stand in the queue.
     fn queued(&self) -> usize
         ensures { result ≡ length self.now.queue }
     {
         self.queue.len()
     }
 
-    /// The first of the queue goes behind the others, or leaves it.
+    /// Moves the first command of the queue to its end, or finishes it if the function reaches it.
     fn turn_queue(&mut self, reach: &Reach)
         ensures { (frame : pdu.Frame) (others : List pdu.Frame) → self.old.queue ≡ frame ∷ others → self.new ≡ swept_one reach.now frame others self.old }
     {
@@ -294,7 +292,7 @@ impl Tasks {
         }
     }
 
-    /// A function is finished that acted before. One for immediate delivery has no number.
+    /// Finishes a function that was executed before. One for immediate delivery has no number.
     pub(crate) fn finish_function(&mut self, header: &Header)
         ensures { self.new ≡ (if is_immediate header.now then self.old else record self.old { unfinished = self.old.unfinished - 1 }) }
     {
@@ -303,7 +301,7 @@ impl Tasks {
         }
     }
 
-    /// A request is finished whose number was taken. One for immediate delivery has none.
+    /// Finishes a request whose number was taken. One for immediate delivery has none.
     fn finish_number(&mut self, frame: &Frame)
         ensures { self.new ≡ one_fewer frame.now self.old }
     {

@@ -1,4 +1,4 @@
-//! The Text Requests that are taken act.
+//! Executing the Text Requests that are taken.
 
 ghost use Rattle.std.specs.Prelude.{◌≡◌, ◌≤◌, ◌<◌, ◌+◌, ◌++◌, ◌∷◌, ℕ, List, length, flat_map, true, IfOk, OnOk, OnErr};
 ghost use Rattle.iscsi_pdu.specs.Answer.{spelling};
@@ -19,17 +19,16 @@ use iscsi_outbox::Outbox;
 use iscsi_pdu::{Answer, Frame, Opcode, RejectReason, Stamp, TextResponse};
 use out_of_memory::Memory;
 
-/// What a Text Response or a Reject takes beside the text, in bytes at most.
+/// The most bytes that a Text Response or a Reject takes, not counting the text.
 const ROOM_TO_TELL: usize = 99;
 
-/// It is a Text Request.
 pub(crate) fn is_text(frame: &Frame) -> bool
     ensures { result ≡ is_text_in frame.now }
 {
     matches!(frame.header.opcode(), Opcode::Text)
 }
 
-/// How many bytes the text of an answer takes.
+/// Returns how many bytes the text of an answer takes.
 fn text_length(piece: &Option<Piece>) -> usize
     requires { IsShort piece.now }
     ensures value { result + 99 ≡ room_to_tell piece.now }
@@ -41,7 +40,7 @@ fn text_length(piece: &Option<Piece>) -> usize
     }
 }
 
-/// Puts the answer to a Text Request behind what waits. There must be room for it.
+/// Appends the answer to a Text Request to `out`. There must be room for it.
 fn put_told(out: &mut Outbox, stamp: Stamp, piece: &Option<Piece>, frame: &Frame)
     requires short { IsShort piece.now }
     requires room { room_to_tell piece.now ≤ out.old.spare }
@@ -59,8 +58,8 @@ fn put_told(out: &mut Outbox, stamp: Stamp, piece: &Option<Piece>, frame: &Frame
 }
 
 impl Session {
-    /// The first request that is due, a Text, is answered at the end of the buffer, and its exchange goes on
-    /// or is over. Where an allocation fails nothing changes.
+    /// Answers the first request that is due, a Text Request, at the end of `out`. Its exchange continues or is over.
+    /// If an allocation fails, nothing changes.
     pub(crate) fn answer_text(&mut self, out: &mut Outbox) -> Result<Act, Memory>
         ensures taken { IfOk result (λ a. 0 < length self.old.tasks.due → a ≡ Act.Taken) }
         ensures acts { IfOk result (λ a. (luns : List ℕ) (past : Past) (k : ℕ) (others : List ℕ) → Stands past self.old → due past ≡ k ∷ others
@@ -86,8 +85,8 @@ impl Session {
         Ok(self.answer_told(out, &told.piece))
     }
 
-    /// The first request that is due, a Text, is finished and answered so: the exchange has heard it. There must be room
-    /// for its answer, so it takes no memory.
+    /// Finishes the first request that is due, a Text Request that its exchange has heard, and answers it with `piece`.
+    /// There must be room for the answer, so no memory is allocated.
     fn answer_told(&mut self, out: &mut Outbox, piece: &Option<Piece>) -> Act
         requires short { IsShort piece.now }
         requires room { room_to_tell piece.now ≤ out.old.spare }

@@ -28,14 +28,14 @@ pub(crate) struct Transfer {
     pub(crate) task: Task,
 }
 
-/// The data of the SCSI Commands of a session.
+/// The data of a session's SCSI Commands.
 #[derive(Drop)]
 pub(crate) struct Transfers {
     /// The Target Transfer Tag of the next R2T.
     pub(crate) next_tag: u32,
-    /// Of those that are not finished, in the order in which they came.
+    /// The data of the commands that are not finished, in the order in which they came.
     pub(crate) list: Vec<Transfer>,
-    /// Of those that were removed and whose data functions wait for.
+    /// The data of removed commands for which functions wait.
     pub(crate) drains: Vec<DrainedTransfer>,
     alloc: Global,
 }
@@ -52,7 +52,7 @@ impl Model for Transfers {
 }
 
 impl Transfers {
-    /// No command. It takes no memory.
+    /// Creates an empty list. Allocates no memory.
     pub(crate) fn new(alloc: Global) -> Transfers
         ensures { result ≡ no_transfers }
     {
@@ -64,7 +64,6 @@ impl Transfers {
         }
     }
 
-    /// Where the command with this tag stands.
     fn place_of(&self, tag: u32) -> Option<usize>
         ensures { result ≡ place_with tag self.now.list }
     {
@@ -73,14 +72,14 @@ impl Transfers {
             .position(|transfer| transfer.header.initiator_task_tag() == tag)
     }
 
-    /// A SCSI Command with this tag is not finished, or its data is drained.
+    /// Returns whether a SCSI Command with this tag is not finished, or its data is drained.
     pub(crate) fn is_live(&self, tag: u32) -> bool
         ensures { result ≡ is_live_in tag self.now }
     {
         self.place_of(tag).is_some() || self.drain_of(tag).is_some()
     }
 
-    /// How many for immediate delivery are not finished.
+    /// Returns how many unfinished commands are for immediate delivery.
     pub(crate) fn immediate(&self) -> usize
         ensures { result ≡ immediate_transfers self.now.list }
     {
@@ -93,7 +92,7 @@ impl Transfers {
         immediate
     }
 
-    /// What a Data-Out is judged to be.
+    /// Returns the verdict on a Data-Out.
     pub(crate) fn judge(&self, frame: &Frame) -> Verdict
         ensures { result ≡ judged_in self.now frame.now }
     {
@@ -106,8 +105,8 @@ impl Transfers {
         }
     }
 
-    /// The data of a Data-Out that is lawful is taken, in the buffer in which it came. Where an allocation fails nothing
-    /// changes.
+    /// Accepts the data of a Data-Out that has no fault, in the buffer in which it came. If an allocation fails,
+    /// nothing changes.
     pub(crate) fn feed(&mut self, frame: Frame) -> Result<(), Memory>
         requires { judged_in self.old frame ≡ Feeding }
         ensures ok { OnOk result (self.new ≡ fed_in self.old frame) }
@@ -120,8 +119,7 @@ impl Transfers {
         grow(&mut self.list[place].task, frame)
     }
 
-    /// A SCSI Command that has just come is kept, with the data that it brings. Where an allocation fails nothing
-    /// changes.
+    /// Adds a SCSI Command that has just come, with the data that it brings. If an allocation fails, nothing changes.
     pub(crate) fn begin(&mut self, frame: &Frame, values: &Values) -> Result<(), Memory>
         requires values { AreInRange values.now }
         requires lawful { command_fault values.now frame.now ≡ None }
@@ -138,14 +136,14 @@ impl Transfers {
         Ok(())
     }
 
-    /// The SCSI Command that was kept last is kept no more.
+    /// Removes the SCSI Command that was added last.
     pub(crate) fn forget_last(&mut self)
         ensures { (list : List Transfer) (last : Transfer) → self.old.list ≡ list ++ last ∷ [] → self.new ≡ record self.old { list = list } }
     {
         self.list.pop();
     }
 
-    /// All data of the command with this tag has come.
+    /// Returns whether all data of the command with this tag has come.
     pub(crate) fn is_whole(&self, tag: u32) -> bool
         ensures { result ≡ whole_at self.now.list (place_with tag self.now.list) }
     {
@@ -155,7 +153,7 @@ impl Transfers {
         }
     }
 
-    /// The data of the command with this tag.
+    /// Returns the data of the command with this tag.
     pub(crate) fn payload(&self, tag: u32) -> Data<'_>
         ensures { result ≡ payload_at self.now.list (place_with tag self.now.list) }
     {
@@ -165,7 +163,7 @@ impl Transfers {
         }
     }
 
-    /// The command with this tag is finished. Its data comes back, with its buffers.
+    /// Finishes the command with this tag. Returns its data, with its buffers.
     pub(crate) fn finish(&mut self, tag: u32) -> Option<Parts>
         ensures { self.new ≡ record self.old { list = removed_at self.old.list (place_with tag self.old.list) } }
     {
@@ -174,14 +172,14 @@ impl Transfers {
         Some(transfer.task.into_payload())
     }
 
-    /// A Task Management Function Request reaches one.
+    /// Returns whether a Task Management Function Request reaches one of the commands.
     pub(crate) fn has_reached(&self, reach: &Reach) -> bool
         ensures { result ≡ reaches_some reach.now self.now.list }
     {
         self.list.iter().any(|transfer| reach.has(&transfer.header))
     }
 
-    /// The commands that a Task Management Function Request reaches are removed.
+    /// Removes the commands that a Task Management Function Request reaches.
     pub(crate) fn remove(&mut self, reach: &Reach)
         ensures { self.new ≡ record self.old { list = transfers_without reach.now self.old.list } }
     {
@@ -196,7 +194,7 @@ impl Transfers {
     }
 }
 
-/// The task of a command whose data is as agreed.
+/// Starts the task of a command whose data is as agreed.
 fn start(alloc: Global, frame: &Frame, values: &Values) -> Result<Task, Memory>
     requires values { AreInRange values.now }
     requires lawful { command_fault values.now frame.now ≡ None }
@@ -209,12 +207,12 @@ fn start(alloc: Global, frame: &Frame, values: &Values) -> Result<Task, Memory>
     match Task::start(alloc, command, values) {
         Ok(task) => Ok(task),
         Err(DataFault::Memory) => Err(Memory),
-        // It is lawful.
+        // The data is as agreed.
         Err(_) => unreachable!(),
     }
 }
 
-/// The data of a lawful Data-Out is taken. Where an allocation fails nothing changes.
+/// Accepts the data of a Data-Out that has no fault. If an allocation fails, nothing changes.
 fn grow(task: &mut Task, frame: Frame) -> Result<(), Memory>
     requires { fault_of task.old frame ≡ None }
     ensures ok { OnOk result (task.new ≡ with_data task.old frame) }
@@ -223,7 +221,7 @@ fn grow(task: &mut Task, frame: Frame) -> Result<(), Memory>
     match task.data_out(frame) {
         Ok(()) => Ok(()),
         Err(DataFault::Memory) => Err(Memory),
-        // It is lawful.
+        // The Data-Out has no fault.
         Err(_) => unreachable!(),
     }
 }

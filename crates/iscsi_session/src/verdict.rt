@@ -1,4 +1,4 @@
-//! What a frame is judged to be.
+//! The verdict on a frame.
 
 use iscsi_pdu::RejectReason;
 
@@ -13,7 +13,7 @@ pub(crate) enum Verdict {
     Rejected(RejectReason),
     /// The connection closes.
     Violating,
-    /// It acts in its turn.
+    /// It is executed in its turn.
     Accepted,
     /// It brings data of a command.
     Feeding,

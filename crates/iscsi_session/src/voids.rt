@@ -1,4 +1,4 @@
-//! What stands in place of SCSI Commands that were removed, and at numbers that were plugged.
+//! Placeholders for SCSI Commands that were removed, and for numbers that were plugged.
 
 ghost use Rattle.std.specs.Prelude.{◌≡◌, ◌≢◌, ℕ, ◌∷◌, [], replicate, option_map};
 ghost use Rattle.slab.specs.Slab.{get};
@@ -12,15 +12,15 @@ use iscsi_pdu::{Frame, HEADER_LENGTH, Header};
 use slab::Slab;
 use std::alloc::Global;
 
-/// An opcode that is none of an initiator's: a SCSI Command that was removed, for immediate delivery or not.
+/// Not an initiator's opcode: it marks a SCSI Command that was removed, for immediate delivery or not.
 const REMOVED: u8 = 0x3f;
 
 const REMOVED_IMMEDIATE: u8 = 0x7f;
 
-/// An opcode that is none of an initiator's: a number that was plugged.
+/// Not an initiator's opcode: it marks a number that was plugged.
 pub(crate) const PLUGGED: u8 = 0x3e;
 
-/// A header with nothing but its first byte.
+/// Returns a header whose bytes are zero, but for the first.
 fn header_with(first: u8) -> Header
     ensures { result ≡ first ∷ replicate 47 0 }
 {
@@ -29,7 +29,7 @@ fn header_with(first: u8) -> Header
     Header::new(bytes)
 }
 
-/// What stands at a number that was plugged. It takes no memory.
+/// Returns the placeholder for a number that was plugged. Allocates no memory.
 pub(crate) fn plug(alloc: Global) -> Frame
     ensures { result ≡ plug_in }
 {
@@ -39,7 +39,7 @@ pub(crate) fn plug(alloc: Global) -> Frame
     }
 }
 
-/// What stands in place of a SCSI Command that was removed. It takes no memory.
+/// Returns the placeholder for a SCSI Command that was removed. Allocates no memory.
 fn void(alloc: Global, header: &Header) -> Frame
     ensures { result ≡ void_of (is_immediate header.now) }
 {
@@ -54,7 +54,7 @@ fn void(alloc: Global, header: &Header) -> Frame
     }
 }
 
-/// The request at a key is voided where the function reaches it.
+/// Voids the request at a key, if the function reaches it.
 fn void_at(alloc: Global, requests: &mut Slab<Frame>, key: usize, reach: &Reach)
     ensures here { get requests.new key ≡ option_map (void_if reach.now) (get requests.old key) }
     ensures others { (other : ℕ) → other ≢ key → get requests.new other ≡ get requests.old other }
@@ -66,7 +66,7 @@ fn void_at(alloc: Global, requests: &mut Slab<Frame>, key: usize, reach: &Reach)
     }
 }
 
-/// The requests at these keys are voided where the function reaches them.
+/// Voids the requests at these keys that the function reaches.
 pub(crate) fn void_line(alloc: Global, requests: &mut Slab<Frame>, keys: &[usize], reach: &Reach)
     ensures { Voids reach.now keys.now requests.old requests.new }
 {
@@ -75,7 +75,7 @@ pub(crate) fn void_line(alloc: Global, requests: &mut Slab<Frame>, keys: &[usize
     }
 }
 
-/// The request that stands at a place of the window is voided where the function reaches it.
+/// Voids the request at a place of the window, if the function reaches it.
 fn void_slot(alloc: Global, requests: &mut Slab<Frame>, key: &Option<usize>, reach: &Reach)
     ensures { Voids reach.now (keys_in (key.now ∷ [])) requests.old requests.new }
 {
@@ -84,7 +84,7 @@ fn void_slot(alloc: Global, requests: &mut Slab<Frame>, key: &Option<usize>, rea
     }
 }
 
-/// The requests that the window holds are voided where the function reaches them.
+/// Voids the requests that the window holds and the function reaches.
 pub(crate) fn void_held(
     alloc: Global,
     requests: &mut Slab<Frame>,
