@@ -8,7 +8,7 @@ use Rattle.iscsi_target.specs.Machine.{LinkState, Machine, link_at, with_link, f
 use Rattle.iscsi_target.specs.declared.phase.Phase.{Phase}
 use Rattle.iscsi_target.specs.declared.phase.Phase.TheVariants.{Free, Login, FullFeature, Closing}
 
--- profile: so many bytes
+-- the most that a connection may make the target hold, in bytes (profile)
 abbrev pub most_weight : ℕ
 most_weight = 67108864
 
@@ -22,28 +22,28 @@ weight_in waiting Closing = waiting
 abbrev pub weight : LinkState → ℕ
 weight link = weight_in (length link.waiting) link.phase
 
--- its session is one between two frames
+-- a connection whose session, if it has one, is between two frames
 abbrev pub Rests : Phase → Type 0
 Rests (FullFeature session) = IsAtRest session
 Rests Free = ⊤
 Rests (Login login) = ⊤
 Rests Closing = ⊤
 
--- so heavy at most
+-- a connection of at most this weight
 pub record WeighsAtMost (most : ℕ) (link : LinkState) : Type 0 where
   pub fits : weight link ≤ most
   pub rests : Rests link.phase
 
--- a connection that is, and keeps no bytes that are whole
+-- a connection that weighs no more than it may, and keeps no whole frame
 pub record IsBounded (link : LinkState) : Type 0 where
   pub weighs : WeighsAtMost most_weight link
   pub partial : arrivals link.half ≡ []
 
--- each connection is
+-- every connection is bounded
 abbrev pub Bounded : Machine → Type 0
 Bounded machine = (c : ℕ) → IsBounded (link_at machine c)
 
--- what so many frames make of a connection: with none it is no heavier
+-- n frames add at most this to a connection; with n = 0 it becomes no heavier
 abbrev pub AddsAtMost : ℕ → LinkState → LinkState → Type 0
 AddsAtMost n old new = Rests old.phase → WeighsAtMost (weight old + n * most_added) new
 

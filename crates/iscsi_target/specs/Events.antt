@@ -1,4 +1,4 @@
--- An event without where its bytes lie in memory.
+-- Events, without the place of their bytes in memory.
 use Rattle.std.specs.Prelude.{List, map}
 use Rattle.iscsi_target.specs.History as history
 use Rattle.iscsi_target.specs.declared.event.Event.{Event}
@@ -12,6 +12,6 @@ event_view (events.Gone c) = history.Gone c
 abbrev pub events_view : List Event → List history.Event
 events_view events = map event_view events
 
--- no allocation failed in any of them
+-- the history of these events in which no allocation failed
 abbrev pub plain_history : List Event → history.History
 plain_history events = map history.plain (events_view events)

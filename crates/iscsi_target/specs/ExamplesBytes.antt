@@ -1,5 +1,5 @@
--- The bytes of the examples: what the initiator `a` sends and what the target `t1` answers, each written
--- by hand from RFC 7143 §11 and SPC-4 §4.5.3. A header is three lines of 16 bytes.
+-- The bytes of the examples: what the initiator `a` sends and what the target `t1` answers. Each is written by hand
+-- from RFC 7143 §11 and SPC-4 §4.5.3. A header is three lines of 16 bytes.
 use Rattle.std.specs.Prelude.{ℕ, List, [], ◌∷◌, ◌++◌, take, drop, map, replicate, Bool, true, false}
 use Rattle.iscsi_pdu.specs.Frames.{frames, rest, has_frame, is_long, first_frame, frame_length}
 use Rattle.iscsi_target.specs.History.{History, arrivals, new_arrivals}
@@ -21,24 +21,24 @@ use Rattle.iscsi_session.specs.Steps.{take_step as session_step, judge, act, ask
 use Rattle.iscsi_target.specs.World.{Setting, present, changed, live, changed_units, close, end, is_marked, take_step, log_in, worked, take_in, orders_in, lose_one, reset, carry_out, settle_one, settle, serve, is_login, arrive, bring, world}
 use Rattle.iscsi_target.specs.Output.{outputs}
 
--- ---- what the target is made with
+-- ---- the configuration of the target
 
 -- a disk of 4096 zero blocks
 abbrev pub zero_disk : DeviceState
 zero_disk = opened (record { blocks = replicate 4096 (replicate 512 0); synced = false; failures = 0; honest = true; steady = true })
 
--- the target `t1` with LUN 0, a disk, and LUN 1, a tape
+-- the target `t1`: LUN 0 is a disk, LUN 1 a tape
 abbrev pub one_target : Setting
 one_target = record {
   directory = record { names = (0x74 ∷ 0x31 ∷ []) ∷ []; portal = [] };
   units = (free_unit 0 [] zero_disk ∷ free_unit 1 [] empty_tape ∷ []) ∷ [];
 }
 
--- whether frames of each life are read, in the order in which they began
+-- for each life, in the order in which they began: whether its frames are read
 abbrev pub are_read : Setting → History → List Bool
 are_read s history = map (λ (life : Life). reads life.phase) (world s history).lives
 
--- what an example unfolds
+-- the definitions that an example unfolds
 unfoldable pub computed : Bool
 unfolding frames rest has_frame is_long first_frame frame_length login_computed arrivals new_arrivals come_out performed_as judged unit_done told
     without_unit lun_number join leave older session_computed data_answers scsi_answer out_of carried_out session_step judge act ask finish act_all ask_due tell tell_due
@@ -64,7 +64,7 @@ login_as name isid tsih =
     ++ 0x49 ∷ 0x6e ∷ 0x69 ∷ 0x74 ∷ 0x69 ∷ 0x61 ∷ 0x74 ∷ 0x6f ∷ 0x72 ∷ 0x4e ∷ 0x61 ∷ 0x6d ∷ 0x65 ∷ 0x3d ∷ name ∷ 0x00 ∷
     0x54 ∷ 0x61 ∷ 0x72 ∷ 0x67 ∷ 0x65 ∷ 0x74 ∷ 0x4e ∷ 0x61 ∷ 0x6d ∷ 0x65 ∷ 0x3d ∷ 0x74 ∷ 0x31 ∷ 0x00 ∷ 0x00 ∷ 0x00 ∷ []
 
--- the initiator `a` for a new session
+-- the initiator `a` asks for a new session
 abbrev pub login_request : List ℕ
 login_request = login_as 0x61 0x01 0x00
 
@@ -155,9 +155,9 @@ second_test = test_unit_ready 0x03 0x7c 0x02
 
 -- ---- SCSI Responses (RFC 7143 §11.4)
 
--- SCSI Response; F; completed at target; CHECK CONDITION; TotalAHSLength; DataSegmentLength 20; reserved.
--- Tag 2; SNACK Tag; StatSN 1; ExpCmdSN 124. MaxCmdSN 155; ExpDataSN; residual counts. Then SenseLength 18 and
--- the sense: fixed format, 06h, 10 bytes behind, 29h/00h: power on.
+-- SCSI Response; F; completed at target; CHECK CONDITION; TotalAHSLength; DataSegmentLength 20; reserved. Tag 2;
+-- SNACK Tag; StatSN 1; ExpCmdSN 124. MaxCmdSN 155; ExpDataSN; residual counts. Then SenseLength 18 and the sense
+-- data: fixed format, 06h, additional sense length 10, 29h/00h: power on.
 abbrev pub attention : List ℕ
 attention =
     0x21 ∷ 0x80 ∷ 0x00 ∷ 0x02 ∷ 0x00 ∷ 0x00 ∷ 0x00 ∷ 0x14 ∷ 0x00 ∷ 0x00 ∷ 0x00 ∷ 0x00 ∷ 0x00 ∷ 0x00 ∷ 0x00 ∷ 0x00 ∷
@@ -173,7 +173,7 @@ ready_answer =
     ++ 0x00 ∷ 0x00 ∷ 0x00 ∷ 0x03 ∷ 0x00 ∷ 0x00 ∷ 0x00 ∷ 0x00 ∷ 0x00 ∷ 0x00 ∷ 0x00 ∷ 0x02 ∷ 0x00 ∷ 0x00 ∷ 0x00 ∷ 0x7d ∷
     0x00 ∷ 0x00 ∷ 0x00 ∷ 0x9c ∷ replicate 12 0x00
 
--- the same as the third answer of a connection: StatSN 2
+-- the same as third answer of a connection: StatSN 2
 abbrev pub attention_third : List ℕ
 attention_third = take 27 attention ++ 0x02 ∷ drop 28 attention
 

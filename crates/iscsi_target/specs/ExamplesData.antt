@@ -1,4 +1,4 @@
--- What reads are answered, computed from the definitions alone.
+-- The answers to reads, computed from the definitions alone.
 use Rattle.std.specs.Prelude.{◌≡◌, ℕ, List, [], ◌∷◌, ◌++◌, replicate, Bool, true, false, None, refl}
 use Rattle.scsi_sense.specs.Done.{good}
 use Rattle.scsi_sense.specs.Done.{good_with}
@@ -19,7 +19,7 @@ command flags high low = record {
   body = [];
 }
 
--- F, R and ATTR simple; and without R
+-- F, R and ATTR simple; the same without R
 abbrev reading : ℕ
 reading = 0xc1
 
@@ -33,7 +33,7 @@ numbers = record { stat_sn = 1; exp_cmd_sn = 124; max_cmd_sn = 155 }
 abbrev values : Values
 values = record default_values { max_recv_data_segment_length = 4096; max_burst_length = 8192 }
 
--- so many zero bytes
+-- n zero bytes
 abbrev zeros : ℕ → List ℕ
 zeros n = replicate n 0
 
@@ -64,7 +64,7 @@ twenty_blocks : command_answers numbers values (command reading 0x28 0x00) (good
 unfolding data_answers scsi_answer
 twenty_blocks = refl
 
--- 2 blocks where 512 bytes are expected, and where 2048 are
+-- 2 blocks, expected length 512; and expected length 2048
 overflow : command_answers numbers values (command reading 0x02 0x00) (good_with (zeros 1024)) ≡ piece true 0 0 512 ∷ response 1 (residuals.Overflow 512) ∷ []
 unfolding data_answers scsi_answer
 overflow = refl
@@ -74,12 +74,12 @@ underflow : command_answers numbers values (command reading 0x08 0x00) (good_wit
 unfolding data_answers scsi_answer
 underflow = refl
 
--- without R nothing is sent of the data, and all of it is over
+-- without R no data is sent, and all of it counts as overflow
 without_r : command_answers numbers values (command not_reading 0x02 0x00) (good_with (zeros 1024)) ≡ response 0 (residuals.Overflow 1024) ∷ []
 unfolding data_answers scsi_answer
 without_r = refl
 
--- where no data is given the expected length counts in any case
+-- if the command gives no data, the residual is the expected length, with or without R
 nothing_given : command_answers numbers values (command not_reading 0x02 0x00) good ≡ response 0 (residuals.Underflow 512) ∷ []
 unfolding data_answers scsi_answer
 nothing_given = refl

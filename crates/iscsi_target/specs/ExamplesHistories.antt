@@ -1,6 +1,7 @@
--- Whole histories with data, computed from the definitions alone, with the expected bytes written by hand from RFC 7143 §11,
--- SPC-4, SBC-3 and SSC-4: a WRITE with unsolicited data and two R2Ts and a READ of it, a record and a filemark, an ABORT TASK of
--- a WRITE that waits for its data, and two sessions of which one resets the unit.
+-- Whole histories with data, computed from the definitions alone. The expected bytes are written by hand from RFC
+-- 7143 §11, SPC-4, SBC-3 and SSC-4. The examples: a WRITE with unsolicited data and two R2Ts and a READ of it; a
+-- record and a filemark; an ABORT TASK of a WRITE that waits for its data; two sessions, one of which resets the
+-- unit.
 use Rattle.std.specs.Prelude.{◌≡◌, ℕ, ◌+◌, List, [], ◌∷◌, ◌++◌, take, drop, map, replicate, Bool, true, false, codes, refl}
 use Rattle.media_block.specs.Blocks.{blocks_of}
 use Rattle.iscsi_transfer.specs.Task.{with_data, with_asked}
@@ -16,7 +17,7 @@ use Rattle.iscsi_target.specs.Output.{outputs, media}
 use Rattle.iscsi_target.specs.World.{Setting}
 use Rattle.iscsi_target.specs.ExamplesBytes.{computed, empty_tape, login_header, login_request, login_as, login_response, logged_in, test_unit_ready, attention}
 
--- what an example unfolds
+-- the definitions that an example unfolds
 unfoldable data_computed : Bool
 unfolding computed blocks_of with_data with_asked ready raised_for_all raised_for_all_at touch_at
 data_computed = true
@@ -25,7 +26,7 @@ data_computed = true
 abbrev small_disk : DeviceState
 small_disk = opened (record { blocks = replicate 4 (replicate 512 0); synced = false; failures = 0; honest = true; steady = true })
 
--- the target `t1` with LUN 0, that disk, and LUN 1, a tape
+-- the target `t1`: LUN 0 is that disk, LUN 1 a tape
 abbrev disk_and_tape : Setting
 disk_and_tape = record {
   directory = record { names = codes "t1" ∷ []; portal = [] };
@@ -38,7 +39,7 @@ disk_and_tape = record {
 abbrev four : (high low : ℕ) → List ℕ
 four high low = 0 ∷ 0 ∷ high ∷ low ∷ []
 
--- one of a byte
+-- a number of four bytes below 256
 abbrev low : ℕ → List ℕ
 low n = four 0 n
 
@@ -46,16 +47,17 @@ low n = four 0 n
 abbrev lun_of : ℕ → List ℕ
 lun_of n = 0 ∷ n ∷ replicate 6 0
 
--- opcode, byte 1, bytes 2 and 3, and the length of the data segment
+-- opcode, byte 1, bytes 2 and 3, and the two low bytes of DataSegmentLength
 abbrev first_bytes : (opcode flags second third high length : ℕ) → List ℕ
 first_bytes opcode flags second third high length = opcode ∷ flags ∷ second ∷ third ∷ 0 ∷ 0 ∷ high ∷ length ∷ []
 
--- SCSI Command without data: byte 1; LUN; tag; Expected Data Transfer Length; CmdSN; ExpStatSN 1; a CDB of up to ten bytes
+-- SCSI Command without data: byte 1; LUN; tag; Expected Data Transfer Length; CmdSN; ExpStatSN 1; a CDB of up to ten
+-- bytes
 abbrev scsi_command : (flags lun tag high length cmd_sn : ℕ) → List ℕ → List ℕ
 scsi_command flags lun tag high length cmd_sn cdb =
     first_bytes 0x01 flags 0 0 0 0 ++ lun_of lun ++ low tag ++ four high length ++ low cmd_sn ++ low 1 ++ take 16 (cdb ++ replicate 16 0)
 
--- with so many bytes of data
+-- the header with a data segment of this length, below 256
 abbrev with_data_length : ℕ → List ℕ → List ℕ
 with_data_length length header = take 7 header ++ length ∷ drop 8 header
 
@@ -77,13 +79,14 @@ abbrev data_out : (tag : ℕ) (transfer_tag : List ℕ) (offset : ℕ) → List 
 data_out tag transfer_tag offset body =
     first_bytes 0x05 0x80 0 0 2 0 ++ lun_of 0 ++ low tag ++ transfer_tag ++ low 0 ++ low 1 ++ low 0 ++ low 0 ++ four offset 0 ++ low 0 ++ body
 
--- R2T of 512 bytes for tag 3 of LUN 0: Target Transfer Tag and R2TSN; StatSN 2, ExpCmdSN 125, MaxCmdSN 155; Buffer Offset
+-- R2T of 512 bytes for tag 3 of LUN 0: Target Transfer Tag and R2TSN; StatSN 2, ExpCmdSN 125, MaxCmdSN 155; Buffer
+-- Offset
 abbrev r2t : (number offset : ℕ) → List ℕ
 r2t number offset =
     first_bytes 0x31 0x80 0 0 0 0 ++ lun_of 0 ++ low 3 ++ low number ++ low 2 ++ low 0x7d ++ low 0x9b ++ low number ++ four offset 0 ++ four 2 0
 
--- SCSI Data-In with F: the length of its data; tag; no Target Transfer Tag; StatSN reserved; ExpCmdSN, MaxCmdSN; DataSN; Buffer
--- Offset; no residual
+-- SCSI Data-In with F: the length of its data; tag; no Target Transfer Tag; StatSN reserved; ExpCmdSN, MaxCmdSN;
+-- DataSN; Buffer Offset; no residual
 abbrev data_in : (high length tag exp_cmd_sn max_cmd_sn data_sn offset : ℕ) → List ℕ → List ℕ
 data_in high length tag exp_cmd_sn max_cmd_sn data_sn offset body =
     first_bytes 0x25 0x80 0 0 high length ++ lun_of 0 ++ low tag ++ replicate 4 0xff ++ low 0 ++ low exp_cmd_sn ++ low max_cmd_sn ++ low data_sn
@@ -99,14 +102,14 @@ good_response tag stat_sn exp_cmd_sn max_cmd_sn exp_data_sn =
 abbrev test_of_tape : (tag cmd_sn exp_stat_sn : ℕ) → List ℕ
 test_of_tape tag cmd_sn exp_stat_sn = take 8 (test_unit_ready tag cmd_sn exp_stat_sn) ++ lun_of 1 ++ drop 16 (test_unit_ready tag cmd_sn exp_stat_sn)
 
--- what the units keep of their media
+-- the media of the units
 abbrev kept_media : History → List MediumState
 kept_media history = map (λ (kept : KeptState). kept.medium) (media disk_and_tape history 0)
 
 abbrev blank_tape : MediumState
 blank_tape = TapeMedium [] [] true 0
 
--- tag 2, CmdSN 123: it is answered the power-on attention
+-- tag 2, CmdSN 123: the answer is the unit attention of power on
 abbrev first_of_disk : List ℕ
 first_of_disk = test_unit_ready 2 0x7b 1
 
@@ -115,7 +118,7 @@ first_of_tape = test_of_tape 2 0x7b 1
 
 -- ---- a WRITE (10) of three blocks, and a READ (10) of them
 
--- The initiator `a` offers InitialR2T=No and bursts of 512 bytes: 54h bytes of text, which the target takes in 6Dh bytes.
+-- The initiator `a` offers InitialR2T=No and bursts of 512 bytes: 54h bytes of text; the target's answer has 6Dh.
 abbrev offers : List ℕ
 offers = codes "InitialR2T=No" ++ 0 ∷ codes "MaxBurstLength=512" ++ 0 ∷ codes "FirstBurstLength=512" ++ 0 ∷ []
 
@@ -126,7 +129,7 @@ abbrev logged_in_for_bursts : List ℕ
 logged_in_for_bursts = with_data_length 0x6d (take 48 logged_in)
     ++ codes "TargetPortalGroupTag=1" ++ 0 ∷ offers ++ codes "MaxRecvDataSegmentLength=262144" ++ 0 ∷ 0 ∷ 0 ∷ 0 ∷ []
 
--- 512 times a byte
+-- a block filled with one byte
 abbrev block_of : ℕ → List ℕ
 block_of byte = replicate 512 byte
 
@@ -137,7 +140,7 @@ write_10 = 0x2a ∷ 0 ∷ 0 ∷ 0 ∷ 0 ∷ 1 ∷ 0 ∷ 0 ∷ 3 ∷ 0 ∷ []
 abbrev read_10 : List ℕ
 read_10 = 0x28 ∷ 0 ∷ 0 ∷ 0 ∷ 0 ∷ 1 ∷ 0 ∷ 0 ∷ 3 ∷ 0 ∷ []
 
--- the first block comes unasked, the others for an R2T each; what is read has a burst for each block
+-- the first block comes unsolicited, each of the others after an R2T; the READ returns a burst for each block
 abbrev written_and_read : History
 written_and_read =
     plain (Open 0) ∷ plain (Bytes 0 (login_for_bursts ++ first_of_disk)) ∷ plain (Bytes 0 (scsi_command writes_and_goes_on 0 3 6 0 0x7c write_10)) ∷
@@ -154,12 +157,12 @@ each_block_is_kept : kept_media written_and_read ≡ DiskMedium (block_of 0 ∷ 
 unfolding data_computed
 each_block_is_kept = refl
 
--- before the last of its data has come nothing is written
+-- nothing is written before the last of the data has come
 nothing_is_written_yet : kept_media (take 5 written_and_read) ≡ DiskMedium (replicate 4 (block_of 0)) false ∷ blank_tape ∷ []
 unfolding data_computed
 nothing_is_written_yet = refl
 
--- The same where MaxOutstandingR2T is 4: 68h bytes of text, which the target takes in 81h bytes.
+-- The same with MaxOutstandingR2T 4: 68h bytes of text; the target's answer has 81h.
 abbrev offers_of_four : List ℕ
 offers_of_four = offers ++ codes "MaxOutstandingR2T=4" ++ 0 ∷ []
 
@@ -173,7 +176,7 @@ logged_in_for_four = with_data_length 0x81 (take 48 logged_in)
 abbrev written_at_once : History
 written_at_once = plain (Open 0) ∷ plain (Bytes 0 (login_for_four ++ first_of_disk)) ∷ drop 2 written_and_read
 
--- both R2Ts come as the unsolicited data ends, and what is written is the same
+-- both R2Ts are sent as the unsolicited data ends, and the same is written
 both_are_asked_at_once : outputs disk_and_tape (take 4 written_at_once) ≡ (logged_in_for_four ++ attention ++ r2t 0 2 ++ r2t 1 4) ∷ []
 unfolding data_computed
 both_are_asked_at_once = refl
@@ -196,8 +199,9 @@ record_and_filemark =
     plain (Bytes 0 (scsi_command reads 1 6 0 3 0x7f (0x08 ∷ 0 ∷ 0 ∷ 0 ∷ 3 ∷ 0 ∷ []))) ∷
     plain (Bytes 0 (scsi_command reads 1 7 0 3 0x80 (0x08 ∷ 0 ∷ 0 ∷ 0 ∷ 3 ∷ 0 ∷ []))) ∷ []
 
--- SCSI Response with U and CHECK CONDITION: tag 7; StatSN 6, ExpCmdSN 129, MaxCmdSN 160; residual 3. Then SenseLength 18 and the
--- sense: fixed format with valid information, FILEMARK, 3 bytes not read, 10 bytes behind, 00h/01h: filemark detected.
+-- SCSI Response with U and CHECK CONDITION: tag 7; StatSN 6, ExpCmdSN 129, MaxCmdSN 160; residual 3. Then SenseLength
+-- 18 and the sense data: fixed format with valid information, FILEMARK, 3 bytes not read, additional sense length 10,
+-- 00h/01h: filemark detected.
 abbrev at_the_filemark : List ℕ
 at_the_filemark =
     first_bytes 0x21 0x82 0 0x02 0 0x14 ++ replicate 8 0 ++ low 7 ++ low 0 ++ low 6 ++ low 0x81 ++ low 0xa0 ++ low 0 ++ low 0 ++ low 3
@@ -216,7 +220,8 @@ both_are_kept = refl
 
 -- ---- an ABORT TASK of a WRITE that waits for its data
 
--- Task Management Function Request for immediate delivery: function; LUN 0; tag; Referenced Task Tag; CmdSN; ExpStatSN; RefCmdSN
+-- Task Management Function Request for immediate delivery: function; LUN 0; tag; Referenced Task Tag; CmdSN;
+-- ExpStatSN; RefCmdSN
 abbrev function_request : (function tag task cmd_sn ref_cmd_sn : ℕ) → List ℕ
 function_request function tag task cmd_sn ref_cmd_sn =
     first_bytes 0x42 (0x80 + function) 0 0 0 0 ++ lun_of 0 ++ low tag ++ low task ++ low cmd_sn ++ low 1 ++ low ref_cmd_sn ++ replicate 12 0
@@ -230,7 +235,7 @@ function_complete tag stat_sn exp_cmd_sn max_cmd_sn =
 abbrev write_one : List ℕ
 write_one = 0x2a ∷ 0 ∷ 0 ∷ 0 ∷ 0 ∷ 1 ∷ 0 ∷ 0 ∷ 1 ∷ 0 ∷ []
 
--- it is asked for its data, aborted, and then its data comes
+-- an R2T asks for its data, it is aborted, and then its data comes
 abbrev aborted : History
 aborted =
     plain (Open 0) ∷ plain (Bytes 0 (login_request ++ first_of_disk)) ∷ plain (Bytes 0 (scsi_command writes 0 3 2 0 0x7c write_one)) ∷
@@ -246,14 +251,16 @@ it_writes_nothing : kept_media aborted ≡ DiskMedium (replicate 4 (block_of 0))
 unfolding data_computed
 it_writes_nothing = refl
 
--- ---- two sessions, of which one resets the unit
+-- ---- two sessions, one of which resets the unit
 
--- SCSI Response with CHECK CONDITION: tag; StatSN, ExpCmdSN, MaxCmdSN; the sense 06h, 29h/03h: bus device reset function occurred
+-- SCSI Response with CHECK CONDITION: tag; StatSN, ExpCmdSN, MaxCmdSN; sense data 06h, 29h/03h: bus device reset
+-- function occurred
 abbrev reset_occurred : (tag stat_sn exp_cmd_sn max_cmd_sn : ℕ) → List ℕ
 reset_occurred tag stat_sn exp_cmd_sn max_cmd_sn =
     take 16 attention ++ low tag ++ low 0 ++ low stat_sn ++ low exp_cmd_sn ++ low max_cmd_sn ++ take 27 (drop 36 attention) ++ 0x03 ∷ replicate 4 0
 
--- The WRITE of `b` waits for its data; `a` resets LUN 0. What `b` sends then is dropped, and each is told of the reset once.
+-- The WRITE of `b` waits for its data; `a` resets LUN 0. The data that `b` sends then is dropped, and each initiator
+-- gets the unit attention of the reset once.
 abbrev reset_by_another : History
 reset_by_another =
     plain (Open 0) ∷ plain (Open 1) ∷ plain (Bytes 0 (login_request ++ first_of_disk)) ∷ plain (Bytes 1 (login_as 0x62 0x01 0x00 ++ first_of_disk)) ∷

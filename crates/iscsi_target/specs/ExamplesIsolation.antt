@@ -45,7 +45,7 @@ alone : outputs two_targets (map plain one_customer) ≡ answered_alone
 unfolding computed
 alone = refl
 
--- life 1 is answered besides, and changes none of the other answers
+-- life 1 has an answer too, and changes none of the other answers
 beside_the_other : kept (λ k. not (k == 1)) (outputs two_targets (map plain two_customers)) ≡ answered_alone
 unfolding computed
 beside_the_other = refl

@@ -19,7 +19,7 @@ in_two_pieces : outputs one_target (plain (Open 0) ∷ plain (Bytes 0 (login_req
 unfolding computed
 in_two_pieces = refl
 
--- the second command comes first: it waits for the number before its own
+-- the second command comes first: it waits for the CmdSN before its own
 out_of_order : outputs one_target (plain (Open 0) ∷ plain (Bytes 0 (login_request ++ second_test ++ first_test)) ∷ [])
     ≡ (logged_in ++ attention_late ++ ready_answer) ∷ []
 unfolding computed
@@ -35,7 +35,8 @@ in_two_requests : outputs one_target (plain (Open 0) ∷ plain (Bytes 0 first_re
 unfolding computed
 in_two_requests = refl
 
--- a Login request in full feature phase closes the connection, and the power on is told again in the next life
+-- a Login request in full feature phase closes the connection; the next life gets the unit attention of power on
+-- again
 abbrev after_a_violation : History
 after_a_violation =
     plain (Open 0) ∷ plain (Bytes 0 (login_request ++ first_test ++ login_request ++ second_test)) ∷ plain (Gone 0) ∷
@@ -70,13 +71,13 @@ the_newer_is_read : are_read one_target again ≡ false ∷ true ∷ []
 unfolding computed
 the_newer_is_read = refl
 
--- with another ISID both go on
+-- with another ISID both sessions go on
 another_isid : are_read one_target (plain (Open 0) ∷ plain (Bytes 0 login_request) ∷ plain (Open 1) ∷ plain
     (Bytes 1 (login_as 0x61 0x02 0x00)) ∷ []) ≡ true ∷ true ∷ []
 unfolding computed
 another_isid = refl
 
--- TSIH 1 is that of the live session, and 9 is that of none
+-- TSIH 1 is that of the live session; no session has TSIH 9
 abbrev joining : ℕ → History
 joining tsih = plain (Open 0) ∷ plain (Bytes 0 login_request) ∷ plain (Open 1) ∷ plain (Bytes 1 (login_as 0x61 0x01 tsih)) ∷ []
 
@@ -88,7 +89,7 @@ session_does_not_exist : outputs one_target (joining 0x09) ≡ logged_in ∷ ref
 unfolding computed
 session_does_not_exist = refl
 
--- ---- an allocation fails on connection 0, in the event that brings its first command, the frame of place 1
+-- ---- an allocation fails on connection 0, in the event of its first command, the frame of place 1
 
 abbrev failed_at : Point → History
 failed_at point =
@@ -114,29 +115,29 @@ before_it_is_done : outputs one_target (failed_at (Before (Doing 1 0))) ≡ unan
 unfolding computed
 before_it_is_done = refl
 
--- the frame sets off one command, so a mark at a second one names no step
+-- the frame sets off one command, so a mark before a second one names no step
 before_a_second_is_done : outputs one_target (failed_at (Before (Doing 1 1))) ≡ (logged_in ++ attention) ∷ (login_response 0x01 0x02 ++ attention) ∷ []
 unfolding computed
 before_a_second_is_done = refl
 
--- an allocation fails before the second of two commands is done that the frame of place 2 lets be taken
+-- the frame of place 2 lets two commands be taken; an allocation fails before the second is done
 before_the_held_one_is_done : outputs one_target (plain (Open 0) ∷ plain (Bytes 0 (login_request ++ second_test)) ∷ marked
     (record { connection = 0; point = Before (Doing 2 1) } ∷ []) (Bytes 0 first_test) ∷ []) ≡ (logged_in ++ attention_late) ∷ []
 unfolding computed
 before_the_held_one_is_done = refl
 
--- an allocation fails before the second of two Login requests is answered: it closes the connection
+-- an allocation fails before the second Login request is answered: the connection closes
 before_it_is_answered : outputs one_target (plain (Open 0) ∷ plain (Bytes 0 first_request) ∷ marked
     (record { connection = 0; point = Arriving 1 } ∷ []) (Bytes 0 (second_request ++ first_test)) ∷ []) ≡ first_answer ∷ []
 unfolding computed
 before_it_is_answered = refl
 
--- that connection alone is closed
+-- only that connection is closed
 it_is_closed : are_read one_target (failed_at (Before (Doing 1 0))) ≡ false ∷ true ∷ []
 unfolding computed
 it_is_closed = refl
 
--- at the event's end it has been answered
+-- a failure at the event's end comes after the answer
 at_the_end : outputs one_target (failed_at AtEnd) ≡ (logged_in ++ attention) ∷ (login_response 0x01 0x02 ++ attention) ∷ []
 unfolding computed
 at_the_end = refl

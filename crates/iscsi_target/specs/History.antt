@@ -1,4 +1,4 @@
--- What happens to the target: connections open, bring bytes and end, one event after the other.
+-- What happens to the target: connections open, bring bytes and end, one event at a time.
 use Rattle.std.specs.Prelude.{◌≡◌, false, ℕ, List, [], ◌∷◌, ◌++◌, length, drop, map, filter, Bool, true, ◌&&◌, not, ◌==◌, nat_lt, if◌then◌else◌}
 use Rattle.std.specs.List.{list_any, enumerate_from}
 use Rattle.iscsi_pdu.specs.Frames.{Frame, frames, rest, is_long}
@@ -11,8 +11,8 @@ pub data Event : Type 0 where
   Bytes : (connection : ℕ) (piece : List ℕ) → Event
   Gone : (connection : ℕ) → Event
 
--- Where in an event an allocation can fail: as the frame of a place, among those of its connection, becomes whole; before
--- a step of a session that it sets off; or at the event's end.
+-- Where in an event an allocation can fail: as the frame of a place, among those of its connection, becomes whole;
+-- before a step of a session that the frame sets off; or at the event's end.
 pub data Point : Type 0 where
   Arriving : (place : ℕ) → Point
   Before : (step : Step) → Point
@@ -29,13 +29,13 @@ is_point AtEnd (Arriving q) = false
 is_point AtEnd (Before b) = false
 is_point AtEnd AtEnd = true
 
--- the point is of the frame of this place
+-- the point belongs to the frame of this place
 abbrev pub is_within : ℕ → Point → Bool
 is_within place (Arriving p) = p == place
 is_within place (Before step) = is_of place step
 is_within place AtEnd = false
 
--- a point of a connection; in a history: there an allocation failed, and the connection is closed as by a violation
+-- a point of a connection; in a history: an allocation failed there, and the connection is closed as by a violation
 pub record Mark : Type 0 where
   pub connection : ℕ
   pub point : Point
@@ -43,8 +43,8 @@ pub record Mark : Type 0 where
 abbrev pub is_same : Mark → Mark → Bool
 is_same a b = a.connection == b.connection && is_point a.point b.point
 
--- An event, where allocations failed in it, and how the commands came out that were done in it, one after the other: one
--- behind these came out as defined.
+-- An event, the points at which allocations failed in it, and how its commands came out, in order. A command after
+-- the last of these came out as defined.
 pub record Happening : Type 0 where
   pub event : Event
   pub marks : List Mark
@@ -60,7 +60,7 @@ happening marks comings event = record { event = event; marks = marks; comings =
 abbrev pub marked : List Mark → Event → Happening
 marked marks event = happening marks [] event
 
--- no allocation failed, and no store
+-- no allocation and no store failed
 abbrev pub plain : Event → Happening
 plain event = marked [] event
 
@@ -75,7 +75,7 @@ open_after before (Open c) = c ∷ before
 open_after before (Bytes c piece) = before
 open_after before (Gone c) = filter (λ d. not (d == c)) before
 
--- a connection opens under a free number, and brings bytes and ends where it is open
+-- a connection opens under a free number; only an open one brings bytes or ends
 abbrev pub may_come : List ℕ → Event → Bool
 may_come before (Open c) = nat_lt c connection_limit && not (is_among c before)
 may_come before (Bytes c piece) = is_among c before
@@ -95,17 +95,16 @@ pub data Arrival : Type 0 where
   Whole : (frame : Frame) → Arrival
   TooLong : Arrival
 
--- what a connection's bytes are: their frames, and then TooLong where their rest is long
+-- what a connection's bytes contain: their frames, and then TooLong if their rest is long
 unfoldable pub arrivals : List ℕ → List Arrival
 arrivals bytes = map Whole (frames bytes) ++ (if is_long (rest bytes) then TooLong ∷ [] else [])
 
--- those that a further piece brings, each with its place
+-- the arrivals that a further piece brings, each with its place
 unfoldable pub new_arrivals : List ℕ → List ℕ → List (ℕ × Arrival)
 new_arrivals bytes piece = drop (length (arrivals bytes)) (enumerate_from 0 (arrivals (bytes ++ piece)))
 
--- However the bytes are cut into pieces, what becomes whole is what the joined bytes hold: while no
--- header that is too long has come, the arrivals of both pieces are those of the first and those that
--- the second brings.
+-- However the bytes are cut into pieces, the arrivals are those of the joined bytes. While no header that is too long
+-- has come, the arrivals of both pieces are those of the first, then those that the second brings.
 abbrev pub ArrivalsInPieces : Type 0
 ArrivalsInPieces = (bytes piece : List ℕ) → is_long (rest bytes) ≡ false → arrivals (bytes ++ piece) ≡ arrivals bytes
     ++ map (λ a. a.1) (new_arrivals bytes piece)

@@ -14,7 +14,7 @@ use Rattle.iscsi_target.specs.Stands.{Stands}
 
 -- ---- some of the lives
 
--- those that are kept, by their number; the first has the number n
+-- the elements whose numbers are kept; the first has the number n
 abbrev pub kept_from : {X : Type 0} → (ℕ → Bool) → ℕ → List X → List X
 kept_from keeps n [] = []
 kept_from keeps n (x ∷ xs) = if keeps n then x ∷ kept_from keeps (suc n) xs else kept_from keeps (suc n) xs
@@ -27,7 +27,8 @@ connection_of (Open c) = c
 connection_of (Bytes c piece) = c
 connection_of (Gone c) = c
 
--- Lives are numbered in the order in which they begin. The number of the next life, and of the last life of each connection.
+-- Lives are numbered in the order in which they begin. These are the number of the next life, and of the last life of
+-- each connection.
 abbrev pub next_after : ℕ → Event → ℕ
 next_after next (Open c) = suc next
 next_after next (Bytes c piece) = next
@@ -52,11 +53,12 @@ only keeps events = only_from keeps 0 (λ c. 0) events
 
 -- ---- which lives belong to a target
 
--- the target that a life's first whole login text asks for in a Normal session, where it is one of these
+-- the target that a life's first whole login text asks for in a Normal session, if it is one of these
 unfoldable pub named_in : KnownTargets → Life → Option ℕ
 named_in directory life = option_and_then (λ session. session.target) (remembered directory (life.connection + 1) life.requests).session
 
--- Of the lives that name one of the targets those are kept that name this one; of the others any.
+-- A choice of lives: of those that name one of the targets, exactly those that name this one are kept. Any others may
+-- be kept.
 abbrev pub Selects : KnownTargets → ℕ → (ℕ → Bool) → List Life → Type 0
 Selects directory target keeps lives = (k : ℕ) (life : Life) (named : ℕ) → slice_get lives k ≡ Some life → named_in directory life ≡ Some named
     → keeps k ≡ (named == target)
@@ -83,17 +85,17 @@ abbrev pub AreCalm : ℕ → History → Type 0
 AreCalm target [] = ⊤
 AreCalm target (x ∷ history) = IsCalm target x.comings × AreCalm target history
 
--- The lives that are kept, their answers and a target's units are after this history what they are after the kept lives' events
--- alone, with no store that failed.
+-- After this history the kept lives, their answers and a target's units are those of a smaller history. It has the
+-- events of the kept lives alone, and no store failed in it.
 pub record IsAlone (s : Setting) (target : ℕ) (keeps : ℕ → Bool) (history : History) : Type 0 where
   pub lives : kept keeps (world s history).lives ≡ (plain_world s (only keeps (events_of history))).lives
   pub units : units_at (Some target) (world s history).units ≡ units_at (Some target) (plain_world s (only keeps (events_of history))).units
   pub answers : kept keeps (outputs s history) ≡ outputs s (map plain (only keeps (events_of history)))
   pub media : media s history target ≡ media s (map plain (only keeps (events_of history))) target
 
--- Whatever others log in, break, reset or reserve elsewhere, and whatever the stores of others do: dropping lives changes nothing
--- for a target of which no store failed and for the lives that are kept, if each life that names it is kept and none that names
--- another one.
+-- Dropping lives changes nothing for the kept lives and for a target of which no store failed. The condition: each
+-- life that names the target is kept, and none that names another one. It does not matter what others log in, break,
+-- reset or reserve elsewhere, nor what the stores of others do.
 abbrev pub TargetsAreIsolated : Type 0
 TargetsAreIsolated = (s : Setting) (target : ℕ) (keeps : ℕ → Bool) (history : History) → well_formed (events_of history) ≡ true
     → AreUnmarked history → AreCalm target history → Selects s.directory target keeps (world s history).lives → IsAlone s target keeps history
@@ -111,16 +113,16 @@ StrangersAreAlone = (s : Setting) (history : History) (k : ℕ) (life : Life) �
 
 -- ---- one event
 
--- the number of the last life of each connection behind these events
+-- the number of the last life of each connection after these events
 abbrev pub last_among : ℕ → (ℕ → ℕ) → List Event → ℕ → ℕ
 last_among next last [] = last
 last_among next last (event ∷ events) = last_among (next_after next event) (last_after next last event) events
 
--- the number of an event's life, where these events came before it
+-- the number of an event's life, if these events came before it
 abbrev pub life_of : List Event → Event → ℕ
 life_of events event = last_after (fold next_after 0 events) (last_among 0 (λ c. 0) events) event (connection_of event)
 
--- One more event of a history, in which no allocation failed and no store of this target, and some of the lives: each that names
+-- One more event of a history in which no allocation and no store of this target failed. Of its lives each that names
 -- the target is kept, and none that names another one.
 pub record Watches (s : Setting) (target : ℕ) (keeps : ℕ → Bool) (history : History) (comings : List Coming) (event : Event) : Type 0 where
   pub formed : well_formed (events_of history ++ event ∷ []) ≡ true
@@ -133,9 +135,10 @@ pub record AreAlike (target : ℕ) (keeps others : ℕ → Bool) (one other : Wo
   pub lives : kept keeps one.lives ≡ kept others other.lives
   pub units : units_at (Some target) one.units ≡ units_at (Some target) other.units
 
--- What an event does to its own life and to a target is a function of the target's part, of the life and of the event: two histories
--- that agree on this agree on it behind the event, be it of a login, of a discovery session or of a session with the target (own).
--- Of the event of a life that is not kept nothing is seen there (other).
+-- The effect of an event on its own life and on a target depends only on the target's part, the life and the event.
+-- Two histories that agree on this before the event agree on it after the event. The event may be of a login, of a
+-- discovery session or of a session with the target (own). An event of a life that is not kept has no effect there
+-- (other).
 pub record EventsAreLocal : Type 0 where
   pub own : (s : Setting) (target : ℕ) (keeps others : ℕ → Bool) (h g : History) (came came_there : List Coming) (event : Event)
       → Watches s target keeps h came event → Watches s target others g came_there event
@@ -146,11 +149,11 @@ pub record EventsAreLocal : Type 0 where
       → Watches s target keeps h came event → keeps (life_of (events_of h) event) ≡ false
       → AreAlike target keeps keeps (world s h) (world s (h ++ happening [] came event ∷ []))
 
--- ---- what a run gives
+-- ---- the result of a run
 
--- What was answered, one text for each life, and the target behind it, are those of a history of these events in which no
--- allocation failed. Of it the answers of the lives that name this target, and what its units keep, are what their own events
--- alone give; so is what each life is answered that names no target.
+-- The answers, one text for each life, and the target after the run are those of a history of these events. No
+-- allocation failed in it. The answers of the lives that name this target, and what its units keep, are those of
+-- their own events alone. The same holds of the answer of each life that names no target.
 pub record GivesItsOwn (s : Setting) (target : ℕ) (events : List Event) (answered : List (List ℕ)) (machine : Machine) : Type 0 where
   pub history : History
   pub of : events_of history ≡ events

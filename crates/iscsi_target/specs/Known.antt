@@ -1,4 +1,4 @@
--- The targets that a target is made with, and their portal.
+-- The targets and the portal of a configuration.
 use Rattle.std.specs.Prelude.{map, string_bytes}
 use Rattle.iscsi_login.specs.Directory.{KnownTargets}
 use Rattle.iscsi_target.specs.declared.config.Config.{Config}

@@ -1,4 +1,4 @@
--- What holds of the World, whatever its past.
+-- Laws of the World, for every history.
 use Rattle.std.specs.Prelude.{◌≡◌, ◌≢◌, ◌⊎◌, ℕ, ◌+◌, ◌<◌, List, [], ◌∷◌, ◌++◌, Bool, true, not, ◌==◌, Option, Some, None, ⊤}
 use Rattle.std.specs.List.{AllByRecursion, list_all}
 use Rattle.iscsi_pdu.specs.Frames.{Frame}
@@ -16,7 +16,7 @@ use Rattle.iscsi_target.specs.Life.{Life, LoggingIn, is_over, out_of}
 use Rattle.iscsi_target.specs.World.{Setting, World, present, past_of, reads_life, live, requests_of, lookup_for, close, world}
 use Rattle.iscsi_target.specs.Machine.{Machine, IsSound, IsSure}
 
--- a life before and after bytes came, on any connection: it was answered more, unless it was over
+-- a life before and after bytes came on any connection: it may have more answers, unless it was over
 pub record GoesOn (before after : Life) : Type 0 where
   pub connection : after.connection ≡ before.connection
   pub over : is_over after.phase ≡ is_over before.phase
@@ -28,8 +28,8 @@ LivesGoOn [] [] = ⊤
 LivesGoOn (x ∷ xs) (y ∷ ys) = GoesOn x y × LivesGoOn xs ys
 LivesGoOn _ _ = ⊥
 
--- What was answered stays answered: bytes begin and end no life, and each goes on from what it was, also
--- where allocations failed, and however the commands came out.
+-- What was answered stays answered, also if allocations failed, and however the commands came out. Bytes begin and
+-- end no life, and each life goes on from what it was.
 abbrev pub AnswersStay : Type 0
 AnswersStay = (s : Setting) (h : History) (marks : List Mark) (comings : List Coming) (c : ℕ) (piece : List ℕ)
     → LivesGoOn (world s h).lives (world s (h ++ happening marks comings (Bytes c piece) ∷ [])).lives
@@ -40,7 +40,7 @@ SureIsSound = (machine : Machine) → IsSure machine → IsSound machine
 
 -- ---- sessions
 
--- what comes are bytes
+-- the piece of an event consists of bytes
 abbrev pub HasBytes : Event → Type 0
 HasBytes (Open c) = ⊤
 HasBytes (Bytes c piece) = AllByRecursion (λ byte. byte < 256) piece
@@ -51,14 +51,14 @@ abbrev pub FinishesAsTaken : Option Past → Type 0
 FinishesAsTaken None = ⊤
 FinishesAsTaken (Some past) = AreDistinct (taken past.came) × FinishedInOrder past
 
--- Whatever has happened, and wherever allocations failed: in each session that goes on, what is finished was taken, each
--- request at most once, and in the order in which they were taken.
+-- In each session that goes on, what is finished was taken: each request at most once, and in the order in which they
+-- were taken. This holds of every history, wherever allocations failed.
 abbrev pub SessionsFinishAsTaken : Type 0
 SessionsFinishAsTaken = (s : Setting) (h : History) (c : ℕ) → AllByRecursion (λ happening. HasBytes happening.event) h
     → FinishesAsTaken (past_of (present c (world s h)))
 
--- The end of a session (after a violation, a step that failed, a Logout) and a Gone change no answer and no session of
--- another connection.
+-- The end of a session and a Gone change no answer and no session of another connection. A session ends after a
+-- violation, a step that failed or a Logout.
 pub record OthersStay : Type 0 where
   pub closed : (c d : ℕ) (w : World) → d ≢ c → present d (close c w) ≡ present d w
   pub gone : (s : Setting) (h : History) (marks : List Mark) (c d : ℕ) → d ≢ c → present d (world s (h ++ marked marks (Gone c) ∷ [])) ≡ present d (world s h)
@@ -69,8 +69,8 @@ pub record OthersStay : Type 0 where
 abbrev pub LogsIn : ℕ → World → Type 0
 LogsIn c w = (life : Life) → present c w ≡ Some life → life.phase ≡ LoggingIn
 
--- In an event connection c logs in: its last Login request begins a session, for which the older one of the same nexus with the same
--- target, that of connection d, ends (RFC 7143 §6.3.5).
+-- In an event connection c logs in, and its last Login request begins a session. The older session of the same nexus
+-- with the same target, that of connection d, ends (RFC 7143 §6.3.5).
 pub record Reinstates (s : Setting) (c d : ℕ) (before after : World) : Type 0 where
   pub logs_in : LogsIn c before
   pub earlier : List Frame
@@ -85,8 +85,9 @@ pub record Reinstates (s : Setting) (c d : ℕ) (before after : World) : Type 0 
 abbrev pub are_elsewhere : ℕ → List Mark → Bool
 are_elsewhere d marks = list_all (λ mark. not (mark.connection == d)) marks
 
--- Bytes end no session but that of their own connection: whatever they are, and whatever is done in their event, each other connection
--- that was read goes on being read, but where an allocation failed for it, or its session is reinstated.
+-- Bytes end no session but that of their own connection, whatever they are and whatever their event does. Each other
+-- connection that was read goes on being read. The exceptions: an allocation failed for it, or its session is
+-- reinstated.
 abbrev pub OthersGoOn : Type 0
 OthersGoOn = (s : Setting) (h : History) (marks : List Mark) (comings : List Coming) (c d : ℕ) (piece : List ℕ) → d ≢ c
     → are_elsewhere d marks ≡ true → reads_life (present d (world s h)) ≡ true

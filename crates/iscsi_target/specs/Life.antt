@@ -1,5 +1,4 @@
--- A connection from an Open to its Gone: plain lists of what came and what was answered, and what is
--- read from them.
+-- A connection from its Open to its Gone: plain lists of what came and what was answered, and what is read from them.
 use Rattle.std.specs.Prelude.{ℕ, List, [], ◌++◌, flat_map, Bool, true, false, Option, Some, None}
 use Rattle.iscsi_pdu.specs.Frames.{Frame}
 use Rattle.iscsi_pdu.specs.Answer.{spelling}
@@ -7,24 +6,24 @@ use Rattle.iscsi_pdu.specs.declared.answer.Answer.{Answer}
 use Rattle.iscsi_login.specs.declared.params.Params.{Params}
 use Rattle.iscsi_session.specs.Requests.{Past}
 
--- where a connection is (RFC 7143 §4.2.4 to §4.2.6)
+-- the phase of a connection (RFC 7143 §4.2.4 to §4.2.6)
 pub data Phase : Type 0 where
   LoggingIn : Phase
-  -- what has come of its session's requests, and what they were answered
+  -- the requests of its session that have come, and their answers
   FullFeature : (session : Past) → Phase
-  -- its frames are not read any more, and its session has ended
+  -- its frames are no longer read, and its session has ended
   Closing : Phase
   -- its Gone came
   Over : Phase
 
 pub record Life : Type 0 where
   pub connection : ℕ
-  -- its pieces, joined
+  -- all its pieces, joined
   pub bytes : List ℕ
   pub phase : Phase
   -- its Login requests
   pub requests : List Frame
-  -- the stamped answers, but for those of the session that goes on
+  -- the stamped answers, except those of the session that goes on
   pub answers : List Answer
 
 abbrev pub born : ℕ → Life
@@ -68,7 +67,7 @@ session_answers (FullFeature session) = session.answers
 session_answers Closing = []
 session_answers Over = []
 
--- all that it was answered
+-- all answers of the life
 abbrev pub answers_of : Life → List Answer
 answers_of life = life.answers ++ session_answers life.phase
 
@@ -76,6 +75,6 @@ answers_of life = life.answers ++ session_answers life.phase
 unfoldable pub out_of : Life → List ℕ
 out_of life = flat_map spelling (answers_of life)
 
--- it reads no more frames, and its session has ended
+-- the life reads no more frames, and its session has ended
 abbrev pub ended_in : Phase → Life → Life
 ended_in phase life = record life { phase = phase; answers = answers_of life }

@@ -1,5 +1,5 @@
--- What a clause sees of the target: for each connection the bytes that are no whole frame yet, its phase
--- and what waits to be sent, and the units of each target.
+-- What a clause sees of the target: the units of each target, and for each connection three things: the bytes that
+-- are no whole frame yet, its phase, and the bytes that wait to be sent.
 use Rattle.std.specs.Prelude.{◌≡◌, ◌≢◌, ◌⊎◌, All, ℕ, ◌+◌, ◌<◌, List, [], ◌∷◌, ◌++◌, length, drop, map, replicate, Bool, true, false, ◌||◌, ◌&&◌, ◌==◌, not, nat_lt, Option, Some, None, slice_index_or, slice_set, if◌then◌else◌, ⊤}
 use Rattle.iscsi_pdu.specs.Frames.{Frame, frames, rest, wanted}
 use Rattle.iscsi_pdu.specs.Answer.{spelling}
@@ -26,7 +26,7 @@ pub record LinkState : Type 0 where
   -- the bytes that are no whole frame yet, while frames are read
   pub half : List ℕ
   pub phase : Phase
-  -- the answer bytes that are not sent yet
+  -- the answer bytes that have not been sent yet
   pub waiting : List ℕ
 
 pub record Machine : Type 0 where
@@ -34,23 +34,23 @@ pub record Machine : Type 0 where
   pub units : List UnitStates
   pub links : List LinkState
 
--- The store of each unit gives back what was written, and no call of it has failed (own). What is said of
--- media, and of what is read from them, holds where this does.
+-- The store of each unit gives back what was written, and no call of it has failed (own). Statements about media, and
+-- about what is read from them, hold under this condition.
 abbrev pub IsSound : Machine → Type 0
 IsSound machine = All AreSound machine.units
 
--- the same of one target
+-- the same for one target
 abbrev pub IsSoundAt : ℕ → Machine → Type 0
 IsSoundAt target machine = AreSound (slice_index_or machine.units target [])
 
--- each target that is sound in the second was so in the first
+-- each target that is sound in the second machine was sound in the first
 abbrev pub ReflectsSoundness : Machine → Machine → Type 0
 ReflectsSoundness old new = (target : ℕ) → IsSoundAt target new → IsSoundAt target old
 
 abbrev pub WhereSound : Machine → Type 0 → Type 0
 WhereSound machine P = IsSound machine → P
 
--- The store of each unit is so, and stays so whatever is asked of it (own): true of stores in memory.
+-- The store of each unit is sound, and stays so whatever is asked of it (own): true of stores in memory.
 abbrev pub IsSure : Machine → Type 0
 IsSure machine = All AreSure machine.units
 
@@ -79,7 +79,7 @@ is_closing Free = false
 is_closing (Login login) = false
 is_closing (FullFeature session) = false
 
--- own: of its session no command can be done, or it has none
+-- own: no command of its session can be done, or it has none
 abbrev pub is_settled : Phase → Bool
 is_settled (FullFeature session) = is_waiting session
 is_settled Free = true
@@ -90,7 +90,7 @@ is_settled Closing = true
 abbrev pub is_silent : LinkState → Bool
 is_silent link = length link.waiting == 0 && not (is_closing link.phase)
 
--- a login is under way
+-- a login is in progress
 abbrev pub is_logging_in : Phase → Bool
 is_logging_in (Login login) = true
 is_logging_in Free = false
@@ -112,7 +112,7 @@ is_open_at machine c = not (is_free (link_at machine c).phase)
 abbrev pub most_waiting : ℕ
 most_waiting = 1048576
 
--- how many bytes to read next: none where the connection closes or much waits
+-- how many bytes to read next: none if the connection is closing or much waits
 abbrev pub want_of : LinkState → ℕ
 want_of link = if is_closing link.phase || nat_lt most_waiting (length link.waiting) then 0 else wanted link.half
 
@@ -135,15 +135,16 @@ opened_link c = record { half = []; phase = Login (new_login (c + 1)); waiting =
 abbrev pub shut_link : LinkState → LinkState
 shut_link link = record { half = []; phase = Closing; waiting = link.waiting }
 
--- What a piece of bytes on a connection does to every target, whatever its stores do: no connection is opened or ends, what
--- waited still waits, one that is not read stays as it is, and so does another one that has no session.
+-- What a piece of bytes on connection c does to every target, whatever its stores do. No connection opens or ends,
+-- and what waited still waits. A connection that is not read stays as it is, and so does any other one that is
+-- logging in.
 pub record Feeds (c : ℕ) (old new : Machine) : Type 0 where
   pub opens : (d : ℕ) → is_open_at new d ≡ is_open_at old d
   pub waits : (d : ℕ) → (more : List ℕ) × ((link_at new d).waiting ≡ (link_at old d).waiting ++ more)
   pub still : (d : ℕ) → is_reading (link_at old d).phase ≡ false → link_at new d ≡ link_at old d
   pub others : (d : ℕ) → d ≢ c → is_logging_in (link_at old d).phase ≡ true → link_at new d ≡ link_at old d
 
--- the target of its session, where it has one
+-- the target of its session, if it has one
 abbrev pub target_in : Phase → Option ℕ
 target_in (FullFeature session) = session.params.target
 target_in Free = None
@@ -154,14 +155,14 @@ target_in Closing = None
 abbrev pub is_with : ℕ → Phase → Bool
 is_with target phase = is_same_target (target_in phase) (Some target)
 
--- What is no part of a target stays as it is: the connections that have no session with it, and the units of others; and a
--- session with it stays so until it ends.
+-- What is not part of a target stays as it is: the connections without a session with it, and the units of others. A
+-- session with the target remains one until it ends.
 pub record KeepsApart (target : ℕ) (old new : Machine) : Type 0 where
   pub links : (d : ℕ) → is_with target (link_at old d).phase ≡ false → link_at new d ≡ link_at old d
   pub units : (at : ℕ) → at ≢ target → slice_index_or new.units at [] ≡ slice_index_or old.units at []
   pub same : (d : ℕ) → is_with target (link_at old d).phase ≡ true → (is_with target (link_at new d).phase ≡ true) ⊎ (is_closing (link_at new d).phase ≡ true)
 
--- so it is where something is done for a session
+-- the same for the target of a connection's session
 abbrev pub KeepsPart : ℕ → Machine → Machine → Type 0
 KeepsPart c old new = (target : ℕ) → is_with target (link_at old c).phase ≡ true → KeepsApart target old new
 
@@ -191,7 +192,7 @@ abbrev pub joined_session : Params → Answer → ℕ → Machine → Machine
 joined_session session answer c machine = record (with_link machine c (begun_link session answer (link_at machine c)))
     { units = changed_units (join session.nexus) session.target machine.units }
 
--- and an older session of the same nexus with the same target is ended
+-- the same, and an older session of the same nexus with the same target ends
 abbrev pub begun : Params → Answer → ℕ → Machine → Machine
 begun session answer c machine = shut_older (older session (sessions machine.links)) (joined_session session answer c machine)
 
@@ -200,12 +201,12 @@ replied (GoOn response) login c machine = with_link machine c (gone_on_link logi
 replied (Refused response) login c machine = with_link machine c (refused_link (answers.LoginResponse response) (link_at machine c))
 replied (Full response session) login c machine = begun session (answers.LoginResponse response) c machine
 
--- a Login request, where this is remembered of those before it
+-- a Login request, judged by what is remembered of those before it
 unfoldable pub logged_in : Machine → ℕ → LoginState → Frame → Machine
 logged_in machine c login request =
     replied (reply_of login (lookup_for machine.directory (sessions machine.links) request) request) (advanced machine.directory login request) c machine
 
--- a Login request was taken: it was answered, or what begins full feature phase is still to be sent
+-- a Login request was taken: it was answered, or the answer that begins full feature phase is still to be queued
 abbrev pub IsAnswered : Reply → LoginState → LinkState → Option (LoginResponse × Params) → LinkState → Type 0
 IsAnswered (GoOn response) login old begun new = (begun ≡ None) × (new ≡ gone_on_link login (answers.LoginResponse response) old)
 IsAnswered (Refused response) login old begun new = (begun ≡ None) × (new ≡ refused_link (answers.LoginResponse response) old)
@@ -218,7 +219,7 @@ pub record GivesFrame (frame : Frame) (before after : List ℕ) : Type 0 where
   pub behind : rest after ≡ rest before
   pub shorter : length after < length before
 
--- the target that its session or its login is with is one of so many, and its values are in range
+-- the target of its session or its login is below this count, and its values are in range
 abbrev pub IsWithin : ℕ → Phase → Type 0
 IsWithin count (FullFeature session) = IsTargetBelow count session.params.target × AreInRange session.params.values
 IsWithin count (Login login) = AsksBelow count login.session × AreInRange login.values

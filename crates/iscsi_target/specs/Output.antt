@@ -1,4 +1,4 @@
--- What the target answers, as bytes, and what its units keep.
+-- The bytes that the target answers, and what its units keep.
 use Rattle.std.specs.Prelude.{ℕ, List, [], map, Option, Some, None, slice_index_or}
 use Rattle.iscsi_target.specs.History.{History}
 use Rattle.iscsi_target.specs.Life.{Life, out_of}
@@ -11,11 +11,11 @@ abbrev pub out_now : Option Life → List ℕ
 out_now None = []
 out_now (Some life) = out_of life
 
--- what was answered in each life, one text for each Open in order
+-- the answers of each life, one text for each Open in order
 unfoldable pub outputs : Setting → History → List (List ℕ)
 outputs s history = map out_of (world s history).lives
 
--- what a target's units keep, in order: their media, and who is registered and what is reserved
+-- what a target's units keep, in order: their media, registrations and reservation
 abbrev pub media_in : List UnitStates → ℕ → List KeptState
 media_in units target = map kept_of (slice_index_or units target [])
 

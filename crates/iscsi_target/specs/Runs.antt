@@ -1,4 +1,4 @@
--- A target that is put through a history, and what is kept of each life meanwhile.
+-- A target that runs through a history, and what is kept of each life meanwhile.
 use Rattle.std.specs.Prelude.{◌≡◌, ℕ, ◌<◌, List, [], ◌∷◌, ◌++◌, map, Bool, true, false, ◌==◌, Option, Some, None, if◌then◌else◌, slice_index_or, ⊤}
 use Rattle.std.specs.List.{list_any}
 use Rattle.iscsi_target.specs.History.{Event, Open, Bytes, Gone, History, is_among, connection_limit}
@@ -9,7 +9,7 @@ use Rattle.iscsi_target.specs.Isolation.{events_of, AreUnmarked, AreCalm}
 use Rattle.iscsi_target.specs.Stands.{Stands}
 use Rattle.iscsi_target.specs.declared.run.Row.{Row}
 
--- the test at each number is whether the connection is among these
+-- entry c of the table says whether connection c is among these
 abbrev pub IsTable : List Bool → List ℕ → Type 0
 IsTable table open_connections = (c : ℕ) → slice_index_or table c false ≡ is_among c open_connections
 
@@ -19,17 +19,17 @@ MayCome machine (Open c) = (c < connection_limit) × (is_open_at machine c ≡ f
 MayCome machine (Bytes c piece) = (c < connection_limit) × (is_open_at machine c ≡ true)
 MayCome machine (Gone c) = (c < connection_limit) × (is_open_at machine c ≡ true)
 
--- these connections are open, and no other
+-- exactly these connections are open
 pub record AreOpen (machine : Machine) (open_connections : List ℕ) : Type 0 where
   pub tracks : (c : ℕ) → is_open_at machine c ≡ is_among c open_connections
   pub below : (c : ℕ) → is_among c open_connections ≡ true → c < connection_limit
 
--- its connection until it ends, and what was answered in it from then on
+-- the connection of a life until it ends, and from then on the answers of the life
 pub record RowState : Type 0 where
   pub connection : Option ℕ
   pub bytes : List ℕ
 
--- a row without where its bytes lie in memory
+-- a row, without the place of its bytes in memory
 abbrev pub seen : Row → RowState
 seen row = record { connection = row.connection; bytes = row.bytes.items }
 
@@ -42,7 +42,7 @@ over_row bytes = record { connection = None; bytes = bytes }
 abbrev pub row_of : Life → RowState
 row_of life = if is_over life.phase then over_row (out_of life) else open_row life.connection
 
--- what waits on its connection is kept, and it is over
+-- what waits on its connection is kept, and the row is over
 abbrev pub finished_in : Machine → List ℕ → Option ℕ → RowState
 finished_in machine bytes None = over_row bytes
 finished_in machine bytes (Some c) = over_row (bytes ++ (link_at machine c).waiting)
@@ -54,11 +54,11 @@ abbrev pub is_on : ℕ → Option ℕ → Bool
 is_on c None = false
 is_on c (Some d) = d == c
 
--- a connection ends
+-- a connection ends: only a row of it is finished
 abbrev pub ended : Machine → ℕ → RowState → RowState
 ended machine c row = if is_on c row.connection then finished machine row else row
 
--- a life of this connection is not over
+-- some life of this connection is not over
 abbrev pub has : ℕ → List RowState → Bool
 has c rows = list_any (λ row. is_on c row.connection) rows
 
@@ -71,7 +71,7 @@ abbrev pub AreDistinct : List RowState → Type 0
 AreDistinct [] = ⊤
 AreDistinct (row ∷ rows) = IsFree row.connection rows × AreDistinct rows
 
--- a target that was put through a history, and of which nothing was sent
+-- a target that ran through a history, and has sent nothing
 pub record Runs (s : Setting) (machine : Machine) (rows : List RowState) (open_connections : List ℕ) (history : History) : Type 0 where
   pub stands : Stands s (λ c. 0) machine history
   pub kept : rows ≡ map row_of (world s history).lives
@@ -80,7 +80,8 @@ pub record Runs (s : Setting) (machine : Machine) (rows : List RowState) (open_c
   pub tracks : (c : ℕ) → has c rows ≡ is_among c open_connections
   pub below : (c : ℕ) → is_among c open_connections ≡ true → c < connection_limit
 
--- a target that was put through these events, whatever its stores did: no allocation failed, and of a target that is sound no store
+-- a target that ran through these events, whatever its stores did: no allocation failed, and no store of a target
+-- that is sound
 pub record RunsThrough (s : Setting) (machine : Machine) (rows : List RowState) (open_connections : List ℕ) (events : List Event) : Type 0 where
   pub history : History
   pub of : events_of history ≡ events

@@ -1,4 +1,4 @@
--- While frames are taken, the code stands where the World does: what each call makes of both.
+-- While frames are taken, the code stands where the World does: the effect of each call on both.
 use Rattle.std.specs.Prelude.{◌≡◌, ◌≢◌, ℕ, ◌+◌, ◌<◌, List, [], ◌∷◌, length, drop, Bool, true, false, if◌then◌else◌, ◌&&◌, not, ◌==◌, nat_lt, Option, Some, None, Result, Ok, Err, ⊤}
 use Rattle.std.specs.List.{list_all, fold, enumerate_from}
 use Rattle.iscsi_pdu.specs.Frames.{Frame, rest, is_long}
@@ -11,7 +11,7 @@ use Rattle.iscsi_target.specs.Bounded.{AddsAtMost}
 use Rattle.iscsi_target.specs.Stands.{IsQuiet, IsSent, Begins, machine_with, stand_in}
 use Rattle.iscsi_target.specs.declared.fault.Starved.{Starved}
 
--- As StandsAt, but of the bytes that are no whole frame yet only that these are kept.
+-- As StandsAt, except that the bytes that are no whole frame yet are these.
 pub record Serves (s : Setting) (sent : ℕ → ℕ) (half : ℕ → List ℕ) (w : World) (machine : Machine) : Type 0 where
   pub is : machine ≡ machine_with s sent half w
   pub answered : IsSent sent w
@@ -19,7 +19,7 @@ pub record Serves (s : Setting) (sent : ℕ → ℕ) (half : ℕ → List ℕ) (
 
 -- ---- which allocations failed
 
--- no connection was closed as starved, or this one was the first
+-- the connection that was closed first because an allocation failed, if any was
 abbrev pub first_starved : Result (Unit {0}) Starved → Option ℕ
 first_starved (Ok u) = None
 first_starved (Err starved) = Some starved.connection
@@ -28,12 +28,12 @@ abbrev pub first_of : Option ℕ → Option ℕ → Option ℕ
 first_of None later = later
 first_of (Some c) later = Some c
 
--- that connection is closing
+-- the connection is closing, if one is given
 abbrev pub IsClosed : Option ℕ → Machine → Type 0
 IsClosed None machine = ⊤
 IsClosed (Some c) machine = is_closing (link_at machine c).phase ≡ true
 
--- what is left where a session's call told whether the session goes on, or that an allocation failed
+-- the result of a session's call: whether the session goes on, or that an allocation failed
 abbrev pub starved_by : {E : Type 0} → ℕ → Result Bool E → Option ℕ
 starved_by c (Ok goes_on) = None
 starved_by c (Err e) = Some c
@@ -45,25 +45,26 @@ goes_on_by (Err e) = false
 abbrev pub ended_unless : {E : Type 0} → Result Bool E → ℕ → Machine → Machine
 ended_unless result c machine = if goes_on_by result then machine else closed machine c
 
--- of the marks of this kind, these are all there are
+-- these are all the marks of this kind
 abbrev pub Agrees : (Mark → Bool) → List Mark → List Mark → Type 0
 Agrees kind marks these = (mark : Mark) → kind mark ≡ true → is_marked marks mark.connection mark.point ≡ is_marked these mark.connection mark.point
 
 -- ---- what a call does
 
--- the points that were reached since
+-- the points reached between the two
 abbrev pub reached_since : World → World → List Mark
 reached_since before after = drop (length before.reached) after.reached
 
--- What the call of an act did: where the code stood with a World, it stands with what the act makes of that World, whatever
--- marks of other kinds there are. The place is that of the frame at work; halves is what is done to the bytes kept.
+-- The effect of the call of an act. If the code stood with a World before, it stands after with what the act makes of
+-- that World. Marks of other kinds do not matter. The place is that of the frame in progress; `halves` says how the
+-- kept bytes change.
 pub record Does (kind : ℕ → Mark → Bool) (act : Setting → List Mark → ℕ → World → World) (halves : (ℕ → List ℕ) → ℕ → List ℕ)
     (starved : Option ℕ) (given after : Machine) : Type 0 where
-  -- where allocations failed, in this order
+  -- the points at which allocations failed, in this order
   pub failed : ℕ → List Mark
   pub first : (place : ℕ) → Begins starved (failed place)
   pub of_kind : (place : ℕ) → list_all (kind place) (failed place) ≡ true
-  -- how the commands came out that it did, one after the other
+  -- how the commands that the call did came out, in order
   pub came : List Coming
   pub plain : IsSound after → ArePlain came
   pub calm : (target : ℕ) → IsSoundAt target after → IsCalm target came
@@ -75,12 +76,12 @@ pub record Does (kind : ℕ → Mark → Bool) (act : Setting → List Mark → 
 abbrev pub kept : (ℕ → List ℕ) → ℕ → List ℕ
 kept half c = half c
 
--- a connection that still reads has kept its bytes, and one that does not has none
+-- a connection that is still read has kept its bytes; any other has none
 pub record KeepsHalf (half : List ℕ) (link : LinkState) : Type 0 where
   pub reading : is_reading link.phase ≡ true → link.half ≡ half
   pub idle : is_reading link.phase ≡ false → link.half ≡ []
 
--- What any such call, for a connection, makes of every target.
+-- The effect of any such call, for a connection, on every target.
 pub record Preserves (c : ℕ) (starved : Option ℕ) (given after : Machine) : Type 0 where
   pub back : ReflectsSoundness given after
   pub sure : IsSure given → IsSure after
@@ -92,17 +93,18 @@ pub record Preserves (c : ℕ) (starved : Option ℕ) (given after : Machine) : 
   -- no other connection is heavier than before
   pub eases : (d : ℕ) → d ≢ c → AddsAtMost 0 (link_at given d) (link_at after d)
 
--- own: a call that takes no memory sets no step off
+-- own: a call that allocates nothing sets off no step
 abbrev pub is_of_none : ℕ → Mark → Bool
 is_of_none place mark = false
 
--- The call of an act in which nothing can fail.
+-- The call of an act that cannot fail.
 abbrev pub CarriesOut : (World → World) → Machine → Machine → Type 0
 CarriesOut act given after = Does is_of_none (λ s marks place w. act w) kept None given after
 
 -- ---- the acts
 
--- the frame of this place sets off what is marked: its judging or a request that acts, or a command that is done
+-- the mark is at a step that the frame of this place sets off: its judging, a request that acts, or a command that is
+-- done
 abbrev pub is_of_frame : ℕ → Mark → Bool
 is_of_frame place mark = is_within place mark.point
 
@@ -117,7 +119,7 @@ is_taken_at place mark = is_within place mark.point && has_step is_serving mark.
 abbrev pub is_done_at : ℕ → Mark → Bool
 is_done_at place mark = is_within place mark.point && has_step is_doing mark.point
 
--- of one connection, or of those below it
+-- the same for one connection, or for those below it
 abbrev pub is_done_by : ℕ → ℕ → Mark → Bool
 is_done_by c place mark = mark.connection == c && is_done_at place mark
 
@@ -130,11 +132,11 @@ Takes c frame starved given after = Does is_of_frame (λ s marks place w. arrive
 
 -- ---- the frames of a piece
 
--- of one connection other bytes are kept
+-- one connection keeps other bytes
 abbrev pub with_half : ℕ → List ℕ → (ℕ → List ℕ) → ℕ → List ℕ
 with_half c bytes half d = if d == c then bytes else half d
 
--- what so many frames of a connection leave of every target, and how heavy they make the connections
+-- the effect of n frames of a connection on every target, and what they add to the weight of the connections
 pub record Leaves (c n : ℕ) (starved : Option ℕ) (old new : Machine) : Type 0 where
   pub back : ReflectsSoundness old new
   pub sure : IsSure old → IsSure new
@@ -145,10 +147,10 @@ pub record Leaves (c n : ℕ) (starved : Option ℕ) (old new : Machine) : Type 
   pub loads : AddsAtMost n (link_at old c) (link_at new c)
   pub keeps : (d : ℕ) → d ≢ c → is_reading (link_at old d).phase ≡ true → KeepsHalf (link_at old d).half (link_at new d)
 
--- the first of what is whole is taken
+-- the first arrival is taken
 pub record TakesOne (c : ℕ) (starved : Option ℕ) (old new : Machine) : Type 0 where
   pub arrival : Arrival
-  -- the bytes behind it
+  -- the bytes after it
   pub more : List ℕ
   pub front : arrivals (link_at old c).half ≡ arrival ∷ arrivals more
   pub behind : is_reading (link_at new c).phase ≡ true → rest (link_at old c).half ≡ rest more
@@ -169,27 +171,27 @@ has_place p (Arriving place) = p place
 has_place p (Before step) = p (place_of step)
 has_place p AtEnd = false
 
--- the point is of one of so many frames, from a place on
+-- the point belongs to one of n frames, from this place on
 abbrev pub is_among : ℕ → ℕ → Mark → Bool
 is_among n place mark = has_place (λ p. not (nat_lt p place) && nat_lt p (place + n)) mark.point
 
--- so many of what is whole are taken, one after the other
+-- these first arrivals are taken, in order
 abbrev pub TakesSome : ℕ → List Arrival → List ℕ → Option ℕ → Machine → Machine → Type 0
 TakesSome c done more starved old new =
     Does (is_among (length done)) (λ s marks place w. fold (arrive s marks c) w (enumerate_from place done)) (with_half c more) starved old new
 
--- all that is whole is taken
+-- all arrivals are taken
 pub record TakesAll (c : ℕ) (starved : Option ℕ) (old new : Machine) : Type 0 where
   pub kept : KeepsHalf (rest (link_at old c).half) (link_at new c)
   pub short : is_reading (link_at new c).phase ≡ true → is_long (rest (link_at old c).half) ≡ false
   pub takes : TakesSome c (arrivals (link_at old c).half) (rest (link_at old c).half) starved old new
   pub leaves : Leaves c (length (arrivals (link_at old c).half)) starved old new
 
--- the commands of the sessions of a target are done, or those of one connection
+-- the commands of the sessions of a target are done
 abbrev pub Settles : ℕ → Option ℕ → Machine → Machine → Type 0
 Settles target starved given after = Does is_done_at (λ s marks place w. settle marks place target w) kept starved given after
 
--- of the session's target, where it has one
+-- the same for a session's target, if it has one; and for the session of one connection
 abbrev pub SettlesFor : Option ℕ → Option ℕ → Machine → Machine → Type 0
 SettlesFor target starved given after = Does is_done_at (λ s marks place w. settle_for marks place target w) kept starved given after
 

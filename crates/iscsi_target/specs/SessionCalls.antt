@@ -1,4 +1,4 @@
--- What a call of its session makes of a connection, and of the target.
+-- The effect of a call of a session on its connection, and on the target.
 use Rattle.std.specs.Prelude.{◌≡◌, ℕ, List, [], ◌++◌, Bool, true, false, if◌then◌else◌, Option, None, Result, Ok, Err}
 use Rattle.scsi_unit.specs.Units.{UnitStates, numbers_of}
 use Rattle.iscsi_pdu.specs.Frames.{Frame}
@@ -11,11 +11,11 @@ use Rattle.iscsi_target.specs.Machine.{LinkState, Machine, link_at, with_link, s
 use Rattle.iscsi_target.specs.declared.phase.Phase.{Phase}
 use Rattle.iscsi_target.specs.declared.phase.Phase.TheVariants.{FullFeature}
 
--- so it is of its session, where the connection has one
+-- P holds of the connection's session, if it has one
 abbrev pub InSession : Phase → (SessionState → Type 0) → Type 0
 InSession phase P = (session : SessionState) → phase ≡ FullFeature session → P session
 
--- the session is another one, and more waits, of which this is so; nothing else of the connection has changed
+-- the session has changed and more waits, and P holds of both; nothing else of the connection has changed
 pub record LeavesSession (P : SessionState → List ℕ → Type 0) (given : SessionState) (old new : LinkState) : Type 0 where
   pub session : SessionState
   pub is : new ≡ record old { phase = FullFeature session; waiting = new.waiting }
@@ -23,35 +23,36 @@ pub record LeavesSession (P : SessionState → List ℕ → Type 0) (given : Ses
   pub grows : (more : List ℕ) × (new.waiting ≡ old.waiting ++ more)
   pub does : P session new.waiting
 
--- all steps of the call were done, and the session goes on or not; or those before one at which an allocation failed
+-- all steps of the call were done, and the session goes on or not; or only those before a step at which an allocation
+-- failed
 abbrev pub Ends : {E : Type 0} → (Step → Bool) → (Option (ℕ → Step) → Bool → Type 0) → Result Bool E → Type 0
 Ends is_kind Leads (Ok goes_on) = Leads None goes_on
 Ends is_kind Leads (Err e) = Stops is_kind (λ failed. Leads failed false)
 
--- one that does not go on is closed
+-- a session that does not go on is closed
 abbrev pub ended_link : Bool → LinkState → LinkState
 ended_link goes_on link = if goes_on then link else shut_link link
 
 -- ---- the three calls
 
--- it serves a frame, where its target has units with these numbers
+-- the session serves a frame; its target has units with these numbers
 abbrev pub ServesFrame : Frame → List ℕ → List (List ℕ) → Option (ℕ → Step) → Bool → SessionState → SessionState → List ℕ → List ℕ → Type 0
 ServesFrame frame luns orders failed goes_on old new before waiting = (units : TargetUnits) → luns ≡ numbers_of units.states
     → Runs (λ fails place. served fails place frame) failed goes_on old new (output before []) (output waiting orders) units units
 
--- its commands are done
+-- the commands of the session are done
 abbrev pub SettlesUnits : UnitStates → UnitStates → Option (ℕ → Step) → Bool → SessionState → SessionState → List ℕ → List ℕ → Type 0
 SettlesUnits units after failed goes_on old new before waiting = CameAs old.params.target
     (λ given left. Runs settled failed goes_on old new (output before []) (output waiting []) given left) units after
 
--- it loses the commands that the function of another one reaches
+-- the session loses the commands that the function of another session reaches
 abbrev pub LosesCommands : List ℕ → UnitStates → UnitStates → SessionState → SessionState → List ℕ → List ℕ → Type 0
 LosesCommands function units after old new before waiting = (comings : List Coming)
     → Runs (λ fails place. losing function) None true old new (output before []) (output waiting []) (lend units comings) (lend after comings)
 
 -- ---- of the target
 
--- nothing but the units of this target and this connection has changed
+-- only the units of this target and this connection have changed
 abbrev pub called : Machine → ℕ → Option ℕ → UnitStates → LinkState → Machine
 called machine c target units link = record (with_link machine c link) { units = with_units target units machine.units }
 

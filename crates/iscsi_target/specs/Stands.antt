@@ -1,4 +1,4 @@
--- When the code stands where the World does: what it remembers is a function of the past.
+-- When the code stands where the World does: what the code remembers is a function of the past.
 use Rattle.std.specs.Prelude.{◌≡◌, ℕ, ◌+◌, ◌<◌, ◌≤◌, List, [], ◌∷◌, ◌++◌, length, drop, map, Bool, true, false, ◌==◌, Option, Some, None, if◌then◌else◌, ⊤}
 use Rattle.iscsi_pdu.specs.Frames.{rest, is_long}
 use Rattle.iscsi_login.specs.Login.{remembered}
@@ -15,15 +15,15 @@ use Rattle.iscsi_target.specs.declared.phase.Phase.TheVariants as phases
 
 -- ---- what is remembered
 
--- of a login, with these targets, what is remembered of its requests; of a session, what is remembered of its past
+-- for a login with these targets, what is remembered of its requests; for a session, what is remembered of its past
 abbrev pub phase_for : KnownTargets → Life → Phase → code.Phase
 phase_for directory life LoggingIn = phases.Login (remembered directory (life.connection + 1) life.requests)
 phase_for directory life (FullFeature session) = phases.FullFeature (session_remembered session)
 phase_for directory life Closing = phases.Closing
 phase_for directory life Over = phases.Free
 
--- Of a connection's present life: these bytes, while frames are read; and what it was answered, without as many bytes
--- at the front as were sent.
+-- The connection of a present life. It keeps these bytes, while frames are read. What waits is what was answered,
+-- without the first `sent` bytes.
 abbrev pub link_of : KnownTargets → ℕ → List ℕ → Option Life → LinkState
 link_of directory sent half None = free_link
 link_of directory sent half (Some life) = record {
@@ -59,7 +59,7 @@ abbrev pub IsQuiet : Option Life → Type 0
 IsQuiet None = ⊤
 IsQuiet (Some life) = IsQuietIn life.phase
 
--- where frames are read, no header that names too much data has come
+-- if frames are read, no header that names too much data has come
 abbrev pub IsShort : Option Life → Type 0
 IsShort None = ⊤
 IsShort (Some life) = reads life.phase ≡ true → is_long (rest life.bytes) ≡ false
@@ -68,7 +68,7 @@ IsShort (Some life) = reads life.phase ≡ true → is_long (rest life.bytes) �
 abbrev pub IsSent : (ℕ → ℕ) → World → Type 0
 IsSent sent w = (c : ℕ) → c < connection_limit → sent c ≤ length (out_now (present c w))
 
--- The code stands where this World does, if of each connection's present life so many bytes were sent.
+-- The code stands where this World does, after `sent c` bytes of the present life of connection c were sent.
 pub record StandsAt (s : Setting) (sent : ℕ → ℕ) (w : World) (machine : Machine) : Type 0 where
   pub is : machine ≡ machine_of s sent w
   pub answered : IsSent sent w
@@ -79,7 +79,7 @@ pub record StandsAt (s : Setting) (sent : ℕ → ℕ) (w : World) (machine : Ma
 abbrev pub Stands : Setting → (ℕ → ℕ) → Machine → History → Type 0
 Stands s sent machine history = StandsAt s sent (world s history) machine
 
--- one connection has another number of bytes sent
+-- one connection has another number of sent bytes
 abbrev pub with_sent : (ℕ → ℕ) → ℕ → ℕ → ℕ → ℕ
 with_sent sent c n d = if d == c then n else sent d
 
@@ -90,17 +90,17 @@ abbrev pub IsFirst : ℕ → List Mark → Type 0
 IsFirst c [] = ⊥
 IsFirst c (mark ∷ marks) = mark.connection ≡ c
 
--- the marks stand among these points in this order
+-- the marks are among these points, in this order
 abbrev pub stand_in : List Mark → List Mark → Bool
 stand_in [] points = true
 stand_in (mark ∷ marks) [] = false
 stand_in (mark ∷ marks) (point ∷ points) = if is_same mark point then stand_in marks points else stand_in (mark ∷ marks) points
 
--- each of the points was reached, one behind the other
+-- each of the points was reached, in this order
 abbrev pub are_reached : List Mark → World → Bool
 are_reached marks w = stand_in marks w.reached
 
--- Allocations failed at these points of an event, in this order, and so first at one of this connection.
+-- Allocations failed at these points of an event, in this order; the first is of this connection.
 pub record IsStarved (s : Setting) (w : World) (event : Event) (c : ℕ) (marks : List Mark) : Type 0 where
   pub first : IsFirst c marks
   pub reached : are_reached marks (happen s marks (begun_event [] w) event) ≡ true
@@ -110,8 +110,9 @@ abbrev pub Begins : Option ℕ → List Mark → Type 0
 Begins None marks = marks ≡ []
 Begins (Some c) marks = IsFirst c marks
 
--- The code stands where the World of this history does with one more event, whatever its stores did: in it allocations failed
--- at these points, which were reached in this order, and its commands came out so: as defined where the units of their target are sound.
+-- The code stands where the World of this history does after one more event, whatever its stores did. Allocations
+-- failed in it at these points, which were reached in this order. Its commands came out as these comings say: as
+-- defined if the units of their target are sound.
 pub record StandsAfter (s : Setting) (sent : ℕ → ℕ) (history : History) (event : Event) (starved : Option ℕ) (machine : Machine) : Type 0 where
   pub marks : List Mark
   pub comings : List Coming

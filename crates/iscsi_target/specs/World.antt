@@ -1,4 +1,4 @@
--- The machine that the target is: plain lists of what came and what was answered, and the units.
+-- The World, the machine that the target is: plain lists of what came and what was answered, and the units.
 use Rattle.std.specs.Prelude.{ℕ, ◌+◌, List, [], ◌∷◌, ◌++◌, fold, length, map, find, Bool, false, ◌&&◌, not, ◌==◌, Option, Some, None, slice_index_or, slice_set, if◌then◌else◌}
 use Rattle.std.specs.List.{list_any}
 use Rattle.iscsi_pdu.specs.Frames.{Frame}
@@ -29,7 +29,7 @@ use Rattle.iscsi_session.specs.Steps.{Step, Work, begun_work, served, settled}
 use Rattle.iscsi_target.specs.History.{Event, Open, Bytes, Gone, Point, Arriving, Before, AtEnd, Mark, is_same, Happening, History, Arrival, Whole, TooLong, new_arrivals, connections}
 use Rattle.iscsi_target.specs.Life.{Life, Phase, LoggingIn, FullFeature, Closing, Over, born, reads, is_over, past_in, session_in, ended_in}
 
--- what the target is made with: the targets' names and their portal, and the units of each, in order
+-- the configuration of the target: the targets' names and their portal, and the units of each, in order
 pub record Setting : Type 0 where
   pub directory : KnownTargets
   pub units : List UnitStates
@@ -41,7 +41,7 @@ pub record World : Type 0 where
   pub units : List UnitStates
   -- the points that the last event reached, in order
   pub reached : List Mark
-  -- how the commands come out that are still to be done in this event, one after the other
+  -- how the commands that are still to be done in this event come out, in order
   pub comings : List Coming
 
 -- ---- lives
@@ -53,12 +53,12 @@ is_present c life = life.connection == c && not (is_over life.phase)
 unfoldable pub present : ℕ → World → Option Life
 present c w = find (is_present c) w.lives
 
--- what f makes of the first of these that passes
+-- the list with f applied to the first life that passes p
 abbrev pub changed_first : (Life → Bool) → (Life → Life) → List Life → List Life
 changed_first p f [] = []
 changed_first p f (life ∷ lives) = if p life then f life ∷ lives else life ∷ changed_first p f lives
 
--- what f makes of a connection's present life
+-- the World with f applied to a connection's present life
 unfoldable pub changed : (Life → Life) → ℕ → World → World
 changed f c w = record w { lives = changed_first (is_present c) f w.lives }
 
@@ -78,7 +78,7 @@ past_of (Some life) = past_in life.phase
 unfoldable pub live : World → Live
 live w = map (λ c. session_of (present c w)) connections
 
--- the units of a session's target; a discovery session has no target, and none
+-- the units of a session's target; a discovery session has no target, and no units
 abbrev pub units_at : Option ℕ → List UnitStates → UnitStates
 units_at None all = []
 units_at (Some target) all = slice_index_or all target []
@@ -87,7 +87,7 @@ abbrev pub with_units : Option ℕ → UnitStates → List UnitStates → List U
 with_units None units all = all
 with_units (Some target) units all = slice_set all target units
 
--- a target's units after f
+-- the units of all targets, with f applied to those of one
 unfoldable pub changed_units : (UnitStates → UnitStates) → Option ℕ → List UnitStates → List UnitStates
 changed_units f target all = with_units target (f (units_at target all)) all
 
@@ -98,12 +98,12 @@ left (Some session) all = changed_units (leave session.nexus) session.target all
 
 -- ---- the end of a session
 
--- A violation, a refused login, a Logout that closes and an allocation that failed: later frames of the
--- connection do nothing, and its session ends (profile; RFC 7143 §4.2.6).
+-- Closes a connection, after a violation, a refused login, a Logout that closes, or an allocation that failed. Later
+-- frames of the connection do nothing, and its session ends (profile; RFC 7143 §4.2.6).
 unfoldable pub close : ℕ → World → World
 close c w = record (changed (ended_in Closing) c w) { units = left (session_of (present c w)) w.units }
 
--- its Gone
+-- the Gone of a connection
 abbrev pub over : ℕ → Life → Life
 over c life = if is_present c life then ended_in Over life else life
 
@@ -115,11 +115,11 @@ end c w = record w { lives = map (over c) w.lives; units = left (session_of (pre
 unfoldable pub is_marked : List Mark → ℕ → Point → Bool
 is_marked marks c point = list_any (λ mark. is_same mark (record { connection = c; point = point })) marks
 
--- the point is reached
+-- the World after these points were reached
 abbrev pub reaching : ℕ → List Point → World → World
 reaching c points w = record w { reached = w.reached ++ map (λ point. record { connection = c; point = point }) points }
 
--- what a connection does at a point, where it is not closed, unless an allocation failed there
+-- a step of a connection at a point: done unless the connection is closed, or an allocation failed there
 unfoldable pub take_step : List Mark → ℕ → Point → (World → World) → World → World
 take_step marks c point act w =
     if not (reads_life (present c w)) then w
@@ -139,7 +139,7 @@ asked request life = record life { requests = life.requests ++ request ∷ [] }
 abbrev pub begun : Params → Answer → Life → Life
 begun session answer life = record (answered answer life) { phase = FullFeature (begun_past session) }
 
--- its connection closes, and what waits on it is still sent
+-- the older connection closes, and what waits on it is still sent
 abbrev pub end_older : Option ℕ → World → World
 end_older None w = w
 end_older (Some d) w = changed (ended_in Closing) d w
@@ -148,7 +148,7 @@ end_older (Some d) w = changed (ended_in Closing) d w
 abbrev pub begins : Params → Answer → ℕ → World → World
 begins session answer c w = record (changed (begun session answer) c w) { units = changed_units (join session.nexus) session.target w.units }
 
--- With a session that begins an older one of the same nexus with the same target ends (RFC 7143 §6.3.5).
+-- When a session begins, an older one of the same nexus with the same target ends (RFC 7143 §6.3.5).
 abbrev pub replied : Reply → ℕ → World → World
 replied (GoOn response) c w = changed (answered (answers.LoginResponse response)) c w
 replied (Refused response) c w = close c (changed (answered (answers.LoginResponse response)) c w)
@@ -158,11 +158,11 @@ abbrev pub requests_of : Option Life → List Frame
 requests_of None = []
 requests_of (Some life) = life.requests
 
--- what a Login request is judged by beside those before it: the targets, and the session whose TSIH it bears
+-- what else a Login request is judged by: the targets, and the session whose TSIH it bears
 abbrev pub lookup_for : KnownTargets → Live → Frame → Lookup
 lookup_for directory live request = record { directory = directory; named = named_by (tsih request.header) live }
 
--- The reply to a request is read from all Login requests of the life; the session of connection c has TSIH c + 1.
+-- The reply to a request is a function of all Login requests of the life. The session of connection c has TSIH c + 1.
 unfoldable pub log_in : Setting → ℕ → Frame → World → World
 log_in s c request w = replied (login (c + 1) (requests_of (present c w)) (lookup_for s.directory (live w) request) request) c (changed (asked request) c w)
 
@@ -178,7 +178,7 @@ fails marks c step = is_marked marks c (Before step)
 abbrev pub with_past : Past → Life → Life
 with_past past life = record life { phase = FullFeature past }
 
--- what its steps made of it
+-- the World after the steps of a session
 abbrev pub worked_on : ℕ → Work → World → World
 worked_on c work w = record (reaching c (map Before work.reached) (changed (with_past work.past) c w))
     { units = with_units work.past.params.target work.units.states w.units; comings = work.units.comings }
@@ -195,7 +195,7 @@ served_by (Some past) marks c place frame w = worked c (served (fails marks c) p
 unfoldable pub take_in : List Mark → ℕ → ℕ → Frame → World → World
 take_in marks c place frame w = served_by (past_of (present c w)) marks c place frame w
 
--- the Task Management Functions that acted in it, by their headers
+-- the Task Management Functions that acted in the session, by their headers
 abbrev pub orders_by : Option Past → List Mark → ℕ → ℕ → Frame → World → List (List ℕ)
 orders_by None marks c place frame w = []
 orders_by (Some past) marks c place frame w = (served (fails marks c) place frame (work_of past w)).orders
@@ -203,12 +203,12 @@ orders_by (Some past) marks c place frame w = (served (fails marks c) place fram
 unfoldable pub orders_in : List Mark → ℕ → ℕ → Frame → World → List (List ℕ)
 orders_in marks c place frame w = orders_by (past_of (present c w)) marks c place frame w
 
--- ---- what a Task Management Function of one session does to the rest of its target (RFC 7143 §11.5.1)
+-- ---- the effect of a session's Task Management Function on the rest of its target (RFC 7143 §11.5.1)
 
 abbrev pub function_of : List ℕ → TaskFunction
 function_of header = task_function (function_code header)
 
--- those that reach the commands of all sessions of the target
+-- the functions that reach the commands of all sessions of the target
 abbrev pub reaches_others : TaskFunction → Bool
 reaches_others function = is_for_all (scope_of function)
 
@@ -216,11 +216,11 @@ abbrev pub told : Option Attention → List ℕ → NexusName → UnitStates →
 told (Some CommandsClearedByAnotherInitiator) lun nexus units = raised_at nexus lun CommandsClearedByAnotherInitiator units
 told _ lun nexus units = units
 
--- SAM-5 "CLEAR TASK SET": a nexus that lost commands is to be told (COMMANDS CLEARED BY ANOTHER INITIATOR)
+-- SAM-5 "CLEAR TASK SET": a nexus that lost commands gets the unit attention COMMANDS CLEARED BY ANOTHER INITIATOR
 abbrev pub told_by : TaskFunction → List ℕ → NexusName → UnitStates → UnitStates
 told_by function lun nexus units = told (attention_of function) lun nexus units
 
--- the commands of a session that the function of another one reaches
+-- the commands of a session that the function of another session reaches
 abbrev pub reach_from : List ℕ → UnitStates → FunctionReach
 reach_from header units = record { function = header; luns = numbers_of units; is_own = false }
 
@@ -231,7 +231,7 @@ abbrev pub told_loss : List ℕ → Past → UnitStates → UnitStates
 told_loss header past units =
     if length (lost header units past) == 0 then units else told_by (function_of header) (lun_field header) past.params.nexus units
 
--- it loses them
+-- the session loses them
 abbrev pub losing : List ℕ → Work → Work
 losing header work = record work {
   past = removing (lost header work.units.states work.past) work.past;
@@ -242,11 +242,12 @@ abbrev pub lost_by : Option Past → List ℕ → ℕ → ℕ → World → Worl
 lost_by None header target d w = w
 lost_by (Some past) header target d w = if is_same_target past.params.target (Some target) then worked_on d (losing header (work_of past w)) w else w
 
--- another session than that of connection c
+-- the session of any connection but c loses what the function reaches
 unfoldable pub lose_one : List ℕ → ℕ → ℕ → World → ℕ → World
 lose_one header target c w d = if d == c then w else lost_by (past_of (present d w)) header target d w
 
--- SAM-5 "Logical unit reset": every nexus is to be told (BUS DEVICE RESET FUNCTION OCCURRED). Own: nothing else is reset.
+-- SAM-5 "Logical unit reset": every nexus gets the unit attention BUS DEVICE RESET FUNCTION OCCURRED. Own: nothing
+-- else is reset.
 abbrev pub reset_by : TaskFunction → List ℕ → UnitStates → UnitStates
 reset_by functions.LogicalUnitReset lun units = raised_for_all_at lun BusDeviceResetFunctionOccurred units
 reset_by functions.TargetWarmReset lun units = raised_everywhere BusDeviceResetFunctionOccurred units
@@ -255,12 +256,13 @@ reset_by _ lun units = units
 unfoldable pub reset : List ℕ → ℕ → World → World
 reset header target w = record w { units = changed_units (reset_by (function_of header) (lun_field header)) (Some target) w.units }
 
--- a function of the session of connection c: the other sessions lose what it reaches, in rising number of their connections
+-- a function of the session of connection c: the other sessions lose what it reaches, in rising order of connection
+-- number
 unfoldable pub carry_out : ℕ → ℕ → World → List ℕ → World
 carry_out c target w header =
     if reaches_others (function_of header) then reset header target (fold (lose_one header target c) w connections) else w
 
--- one after the other, for the session's target, where it has one
+-- the functions in order, for the session's target, if it has one
 abbrev pub carry_out_for : ℕ → Option ℕ → List (List ℕ) → World → World
 carry_out_for c None headers w = w
 carry_out_for c (Some target) headers w = fold (carry_out c target) w headers
@@ -276,11 +278,11 @@ settled_by (Some past) marks place target c w =
 unfoldable pub settle_one : List Mark → ℕ → ℕ → World → ℕ → World
 settle_one marks place target w c = settled_by (past_of (present c w)) marks place target c w
 
--- the sessions of a target, in rising number of their connections
+-- the sessions of a target, in rising order of connection number
 unfoldable pub settle : List Mark → ℕ → ℕ → World → World
 settle marks place target w = fold (settle_one marks place target) w connections
 
--- of the session's target, where it has one
+-- the same for the session's target, if it has one
 abbrev pub settle_for : List Mark → ℕ → Option ℕ → World → World
 settle_for marks place None w = w
 settle_for marks place (Some target) w = settle marks place target w
@@ -316,7 +318,7 @@ abbrev pub comes : Setting → List Mark → ℕ → ℕ → Arrival → World �
 comes s marks c place (Whole frame) w = taken_by s marks c place frame (present c w) w
 comes s marks c place TooLong w = close c w
 
--- what becomes whole on a connection, at its place
+-- an arrival on a connection, at its place
 unfoldable pub arrive : Setting → List Mark → ℕ → World → ℕ × Arrival → World
 arrive s marks c w arrival = take_step marks c (Arriving arrival.0) (comes s marks c arrival.0 arrival.1) w
 
@@ -327,7 +329,7 @@ brought (Some life) piece = new_arrivals life.bytes piece
 abbrev pub longer : List ℕ → Life → Life
 longer piece life = record life { bytes = life.bytes ++ piece }
 
--- a piece: what it brings, one after the other, and then the event's end
+-- a piece: its arrivals in order, and then the event's end
 unfoldable pub bring : Setting → List Mark → ℕ → List ℕ → World → World
 bring s marks c piece w = take_step marks c AtEnd (λ v. v) (fold (arrive s marks c) (changed (longer piece) c w) (brought (present c w) piece))
 
@@ -336,14 +338,14 @@ happen s marks w (Open c) = record w { lives = w.lives ++ born c ∷ [] }
 happen s marks w (Bytes c piece) = bring s marks c piece w
 happen s marks w (Gone c) = end c w
 
--- an event begins, in which commands come out so
+-- the beginning of an event, in which commands come out as these comings say
 abbrev pub begun_event : List Coming → World → World
 begun_event comings w = record w { reached = []; comings = comings }
 
 abbrev pub happened : Setting → World → Happening → World
 happened s w h = happen s h.marks (begun_event h.comings w) h.event
 
--- no life, and the units that the target is made with
+-- the World of a new target: no life, and the units of the setting
 abbrev pub new_world : Setting → World
 new_world s = record { lives = []; units = s.units; reached = []; comings = [] }
 

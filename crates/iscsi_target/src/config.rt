@@ -1,6 +1,6 @@
-//! What a target is made with.
+//! The configuration of a target.
 
-/// The portal's address and the targets behind it.
+/// The portal's address and the targets that it serves.
 #[derive(Debug, Drop)]
 pub struct Config {
     /// The address that initiators connect to, as text.

@@ -1,4 +1,4 @@
-//! One connection: its bytes, its phase and what waits to be sent.
+//! One connection: its bytes, its phase and its output that is still to be sent.
 
 ghost use Rattle.std.specs.Prelude.{◌≡◌, ◌<◌, ◌≤◌, ◌++◌, ◌∷◌, None, true, false, length, take, nat_lt, IfOk, IfSome, IfNone, OnOk, OnErr};
 ghost use Rattle.std.specs.Result.{IsErrOf};
@@ -25,10 +25,10 @@ use scsi_unit::Units;
 use std::alloc::{AllocError, Global};
 use std::marker::Model;
 
-/// So many bytes of room a connection keeps for its answers while nothing waits on it.
+/// The room, in bytes, that an idle connection keeps for its answers.
 const MOST_ROOM_KEPT: usize = 65_536;
 
-/// A connection with more bytes than this waiting is not read.
+/// The most bytes that may wait on a connection that is still read.
 const MOST_WAITING: usize = 1_048_576;
 
 /// A connection.
@@ -49,7 +49,7 @@ impl Model for Connection {
 }
 
 impl Connection {
-    /// A connection that is not open. It takes no memory.
+    /// Returns a connection that is not open. Allocates nothing.
     pub(crate) fn free(alloc: Global) -> Connection
         ensures { result ≡ free_link }
     {
@@ -60,7 +60,7 @@ impl Connection {
         }
     }
 
-    /// A connection that has just been opened. It takes no memory.
+    /// Returns a connection that has just been opened. Allocates nothing.
     pub(crate) fn opened(alloc: Global, c: usize) -> Connection
         requires { c < 64 }
         ensures { result ≡ opened_link c }
@@ -72,27 +72,27 @@ impl Connection {
         }
     }
 
-    /// Nothing more is read.
+    /// Stops reading from the connection. What waits is still sent.
     pub(crate) fn shut(&mut self)
         ensures { self.new ≡ shut_link self.old }
     {
         self.phase = Phase::Closing;
     }
 
-    /// Keeps a further piece of the bytes.
+    /// Keeps a further piece of the connection's bytes. If an allocation fails, nothing changes.
     pub(crate) fn keep(&mut self, piece: &[u8], spares: &mut SpareBuffers) -> Result<(), Memory>
         requires { is_reading self.old.phase ≡ true }
         ensures ok { OnOk result (self.new ≡ record self.old { half = self.old.half ++ piece.now }) }
         ensures err { OnErr result (self.new ≡ self.old) }
     {
-        // The framer has no other fault here.
+        // The framer reports no other fault here.
         if self.framer.feed_with(piece, spares).is_err() {
             return Err(Memory);
         }
         Ok(())
     }
 
-    /// The first whole frame, taken from the front of the bytes.
+    /// Takes the first whole frame from the front of the bytes. Returns `None` if no frame is whole yet.
     pub(crate) fn next_frame(&mut self) -> Result<Option<Frame>, PduFault>
         requires { is_reading self.old.phase ≡ true }
         ensures given { IfOk result (λ o. IfSome o (λ f. frames self.old.half ≡ f ∷ frames self.new.half)) }
@@ -109,7 +109,7 @@ impl Connection {
         self.framer.next()
     }
 
-    /// An answer waits to be sent. Where an allocation fails nothing changes.
+    /// Queues an answer. If an allocation fails, nothing changes.
     fn send(&mut self, answer: &Answer) -> Result<(), Memory>
         ensures ok { OnOk result (self.new ≡ record self.old { waiting = self.old.waiting ++ spelling answer.now }) }
         ensures err { OnErr result (self.new ≡ self.old) }
@@ -119,8 +119,8 @@ impl Connection {
         Ok(())
     }
 
-    /// A Login request is taken, where a login is under way. It is answered here, but for the answer
-    /// with which full feature phase begins, which is given with its session.
+    /// Takes a Login request, if a login is in progress, and queues its answer. The answer that begins full feature
+    /// phase is not queued: it is returned with the parameters of its session.
     pub(crate) fn log_in(
         &mut self,
         request: &Frame,
@@ -155,8 +155,8 @@ impl Connection {
         }
     }
 
-    /// Full feature phase begins with this answer, and the nexus joins its target's units. Where an
-    /// allocation fails nothing changes.
+    /// Queues this answer, with which full feature phase begins, and joins the nexus to its target's units. If an
+    /// allocation fails, nothing changes.
     pub(crate) fn begin<S: Store>(
         &mut self,
         alloc: Global,
@@ -177,8 +177,8 @@ impl Connection {
         Ok(())
     }
 
-    /// Full feature phase begins with this answer for a discovery session, which joins no units. Where an
-    /// allocation fails nothing changes.
+    /// Queues this answer, with which full feature phase of a discovery session begins; it joins no units. If an
+    /// allocation fails, nothing changes.
     pub(crate) fn begin_discovery(
         &mut self,
         alloc: Global,
@@ -194,7 +194,7 @@ impl Connection {
         Ok(())
     }
 
-    /// The next bytes to be sent, as many as stand together.
+    /// Returns the next bytes to be sent, as many as are contiguous.
     #[tactic(auto, using(crate::proofs::Sent::front_within))]
     pub(crate) fn out(&self) -> &[u8]
         ensures front { result.now ≡ take (length result.now) self.now.waiting }
@@ -204,15 +204,15 @@ impl Connection {
         self.waiting.front()
     }
 
-    /// Appends all that waits to be sent.
+    /// Appends all bytes that wait to be sent.
     pub(crate) fn copy_to(&self, bytes: &mut Vec<u8>) -> Result<(), AllocError>
         ensures { OnOk result (bytes.new.items ≡ bytes.old.items ++ self.now.waiting) }
     {
         self.waiting.copy_to(bytes)
     }
 
-    /// Of so many bytes that were sent, those that stood together are taken from the front. Says how many these are, and
-    /// gives the buffer of a command's data that was sent to its end.
+    /// Removes up to `n` sent bytes from the front, as many as were contiguous. Returns their number, and the buffer
+    /// of a command's data if all of it was sent.
     pub(crate) fn skip_front(&mut self, n: usize) -> (usize, Option<BytesMut>)
         ensures within { result.0 ≤ n }
         ensures some { 0 < n → n ≤ length self.old.waiting → 0 < result.0 }
@@ -221,21 +221,21 @@ impl Connection {
         self.waiting.skip_front(n)
     }
 
-    /// Where nothing waits, the room of large answers goes back to the system.
+    /// Returns the room of large answers to the system if nothing waits.
     pub(crate) fn rest(&mut self, alloc: Global)
         ensures { self.new ≡ self.old }
     {
         self.waiting.rest(alloc, MOST_ROOM_KEPT);
     }
 
-    /// So many bytes wait that nothing is to be read: more than 1,048,576.
+    /// Returns whether more than 1,048,576 bytes wait, so that the connection is not to be read.
     pub(crate) fn is_full(&self) -> bool
         ensures { result ≡ nat_lt most_waiting (length self.now.waiting) }
     {
         self.waiting.is_longer_than(MOST_WAITING)
     }
 
-    /// No command of the session can be done, or there is none.
+    /// Returns whether no command of the session can be done; true as well without a session.
     pub(crate) fn is_settled(&self) -> bool
         ensures { result ≡ is_settled self.now.phase }
     {
@@ -245,14 +245,14 @@ impl Connection {
         }
     }
 
-    /// Nothing waits to be sent, and the connection is not closing.
+    /// Returns whether nothing waits to be sent and the connection is not closing.
     pub(crate) fn is_silent(&self) -> bool
         ensures { result ≡ is_silent self.now }
     {
         self.waiting.is_empty() && !self.phase.is_closing()
     }
 
-    /// How many bytes are missing of the header, or of its frame.
+    /// Returns how many bytes are missing of the next header, or of its frame.
     pub(crate) fn want(&self) -> usize
         requires { is_reading self.now.phase ≡ true }
         ensures { result ≡ wanted self.now.half }

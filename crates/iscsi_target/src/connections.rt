@@ -1,4 +1,4 @@
-//! All connections, and what was found of those that nobody has changed since.
+//! All connections, and which of them are known to be idle since their last change.
 
 ghost use Rattle.std.specs.Prelude.{◌≡◌, ◌<◌, ◌≤◌, ℕ, true, length, replicate, slice_index_or, slice_set, IfOk, IfSome, IfNone};
 ghost use Rattle.std.specs.Borrow.{sem};
@@ -12,15 +12,15 @@ use out_of_memory::Memory;
 use std::alloc::Global;
 use std::marker::Model;
 
-/// The connections under their numbers. Clauses see them as a list.
+/// The connections by number. Clauses see them as a list.
 ///
-/// Most of them have nothing to do at most times, so each that was found to be so is passed over until it is lent to be changed.
+/// Most connections are idle at most times. One that was found idle is skipped until it is borrowed mutably.
 #[derive(Drop)]
 pub(crate) struct Connections {
     items: Vec<Connection>,
-    /// Settling the session of any other does nothing.
+    /// A superset of the connections whose sessions have something to settle.
     unsettled: NumberSet,
-    /// On any other nothing waits to be sent, and it is not closing.
+    /// A superset of the connections that are closing or have bytes to send.
     busy: NumberSet,
 }
 
@@ -37,7 +37,7 @@ impl Model for Connections {
         × IsTrueOfOthers is_silent l.busy l.items.items };
 }
 
-/// Every connection, none of them open.
+/// Returns all connections, none of them open.
 fn free_connections(alloc: Global) -> Result<Vec<Connection>, Memory>
     ensures { IfOk result (λ connections. connections.items ≡ replicate 64 free_link) }
 {
@@ -49,7 +49,7 @@ fn free_connections(alloc: Global) -> Result<Vec<Connection>, Memory>
 }
 
 impl Connections {
-    /// No connection is open.
+    /// Returns all connections, none of them open.
     pub(crate) fn free(alloc: Global) -> Result<Connections, Memory>
         ensures { IfOk result (λ connections. connections ≡ replicate 64 free_link) }
     {
@@ -61,7 +61,7 @@ impl Connections {
         })
     }
 
-    /// All of them, in their order.
+    /// Returns all connections in the order of their numbers.
     #[inline]
     pub(crate) fn as_slice(&self) -> &[Connection]
         ensures value { result.now ≡ self.now }
@@ -69,7 +69,7 @@ impl Connections {
         self.items.as_slice()
     }
 
-    /// The connection with this number.
+    /// Returns the connection with this number.
     #[inline]
     pub(crate) fn at(&self, c: usize) -> &Connection
         requires { c < 64 }
@@ -78,7 +78,7 @@ impl Connections {
         &self.items[c]
     }
 
-    /// The connection with this number, to be changed.
+    /// Borrows the connection with this number mutably, and marks it as no longer known to be idle.
     #[inline]
     pub(crate) fn at_mut(&mut self, c: usize) -> &mut Connection
         requires { c < 64 }
@@ -90,7 +90,7 @@ impl Connections {
         &mut self.items[c]
     }
 
-    /// Another connection under this number.
+    /// Replaces the connection with this number.
     pub(crate) fn put(&mut self, c: usize, connection: Connection)
         requires { c < 64 }
         ensures { self.new ≡ slice_set self.old c connection }
@@ -98,7 +98,7 @@ impl Connections {
         *self.at_mut(c) = connection;
     }
 
-    /// The lowest number from this one on of a connection whose session has a command that can be done.
+    /// Returns the lowest number, from `from` on, of a connection whose session has a command that can be done.
     pub(crate) fn next_unsettled(&mut self, from: usize) -> Option<usize>
         ensures same { self.new ≡ self.old }
         ensures found { IfSome result (λ c. (from ≤ c) × (c < 64)) }
@@ -116,7 +116,7 @@ impl Connections {
         None
     }
 
-    /// Nothing waits to be sent on the connection, and it is not closing.
+    /// Returns whether nothing waits to be sent on the connection and it is not closing.
     #[inline]
     pub(crate) fn is_silent(&self, c: usize) -> bool
         requires { c < 64 }
@@ -125,8 +125,8 @@ impl Connections {
         !self.busy.contains(c) || self.items[c].is_silent()
     }
 
-    /// On all connections from this one on, up to the one that is found, nothing waits to be sent, and none of them is
-    /// closing.
+    /// Returns the next connection, from `from` on, that may be busy. On each one that is skipped nothing waits to be
+    /// sent, and it is not closing.
     #[inline]
     pub(crate) fn next_busy(&self, from: usize) -> Option<usize>
         ensures found { IfSome result (λ c. (from ≤ c) × (c < 64)) }
@@ -136,7 +136,7 @@ impl Connections {
         self.busy.next_from(from)
     }
 
-    /// It is remembered where nothing waits to be sent on the connection, and it is not closing.
+    /// Clears the busy flag if the connection is idle: nothing waits to be sent, and it is not closing.
     pub(crate) fn note(&mut self, c: usize)
         requires { c < 64 }
         ensures { self.new ≡ self.old }
@@ -146,7 +146,7 @@ impl Connections {
         }
     }
 
-    /// The connection gives back room that it does not need.
+    /// Releases room that the connection does not need.
     pub(crate) fn rest(&mut self, alloc: Global, c: usize)
         requires { c < 64 }
         ensures { self.new ≡ self.old }

@@ -1,4 +1,4 @@
-//! What happens to a target.
+//! The events of a target.
 
 /// One event. Connections are numbered from 0 to 63.
 #[derive(Debug, Drop)]

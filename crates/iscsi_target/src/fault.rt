@@ -1,4 +1,4 @@
-//! What the target answers where memory runs out.
+//! The error that the target returns if memory runs out.
 
 ghost use Rattle.std.specs.Prelude.{◌≡◌};
 

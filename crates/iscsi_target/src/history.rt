@@ -1,4 +1,4 @@
-//! Histories: the lists of events that a caller may make.
+//! Histories: the lists of events that a caller may produce.
 
 ghost use Rattle.std.specs.Prelude.{◌≡◌, ℕ, List, true};
 ghost use Rattle.iscsi_target.specs.History.{may_come, open_after, well_formed as is_well_formed};
@@ -8,7 +8,7 @@ ghost use Rattle.iscsi_target.specs.Runs.{IsTable};
 use crate::event::Event;
 use connection_numbers::CONNECTIONS;
 
-/// Whether the event may come where these connections are open, and if so, which are open after it.
+/// Returns whether the event may come while these connections are open. If so, updates the table of open connections.
 fn come(table: &mut [bool; CONNECTIONS], event: &Event) -> bool
     ensures allowed { (before : List ℕ) → IsTable table.old before → result ≡ may_come before (event_view event.now) }
     ensures after { result ≡ true → (before : List ℕ) → IsTable table.old before → IsTable table.new (open_after before (event_view event.now)) }
@@ -32,8 +32,8 @@ fn come(table: &mut [bool; CONNECTIONS], event: &Event) -> bool
     }
 }
 
-/// A target may be put through these events, from its beginning: each connection's number is below
-/// 64 and free where it opens, and open where it brings bytes or ends. It takes no memory.
+/// Returns whether a new target may be given these events. Each connection number is below 64, free when it opens,
+/// and open when it brings bytes or ends. Allocates nothing.
 pub fn well_formed(events: &[Event]) -> bool
     ensures { result ≡ is_well_formed (events_view events.now) }
 {

@@ -1,4 +1,4 @@
-//! The bytes of a connection: the frames that become whole are taken, one after the other.
+//! The bytes of a connection: whole frames are taken in order.
 
 ghost use Rattle.std.specs.Prelude.{◌≡◌, ◌<◌, ◌++◌, [], true, false, length, IfOk, IfSome, IfNone, OnOk, OnErr};
 ghost use Rattle.std.specs.Result.{IsErrOf};
@@ -20,7 +20,7 @@ use media_store::Store;
 use out_of_memory::Memory;
 
 impl<S: Store> Target<S> {
-    /// Keeps a further piece of a connection's bytes.
+    /// Keeps a further piece of a connection's bytes. If an allocation fails, nothing changes.
     pub(crate) fn keep(&mut self, c: usize, piece: &[u8]) -> Result<(), Memory>
         requires in_range { c < 64 }
         requires reads { is_reading (link_at self.old c).phase ≡ true }
@@ -34,7 +34,7 @@ impl<S: Store> Target<S> {
         kept
     }
 
-    /// Keeps a further piece of a connection's bytes, with spare buffers.
+    /// Keeps a further piece of a connection's bytes, using spare buffers. If an allocation fails, nothing changes.
     fn keep_with(&mut self, c: usize, piece: &[u8], spares: &mut SpareBuffers) -> Result<(), Memory>
         requires in_range { c < 64 }
         requires reads { is_reading (link_at self.old c).phase ≡ true }
@@ -46,7 +46,7 @@ impl<S: Store> Target<S> {
         connection.keep(piece, spares)
     }
 
-    /// The spare buffers of a target's units. There are none without a target.
+    /// Lends the spare buffers of a target's units. Without a target there are none.
     #[tactic(auto, using(crate::proofs::Sent::same_units))]
     fn lend_buffers(&mut self, target: Option<usize>) -> SpareBuffers
         requires { IsTargetBelow (length self.old.units) target }
@@ -59,7 +59,7 @@ impl<S: Store> Target<S> {
         units.lend_buffers()
     }
 
-    /// They come back.
+    /// Returns the spare buffers to the target's units.
     #[tactic(auto, using(crate::proofs::Sent::same_units))]
     fn return_buffers(&mut self, target: Option<usize>, spares: SpareBuffers)
         requires { IsTargetBelow (length self.old.units) target }
@@ -72,7 +72,7 @@ impl<S: Store> Target<S> {
         units.return_buffers(spares);
     }
 
-    /// The first whole frame of a connection, taken from the front of its bytes.
+    /// Takes the first whole frame of a connection from the front of its bytes.
     fn next_frame(&mut self, c: usize) -> Result<Option<Frame>, PduFault>
         requires in_range { c < 64 }
         requires reads { is_reading (link_at self.old c).phase ≡ true }
@@ -90,7 +90,7 @@ impl<S: Store> Target<S> {
         connection.next_frame()
     }
 
-    /// The whole frames of a connection are taken, one after the other.
+    /// Takes all whole frames of a connection in order. Stops if the connection closes.
     pub(crate) fn take_frames(&mut self, c: usize) -> Result<(), Starved>
         requires in_range { c < 64 }
         requires reads { is_reading (link_at self.old c).phase ≡ true }
@@ -106,8 +106,8 @@ impl<S: Store> Target<S> {
         outcome
     }
 
-    /// The first whole frame of a connection is taken, where there is one. A header that names too much
-    /// data is a violation.
+    /// Takes the first whole frame of a connection, if there is one. A header that names too much data is a
+    /// violation.
     fn take_next(&mut self, c: usize) -> Option<Result<(), Starved>>
         requires in_range { c < 64 }
         requires reads { is_reading (link_at self.old c).phase ≡ true }
@@ -126,7 +126,7 @@ impl<S: Store> Target<S> {
         }
     }
 
-    /// One frame of a connection, in its phase. Where an allocation fails that connection is closed, as just
+    /// Takes one frame of a connection, by its phase. If an allocation fails, the connection is closed, as if just
     /// before one of the frame's steps.
     fn take_frame(&mut self, c: usize, frame: Frame) -> Result<(), Starved>
         requires in_range { c < 64 }
@@ -143,7 +143,7 @@ impl<S: Store> Target<S> {
         }
     }
 
-    /// The first frame of a connection is a Login request, or a violation.
+    /// Takes a frame before full feature phase: a Login request is answered, any other frame is a violation.
     #[tactic(auto, unfolding(crate::specs::World::is_login))]
     fn enter(&mut self, c: usize, frame: &Frame) -> Result<(), Starved>
         requires in_range { c < 64 }

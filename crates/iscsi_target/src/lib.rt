@@ -1,5 +1,5 @@
-//! An iSCSI target (RFC 7143) as one value: connections bring bytes, answers wait on them, and logical
-//! units (SAM-5, SPC-4) do the commands.
+//! An iSCSI target (RFC 7143) as one value. Connections bring bytes and carry answers; logical units (SAM-5, SPC-4)
+//! perform the commands.
 //!
 //! ```text
 //!                  ┌───────────────────── Target ─────────────────────┐
@@ -13,13 +13,13 @@
 //!
 //! Promised, and proved:
 //!
-//! - For every list of openings, pieces of bytes and closings on up to 64 connections, a [`Target`]
-//!   answers what a plainly defined machine answers, the World of `specs/World.antt` (the clauses
-//!   `stands`), as long as the stores of its units are honest and no call of one has failed.
-//! - Where an allocation fails one connection closes between two steps: each request was done and answered whole
-//!   or did nothing, and all other connections go on (`starved`).
-//! - Where no allocation fails, the answers of the connections that name a target, and its units, are what they are
-//!   without all other connections ([`laws::targets_are_isolated`]).
+//! - A [`Target`] answers what a plainly defined machine answers, the World of `specs/World.antt` (clauses `stands`).
+//!   This holds for every list of openings, pieces of bytes and closings on up to 64 connections. It holds as long as
+//!   the stores of its units are honest and no call of one has failed.
+//! - If an allocation fails, one connection closes between two steps. Each request was done and answered whole or did
+//!   nothing, and all other connections go on (`starved`).
+//! - If no allocation fails, other connections change neither the answers of the connections that name a target, nor
+//!   its units ([`laws::targets_are_isolated`]).
 //! - No connection makes the target hold more than 67,108,864 bytes ([`laws::calls_keep_bounded`]).
 #![tactic(auto)]
 

@@ -1,4 +1,4 @@
-//! A login: its requests are answered, and full feature phase begins.
+//! Logins: their requests are answered, and full feature phase begins.
 
 ghost use Rattle.std.specs.Prelude.{◌≡◌, ◌<◌, true, length, IfSome, OnOk, OnErr};
 ghost use Rattle.iscsi_login.specs.LoginState.{LoginState, IsTargetBelow};
@@ -14,7 +14,7 @@ use media_store::Store;
 use out_of_memory::Memory;
 
 impl<S: Store> Target<S> {
-    /// A Login request is answered. Where an allocation fails the connection is to be closed.
+    /// Answers a Login request. If an allocation fails, the caller closes the connection.
     #[tactic(auto, unfolding(crate::specs::Machine::logged_in))]
     pub(crate) fn log_in(&mut self, c: usize, request: &Frame) -> Result<(), Memory>
         requires in_range { c < 64 }
@@ -31,8 +31,8 @@ impl<S: Store> Target<S> {
         }
     }
 
-    /// Full feature phase begins, and an older session of the same nexus with the same target is
-    /// ended. Where an allocation fails nothing changes.
+    /// Begins full feature phase, and ends an older session of the same nexus with the same target. If an allocation
+    /// fails, nothing changes.
     fn begin(&mut self, c: usize, session: Params, answer: &Answer) -> Result<(), Memory>
         requires in_range { c < 64 }
         requires reads { is_reading (link_at self.old c).phase ≡ true }
@@ -47,8 +47,8 @@ impl<S: Store> Target<S> {
         Ok(())
     }
 
-    /// Full feature phase begins, and the nexus joins the units of its target, where it has one. Where an
-    /// allocation fails nothing changes.
+    /// Begins full feature phase, and joins the nexus to the units of its target, if it has one. If an allocation
+    /// fails, nothing changes.
     #[tactic(auto, unfolding(crate::specs::World::changed_units))]
     fn begin_session(&mut self, c: usize, session: Params, answer: &Answer) -> Result<(), Memory>
         requires in_range { c < 64 }
@@ -71,7 +71,7 @@ impl<S: Store> Target<S> {
         }
     }
 
-    /// Nothing more is read on this connection, where one is given.
+    /// Stops reading from this connection, if one is given.
     fn shut(&mut self, before: Option<usize>)
         requires { IfSome before (λ d. d < 64) }
         ensures { self.new ≡ shut_older before self.old }

@@ -6,7 +6,7 @@ ghost use Rattle.iscsi_target.specs.NumberSet.{is_in};
 use connection_numbers::CONNECTIONS;
 use std::marker::Model;
 
-/// A set of connection numbers. Clauses see it as a number whose bits say who is in it.
+/// A set of connection numbers. Clauses see it as a number whose set bits are the members.
 #[derive(Drop)]
 pub(crate) struct NumberSet {
     bits: u64,
@@ -20,7 +20,7 @@ impl Model for NumberSet {
     ghost view = { λ s. s.bits };
 }
 
-/// The lowest bit from this one on that is set.
+/// Returns the lowest set bit from `from` on.
 fn next_bit(bits: u64, from: usize) -> Option<usize>
     ensures found { IfSome result (λ c. (from ≤ c) × (c < 64)) }
     ensures before { IfSome result (λ c. (d : ℕ) → from ≤ d → d < c → is_in bits d ≡ false) }
@@ -37,14 +37,14 @@ fn next_bit(bits: u64, from: usize) -> Option<usize>
 }
 
 impl NumberSet {
-    /// All numbers.
+    /// Returns the set of all numbers.
     pub(crate) fn all() -> NumberSet
         ensures { (c : ℕ) → c < 64 → is_in result c ≡ true }
     {
         NumberSet { bits: u64::MAX }
     }
 
-    /// This number is in it.
+    /// Returns whether this number is in the set.
     #[inline]
     pub(crate) fn contains(&self, c: usize) -> bool
         requires { c < 64 }
@@ -53,7 +53,7 @@ impl NumberSet {
         self.bits >> c & 1 == 1
     }
 
-    /// This number is in it from now on.
+    /// Adds this number to the set.
     #[inline]
     pub(crate) fn insert(&mut self, c: usize)
         requires { c < 64 }
@@ -63,7 +63,7 @@ impl NumberSet {
         self.bits |= 1 << c;
     }
 
-    /// This number is not in it from now on.
+    /// Removes this number from the set.
     #[inline]
     pub(crate) fn remove(&mut self, c: usize)
         requires { c < 64 }
@@ -73,7 +73,7 @@ impl NumberSet {
         self.bits &= !(1 << c);
     }
 
-    /// The lowest number in it from this one on.
+    /// Returns the lowest number in the set from `from` on.
     #[inline]
     pub(crate) fn next_from(&self, from: usize) -> Option<usize>
         ensures found { IfSome result (λ c. (from ≤ c) × (c < 64)) }

@@ -1,5 +1,5 @@
-//! What the Task Management Functions of one session do to the rest of its target (RFC 7143 §11.5.1): the other
-//! sessions lose the commands that they reach, and the units tell of it. It takes no memory.
+//! The effect of a session's Task Management Functions on the rest of its target (RFC 7143 §11.5.1). The other
+//! sessions lose the commands that they reach, and the units raise unit attentions. Nothing here allocates.
 
 ghost use Rattle.std.specs.Prelude.{◌≡◌, ℕ, ◌<◌, List, [], Some, None, true, length};
 ghost use Rattle.std.specs.List.{fold};
@@ -25,7 +25,7 @@ use media_store::Store;
 use scsi_sense::{Attention, Nexus};
 use scsi_unit::Units;
 
-/// The numbers of the units of a session's target, where it has one.
+/// Returns the numbers of the units of a session's target. Without a target there are none.
 pub(crate) fn luns_of<S: Store>(all: &[Units<S>], target: Option<usize>) -> &[u8]
     ensures { result.now ≡ numbers_of (units_at target all.now) }
 {
@@ -38,7 +38,7 @@ pub(crate) fn luns_of<S: Store>(all: &[Units<S>], target: Option<usize>) -> &[u8
     }
 }
 
-/// A nexus that lost commands by CLEAR TASK SET is to be told.
+/// Raises the unit attention of a nexus that lost commands by CLEAR TASK SET.
 fn tell<S: Store>(units: &mut Units<S>, nexus: &Nexus, function: &Header)
     ensures { units.new ≡ told_by (function_of function.now) (lun_field function.now) nexus.now units.old }
 {
@@ -48,7 +48,7 @@ fn tell<S: Store>(units: &mut Units<S>, nexus: &Nexus, function: &Header)
     }
 }
 
-/// Every nexus is to be told of a reset.
+/// Raises the unit attention of a reset for every nexus.
 fn reset<S: Store>(units: &mut Units<S>, function: &Header)
     ensures { units.new ≡ reset_by (function_of function.now) (lun_field function.now) units.old }
 {
@@ -60,7 +60,8 @@ fn reset<S: Store>(units: &mut Units<S>, function: &Header)
     }
 }
 
-/// A session loses the commands that the function of another one reaches.
+/// Removes the commands of a session that the function of another session reaches. If it lost any to CLEAR TASK SET,
+/// its nexus gets the unit attention.
 pub(crate) fn lose<S: Store>(session: &mut Session, units: &mut Units<S>, function: &Header)
     ensures runs { (waiting : List ℕ) (comings : List Coming) → Runs (λ fails place. losing function.now) None true session.old session.new
         (output waiting []) (output waiting []) (lend units.old comings) (lend units.new comings) }
@@ -80,8 +81,7 @@ pub(crate) fn lose<S: Store>(session: &mut Session, units: &mut Units<S>, functi
 }
 
 impl<S: Store> Target<S> {
-    /// The functions that acted in the session of connection c are carried out for the rest of its target, where it
-    /// has one.
+    /// Carries out the functions that acted in the session of connection c for the rest of its target, if it has one.
     pub(crate) fn carry_out_for(&mut self, c: usize, target: Option<usize>, functions: &[Header])
         requires { IsTargetBelow (length self.old.units) target }
         ensures carries { CarriesOut (carry_out_for c target functions.now) self.old self.new }
@@ -94,7 +94,7 @@ impl<S: Store> Target<S> {
         }
     }
 
-    /// One after the other.
+    /// Carries out the functions in order.
     fn carry_out_all(&mut self, c: usize, target: usize, functions: &[Header])
         requires { target < length self.old.units }
         ensures carries { CarriesOut (λ w. fold (carry_out c target) w functions.now) self.old self.new }
@@ -106,7 +106,8 @@ impl<S: Store> Target<S> {
         }
     }
 
-    /// A function: the other sessions of the target lose what it reaches, and a reset is told.
+    /// Carries out a function: the other sessions of the target lose what it reaches, and a reset raises its unit
+    /// attention.
     #[tactic(auto, unfolding(crate::specs::World::carry_out))]
     fn carry_out(&mut self, c: usize, target: usize, function: &Header)
         requires { target < length self.old.units }
@@ -120,7 +121,7 @@ impl<S: Store> Target<S> {
         }
     }
 
-    /// The sessions of the target but that of connection c lose what the function reaches.
+    /// Removes what the function reaches from each session of the target except that of connection c.
     fn lose_all(&mut self, c: usize, target: usize, function: &Header)
         requires { target < length self.old.units }
         ensures carries { CarriesOut (λ w. fold (lose_one function.now target c) w connections) self.old self.new }
@@ -132,7 +133,8 @@ impl<S: Store> Target<S> {
         }
     }
 
-    /// The session of connection d loses what the function reaches, where it is one of this target and not that of c.
+    /// Removes what the function reaches from the session of connection d, if it is of this target and not that of
+    /// connection c.
     fn lose_one(&mut self, c: usize, d: usize, target: usize, function: &Header)
         requires in_range { d < 64 }
         requires target { target < length self.old.units }
@@ -149,7 +151,7 @@ impl<S: Store> Target<S> {
         self.lose_session(d, target, function);
     }
 
-    /// The session of a connection loses what the function reaches.
+    /// Removes what the function reaches from the session of a connection.
     fn lose_session(&mut self, d: usize, target: usize, function: &Header)
         requires in_range { d < 64 }
         requires target { target < length self.old.units }
@@ -167,7 +169,7 @@ impl<S: Store> Target<S> {
         connection.lose(units, function);
     }
 
-    /// Every nexus is to be told of a reset.
+    /// Raises the unit attention of a reset for every nexus.
     fn reset(&mut self, target: usize, function: &Header)
         requires { target < length self.old.units }
         ensures carries { CarriesOut (reset_in function.now target) self.old self.new }
@@ -177,7 +179,7 @@ impl<S: Store> Target<S> {
         self.reset_units(target, function);
     }
 
-    /// The units of a target tell every nexus of a reset.
+    /// Raises the unit attention of a reset for every nexus, at the units of a target.
     #[tactic(auto, unfolding(crate::specs::World::changed_units))]
     fn reset_units(&mut self, target: usize, function: &Header)
         requires { target < length self.old.units }

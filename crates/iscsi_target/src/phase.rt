@@ -1,4 +1,4 @@
-//! Where a connection is.
+//! The phase of a connection.
 
 use iscsi_login::Login;
 use iscsi_session::Session;
@@ -12,7 +12,7 @@ pub(crate) enum Phase {
     Login(Login),
     /// Full feature phase.
     FullFeature(Session),
-    /// What waits is still sent, and nothing more is read.
+    /// Closing: what waits is still sent, and nothing more is read.
     Closing,
 }
 
@@ -20,21 +20,21 @@ impl Phase {
     ghost use Rattle.std.specs.Prelude.{◌≡◌};
     ghost use Rattle.iscsi_target.specs.Machine.{is_reading, is_free, is_closing};
 
-    /// Frames are read in this phase.
+    /// Returns whether frames are read in this phase.
     pub(crate) fn reads(&self) -> bool
         ensures { result ≡ is_reading self.now }
     {
         matches!(self, Phase::Login(_) | Phase::FullFeature(_))
     }
 
-    /// The connection is not open.
+    /// Returns whether the connection is not open.
     pub(crate) fn is_free(&self) -> bool
         ensures { result ≡ is_free self.now }
     {
         matches!(self, Phase::Free)
     }
 
-    /// What waits is still sent, and nothing more is read.
+    /// Returns whether the connection is closing: what waits is still sent, and nothing more is read.
     pub(crate) fn is_closing(&self) -> bool
         ensures { result ≡ is_closing self.now }
     {

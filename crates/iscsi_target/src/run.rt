@@ -1,4 +1,4 @@
-//! A target put through a whole history.
+//! A target that runs through a whole history.
 
 ghost use Rattle.std.specs.Prelude.{All, ◌≡◌, ℕ, List, [], ◌∷◌, ◌++◌, true, length, map, IfOk, OnOk};
 ghost use Rattle.iscsi_target.specs.Known.{known_in};
@@ -22,11 +22,10 @@ use out_of_memory::Memory;
 use scsi_unit::Units;
 use std::alloc::Global;
 
-/// What was answered in each life of a connection, in the order in which they began.
+/// The bytes answered in each life of a connection, in the order in which the lives began.
 pub type Outputs = Vec<Vec<u8>>;
 
-/// What is kept of a life of a connection: the connection until it ends, and from then on the bytes
-/// that it was answered.
+/// One life of a connection: its connection until it ends, and from then on the bytes that it was answered.
 #[derive(Drop)]
 pub(crate) struct Row {
     connection: Option<usize>,
@@ -40,7 +39,7 @@ impl From<Starved> for Memory {
 }
 
 impl Row {
-    /// Keeps what waits on the connection, where it has not ended before.
+    /// Keeps what waits on the connection, unless it has ended before.
     fn finish<S: Store>(&mut self, target: &Target<S>) -> Result<(), Memory>
         ensures { OnOk result (seen self.new ≡ finished target.now (seen self.old)) }
     {
@@ -51,7 +50,7 @@ impl Row {
         Ok(())
     }
 
-    /// A connection ends.
+    /// Ends the row if it is of this connection.
     fn end<S: Store>(&mut self, target: &Target<S>, c: usize) -> Result<(), Memory>
         ensures { OnOk result (seen self.new ≡ ended target.now c (seen self.old)) }
     {
@@ -62,7 +61,7 @@ impl Row {
     }
 }
 
-/// A connection ends: what waits on it is kept.
+/// Ends a connection: what waits on it is kept.
 fn end<S: Store>(target: &Target<S>, rows: &mut [Row], c: usize) -> Result<(), Memory>
     ensures { OnOk result (map seen rows.new ≡ map (ended target.now c) (map seen rows.old)) }
 {
@@ -72,7 +71,7 @@ fn end<S: Store>(target: &Target<S>, rows: &mut [Row], c: usize) -> Result<(), M
     Ok(())
 }
 
-/// The history ends: what waits on the connections that are still open is kept.
+/// Ends the history: what waits on the connections that are still open is kept.
 fn finish<S: Store>(target: &Target<S>, rows: &mut [Row]) -> Result<(), Memory>
     ensures { OnOk result (map seen rows.new ≡ map (finished target.now) (map seen rows.old)) }
 {
@@ -82,7 +81,7 @@ fn finish<S: Store>(target: &Target<S>, rows: &mut [Row]) -> Result<(), Memory>
     Ok(())
 }
 
-/// The bytes of each row.
+/// Returns the bytes of each row.
 fn bytes_of(alloc: Global, rows: Vec<Row>) -> Result<Outputs, Memory>
     ensures { IfOk result (λ outputs. outputs.items ≡ map (λ row. row.bytes) rows.items) }
 {
@@ -90,7 +89,7 @@ fn bytes_of(alloc: Global, rows: Vec<Row>) -> Result<Outputs, Memory>
     Ok(outputs)
 }
 
-/// What was answered in each life.
+/// Returns the bytes answered in each life.
 fn outputs<S: Store>(
     alloc: Global,
     target: &Target<S>,
@@ -102,7 +101,7 @@ fn outputs<S: Store>(
     bytes_of(alloc, rows)
 }
 
-/// One event that may come.
+/// Applies one event that may come.
 fn take_event<S: Store>(
     alloc: Global,
     target: &mut Target<S>,
@@ -137,11 +136,16 @@ fn take_event<S: Store>(
 }
 
 impl<S: Store + Drop> Target<S> {
-    /// Puts a new target through events that are [`well_formed`](crate::well_formed). Gives what was
-    /// answered in each life of a connection, and the target as it is then, of which nothing was
-    /// sent: its media are those of the World. The answers of the connections that name a target of these, and what its
-    /// units keep, are those that their own events alone give (`isolated`). `Memory`: an allocation failed, also where
-    /// that would close a connection.
+    /// Puts a new target through events that are [`well_formed`](crate::well_formed). Nothing is sent meanwhile.
+    /// Returns:
+    ///
+    /// - the bytes answered in each life of a connection,
+    /// - the target after the events; if it is sound, its media are those of the World.
+    ///
+    /// Each of its targets whose units are sound is isolated (`isolated`). The answers of the connections that name
+    /// it, and what its units keep, are those of their own events alone.
+    ///
+    /// `Memory`: an allocation failed, also if that would only close a connection.
     pub fn run(
         alloc: Global,
         config: Config,

@@ -1,4 +1,4 @@
-//! What waits on the connections is sent.
+//! Sending what waits on the connections.
 
 ghost use Rattle.std.specs.Prelude.{◌≡◌, ◌<◌, ◌≤◌, ◌+◌, ◌++◌, ℕ, true, length, take, IfSome, IfNone, OnOk};
 ghost use Rattle.iscsi_login.specs.LoginState.{IsTargetBelow};
@@ -15,8 +15,8 @@ use media_store::Store;
 use out_of_memory::Memory;
 
 impl<S: Store> Target<S> {
-    /// What is to be sent next on a connection, as many bytes as stand together: a front of all that waits, empty only
-    /// where nothing waits.
+    /// Returns the bytes to be sent next on a connection, as many as are contiguous. They are a prefix of all that
+    /// waits, empty only if nothing waits.
     pub fn out(&self, c: usize) -> &[u8]
         requires in_range { c < 64 }
         requires open { is_open_at self.now c ≡ true }
@@ -27,7 +27,7 @@ impl<S: Store> Target<S> {
         self.connections.at(c).out()
     }
 
-    /// Appends all that waits on a connection: nothing where it is not open.
+    /// Appends all that waits on a connection. Appends nothing if it is not open.
     pub(crate) fn copy_out(&self, c: usize, bytes: &mut Vec<u8>) -> Result<(), Memory>
         ensures { OnOk result (bytes.new.items ≡ bytes.old.items ++ (link_at self.now c).waiting) }
     {
@@ -37,7 +37,7 @@ impl<S: Store> Target<S> {
         Ok(())
     }
 
-    /// So many bytes were sent from the front of what waits on a connection.
+    /// Records that `n` bytes were sent from the front of what waits on a connection.
     pub fn sent(&mut self, c: usize, n: usize)
         requires in_range { c < 64 }
         requires open { is_open_at self.old c ≡ true }
@@ -56,8 +56,8 @@ impl<S: Store> Target<S> {
         self.rest();
     }
 
-    /// So many bytes are taken from the front of what waits on a connection. The buffers of data that was sent to its end
-    /// are used again.
+    /// Removes `n` bytes from the front of what waits on a connection. A data buffer that was sent completely is used
+    /// again.
     fn advance(&mut self, c: usize, n: usize)
         requires in_range { c < 64 }
         requires waits { n ≤ length (link_at self.old c).waiting }
@@ -73,7 +73,7 @@ impl<S: Store> Target<S> {
         }
     }
 
-    /// The target of a connection's session, where it has one, which is one of these.
+    /// Returns the target of a connection's session, if it has one. It is one of this target's.
     #[tactic(auto, using(crate::proofs::Sent::target_below))]
     pub(crate) fn home(&self, c: usize) -> Option<usize>
         requires { c < 64 }
@@ -83,8 +83,8 @@ impl<S: Store> Target<S> {
         self.connections.at(c).target()
     }
 
-    /// Of so many bytes that were sent on a connection, those that stood together are taken from the front. Says how many
-    /// these are, and gives the buffer of a command's data that was sent to its end.
+    /// Removes up to `n` sent bytes from the front of a connection, as many as were contiguous. Returns their number,
+    /// and the buffer of a command's data if all of it was sent.
     fn skip_front(&mut self, c: usize, n: usize) -> (usize, Option<BytesMut>)
         requires in_range { c < 64 }
         requires waits { n ≤ length (link_at self.old c).waiting }
@@ -97,7 +97,7 @@ impl<S: Store> Target<S> {
         connection.skip_front(n)
     }
 
-    /// The units of a target use a buffer again, where there are both.
+    /// Gives a buffer back to the units of a target, if both are given.
     #[tactic(auto, using(crate::proofs::Sent::same_units))]
     fn give_back(&mut self, target: Option<usize>, buffer: Option<BytesMut>)
         requires { IsTargetBelow (length self.old.units) target }
@@ -113,7 +113,7 @@ impl<S: Store> Target<S> {
         units.give_back(buffer);
     }
 
-    /// What is found of the connection is remembered.
+    /// Clears the busy flag of the connection if it is idle.
     fn note(&mut self, c: usize)
         requires { c < 64 }
         ensures { self.new ≡ self.old }
@@ -121,8 +121,8 @@ impl<S: Store> Target<S> {
         self.connections.note(c);
     }
 
-    /// One connection after the other gives back room that it does not need, so that one that is idle does not keep what
-    /// its largest answer took.
+    /// Releases unneeded room of one connection, the next one in turn at each call. So an idle connection does not
+    /// keep what its largest answer took.
     fn rest(&mut self)
         ensures { self.new ≡ self.old }
     {
@@ -131,7 +131,7 @@ impl<S: Store> Target<S> {
         self.connections.rest(self.alloc, c);
     }
 
-    /// Nothing waits to be sent on the connection, and it is not closing.
+    /// Returns whether nothing waits to be sent on the connection and it is not closing.
     pub fn is_silent(&self, c: usize) -> bool
         requires { c < 64 }
         ensures { result ≡ is_silent (link_at self.now c) }
@@ -139,8 +139,8 @@ impl<S: Store> Target<S> {
         self.connections.is_silent(c)
     }
 
-    /// The next connection from this one on to look at for bytes to be sent, or for its end: on all before it nothing
-    /// waits, and none of them is closing.
+    /// Returns the next connection, from `from` on, to be looked at for bytes to send or for its end. On each one
+    /// that is skipped nothing waits, and it is not closing.
     pub fn next_busy(&self, from: usize) -> Option<usize>
         ensures found { IfSome result (λ c. (from ≤ c) × (c < 64)) }
         ensures before { IfSome result (λ c. (d : ℕ) → from ≤ d → d < c → is_silent (link_at self.now d) ≡ true) }

@@ -1,5 +1,5 @@
-//! A frame of a session: it is judged, the requests that it lets be taken act, and the commands that the
-//! sessions of its target have taken are done.
+//! A frame of a session is judged, and the requests that it lets be taken act. Then the commands that the sessions of
+//! its target have taken are done.
 
 ghost use Rattle.std.specs.Prelude.{◌≡◌, ℕ, ◌<◌, [], Some, true, length};
 ghost use Rattle.iscsi_pdu.specs.Header.{header_length};
@@ -20,7 +20,7 @@ use iscsi_pdu::{Frame, Header};
 use media_store::Store;
 use out_of_memory::Memory;
 
-/// The connection that was closed first.
+/// Returns the failure of the connection that was closed first, if any was.
 pub(crate) fn earlier_of(
     earlier: Result<(), Starved>,
     later: Result<(), Starved>,
@@ -32,8 +32,8 @@ pub(crate) fn earlier_of(
 }
 
 impl<S: Store> Target<S> {
-    /// The commands that the sessions of a target have taken are done and answered, session by session.
-    /// Where an allocation fails its session is closed, and the others go on.
+    /// Performs and answers the commands that the sessions of a target have taken, session by session. If an
+    /// allocation fails, its session is closed, and the others go on.
     pub(crate) fn settle(&mut self, target: usize) -> Result<(), Starved>
         requires { target < length self.old.units }
         ensures settles { Settles target (first_starved result) self.old self.new }
@@ -50,7 +50,7 @@ impl<S: Store> Target<S> {
         outcome
     }
 
-    /// The sessions with a session's target are settled, where it has one.
+    /// Settles the sessions of this target, if one is given.
     pub(crate) fn settle_for(&mut self, target: Option<usize>) -> Result<(), Starved>
         requires { IsTargetBelow (length self.old.units) target }
         ensures settles { SettlesFor target (first_starved result) self.old self.new }
@@ -63,8 +63,8 @@ impl<S: Store> Target<S> {
         }
     }
 
-    /// The commands that a connection's session has taken are done and answered, where it is one of this
-    /// target. Where an allocation fails it is closed.
+    /// Performs and answers the commands that a connection's session has taken, if it is with this target. If an
+    /// allocation fails, the session is closed.
     fn settle_one(&mut self, c: usize, target: usize) -> Result<(), Starved>
         requires in_range { c < 64 }
         requires target { target < length self.old.units }
@@ -79,7 +79,7 @@ impl<S: Store> Target<S> {
         self.end_unless(c, goes_on)
     }
 
-    /// The commands that a connection's session has taken are done and answered: whether it goes on.
+    /// Performs and answers the commands that a connection's session has taken. Returns whether the session goes on.
     fn settle_session(&mut self, c: usize, target: usize) -> Result<bool, Memory>
         requires in_range { c < 64 }
         requires target { target < length self.old.units }
@@ -97,8 +97,8 @@ impl<S: Store> Target<S> {
         connection.settle(self.alloc, units)
     }
 
-    /// A frame of a session: it is judged and acts, and then its target's sessions are settled. Where an allocation
-    /// fails that connection is closed, as just before one of the frame's steps.
+    /// Serves a frame of a session: it is judged and acts, and then its target's sessions are settled. If an
+    /// allocation fails, that connection is closed, as if just before one of the frame's steps.
     pub(crate) fn serve(&mut self, c: usize, frame: Frame) -> Result<(), Starved>
         requires in_range { c < 64 }
         requires session { is_in_session (link_at self.old c).phase ≡ true }
@@ -116,7 +116,7 @@ impl<S: Store> Target<S> {
         earlier_of(served, settled)
     }
 
-    /// A frame is judged, and the requests that it lets be taken act: whether the session goes on.
+    /// Judges a frame, and lets the requests act that it lets be taken. Returns whether the session goes on.
     fn serve_session(
         &mut self,
         c: usize,

@@ -1,5 +1,5 @@
-//! The calls on the session of a connection: it serves a frame, its commands are done, and it loses commands to the
-//! function of another one. Where the connection has no session nothing is done.
+//! The calls on the session of a connection: it serves a frame, performs its commands, and loses commands to the
+//! function of another session. A connection without a session does nothing.
 
 ghost use Rattle.std.specs.Prelude.{◌≡◌, ℕ, List, [], length};
 ghost use Rattle.iscsi_pdu.specs.Header.{header_length};
@@ -21,7 +21,7 @@ use scsi_unit::Units;
 use std::alloc::Global;
 
 impl Connection {
-    /// The target of its session, where it has one.
+    /// Returns the target of the connection's session, if it has one.
     pub(crate) fn target(&self) -> Option<usize>
         ensures { result ≡ target_in self.now.phase }
     {
@@ -31,8 +31,8 @@ impl Connection {
         }
     }
 
-    /// Its session serves a frame, where its target has units with these numbers: whether it goes on. The Task
-    /// Management Functions that acted are orders to the target.
+    /// Serves a frame in the connection's session, whose target has units with these numbers. Returns whether the
+    /// session goes on. The Task Management Functions that acted are added to `orders`, for the target.
     pub(crate) fn serve(
         &mut self,
         frame: Frame,
@@ -54,7 +54,8 @@ impl Connection {
         session.serve(frame, luns, &mut self.waiting, orders)
     }
 
-    /// The commands that its session has taken are done and answered: whether it goes on.
+    /// Performs and answers the commands that the connection's session has taken. Returns whether the session goes
+    /// on.
     pub(crate) fn settle<S: Store>(
         &mut self,
         alloc: Global,
@@ -79,7 +80,8 @@ impl Connection {
         Ok(true)
     }
 
-    /// Its session loses the commands that the function of another one reaches, and its nexus is to be told.
+    /// Removes the commands of the connection's session that the function of another session reaches. If it lost any
+    /// to CLEAR TASK SET, its nexus gets the unit attention.
     pub(crate) fn lose<S: Store>(&mut self, units: &mut Units<S>, function: &Header)
         ensures leaves { InSession self.old.phase (λ session. LeavesSession (λ after waiting.
             LosesCommands function.now units.old units.new session after self.old.waiting waiting) session self.old self.new) }

@@ -9,7 +9,7 @@ use crate::phase::Phase;
 use iscsi_login::{Params, is_same_target};
 use out_of_memory::Memory;
 
-/// The connection has a session of the same nexus with the same target.
+/// Returns whether the connection has a session of the same nexus with the same target.
 fn is_of(connection: &Connection, session: &Params) -> bool
     ensures { result ≡ is_session_of session.now.nexus session.now.target (session_in_phase connection.now.phase) }
 {
@@ -22,7 +22,7 @@ fn is_of(connection: &Connection, session: &Params) -> bool
     }
 }
 
-/// The connection of an older session of the same nexus with the same target.
+/// Returns the connection of an older session of the same nexus with the same target.
 #[tactic(auto, unfolding(iscsi_login::specs::Session::older))]
 pub(crate) fn older(connections: &[Connection], session: &Params) -> Option<usize>
     ensures value { result ≡ older_of session.now (sessions connections.now) }
@@ -33,7 +33,7 @@ pub(crate) fn older(connections: &[Connection], session: &Params) -> Option<usiz
         .position(|connection| is_of(connection, session))
 }
 
-/// A copy of the session of a connection, where it has one.
+/// Returns a copy of the session of a connection, if it has one.
 fn copy_of(connection: &Connection) -> Result<Option<Params>, Memory>
     ensures { IfOk result (λ session. session ≡ session_in_phase connection.now.phase) }
 {
@@ -43,8 +43,7 @@ fn copy_of(connection: &Connection) -> Result<Option<Params>, Memory>
     }
 }
 
-/// A copy of the session that a TSIH names: that of connection c has TSIH c + 1 (RFC 7143
-/// §11.12.6).
+/// Returns a copy of the session that a TSIH names: that of connection c has TSIH c + 1 (RFC 7143 §11.12.6).
 pub(crate) fn named(connections: &[Connection], tsih: u16) -> Result<Option<Params>, Memory>
     ensures { IfOk result (λ session. session ≡ named_by tsih (sessions connections.now)) }
 {

@@ -1,4 +1,4 @@
-//! The target: all connections and all units, behind one state.
+//! The target: the state of all connections and all units.
 
 ghost use Rattle.std.specs.Prelude.{◌≡◌, ◌<◌, ◌≤◌, ◌+◌, ◌++◌, ◌∷◌, ℕ, List, [], true, false, not, ◌&&◌, length, IsOk, IfOk, IfErr, IfSome, IfNone, OnOk, OnErr};
 ghost use Rattle.std.specs.Result.{IsErrOf};
@@ -27,20 +27,20 @@ use scsi_unit::Units;
 use std::alloc::Global;
 use std::marker::Model;
 
-/// An iSCSI target, as RFC 7143 defines it: connections bring bytes, and answers wait on them.
+/// An iSCSI target, as RFC 7143 defines it. Connections bring bytes and carry answers.
 ///
-/// The caller opens a connection under a number below 64 that is free, feeds what comes on it, sends
-/// what waits, and says when it has ended.
+/// The caller opens a connection under a free number below 64, feeds what arrives on it, sends what waits, and
+/// reports its end.
 ///
-/// What is promised of answers and units holds where the stores of all units are honest and no call of
-/// one has failed (`WhereSound`): a target that is sound after a call was so before it.
+/// The promises about answers and units hold if the stores of all units are honest and no call of one has failed
+/// (`WhereSound`). A target that is sound after a call was sound before it.
 #[derive(Drop)]
 pub struct Target<S: Store> {
     pub(crate) alloc: Global,
     pub(crate) directory: Directory,
     pub(crate) units: Vec<Units<S>>,
     pub(crate) connections: Connections,
-    /// The connection that is looked at next for room that it does not need.
+    /// The next connection to release room that it does not need.
     pub(crate) resting: usize,
 }
 
@@ -58,8 +58,8 @@ impl<S: Store> Model for Target<S> {
 }
 
 impl<S: Store + Drop> Target<S> {
-    /// A target with these units, one list for each target of the configuration in order, and no
-    /// connection open.
+    /// Returns a target with these units, one list for each target of the configuration in order. No connection is
+    /// open.
     pub fn new(alloc: Global, config: Config, units: Vec<Units<S>>) -> Result<Target<S>, Memory>
         requires { length units.items ≡ length config.targets.items }
         ensures made { IfOk result (λ target. target ≡ new_machine (known_in config) units.items) }
@@ -81,7 +81,7 @@ impl<S: Store + Drop> Target<S> {
 }
 
 impl<S: Store> Target<S> {
-    /// Opens a connection under a free number. It takes no memory and does not fail.
+    /// Opens a connection under a free number. Allocates nothing and does not fail.
     pub fn open(&mut self, c: usize) -> Result<(), Starved>
         requires in_range { c < 64 }
         requires free { is_open_at self.old c ≡ false }
@@ -101,21 +101,22 @@ impl<S: Store> Target<S> {
         Ok(())
     }
 
-    /// Takes the next piece of a connection's bytes, of any length: each frame that becomes whole
-    /// is carried out and answered. Bytes on a closing connection are not read. `Starved`: an
-    /// allocation failed, and the connection that it names is closing from then on; the others go on.
+    /// Takes the next piece of a connection's bytes, of any length. Each frame that becomes whole is carried out and
+    /// answered. Bytes on a closing connection are not read.
+    ///
+    /// `Starved`: an allocation failed. The connection that it names is closing from then on; the others go on.
     pub fn feed(&mut self, c: usize, piece: &[u8]) -> Result<(), Starved>
         requires in_range { c < 64 }
         requires open { is_open_at self.old c ≡ true }
         ensures stands { OnOk result ((s : Setting) (sent : ℕ → ℕ) (h : History) → WhereSound self.old (Stands s sent self.old h)
             → WhereSound self.new (Stands s sent self.new (h ++ plain (Bytes c piece.now) ∷ []))) }
 
-        // Allocations that failed are marks on the event, and nothing but these is.
+        // Failed allocations are marks on the event, and only these are.
         ensures starved { IfErr result (λ starved. (s : Setting) (sent : ℕ → ℕ) (h : History) → WhereSound self.old (Stands s sent self.old h)
             → WhereSound self.new ((marks : List Mark) × IsStarved s (world s h) (Bytes c piece.now) starved.connection marks
             × Stands s sent self.new (h ++ marked marks (Bytes c piece.now) ∷ []))) }
 
-        // Of every target, whatever its stores do: the commands came out in this way.
+        // This holds of every target, whatever its stores do: the commands came out as these comings say.
         ensures came { (s : Setting) (sent : ℕ → ℕ) (h : History) → Stands s sent self.old h
             → StandsAfter s sent h (Bytes c piece.now) (first_starved result) self.new }
         ensures sound { IsSound self.new → IsSound self.old }
@@ -126,7 +127,7 @@ impl<S: Store> Target<S> {
         ensures closing { IfErr result (λ starved. is_closing (link_at self.new starved.connection).phase ≡ true) }
         ensures open { (d : ℕ) → is_open_at self.new d ≡ is_open_at self.old d }
 
-        // Where no more comes than is wanted, no connection makes the target hold more than it may.
+        // If no more comes than is wanted, no connection makes the target hold more than it may.
         ensures bounded { length piece.now ≤ want_of (link_at self.old c) → Bounded self.old → Bounded self.new }
         ensures empty { piece.now ≡ [] → IsOk result }
         ensures idle { is_closing (link_at self.old c).phase ≡ true → IsOk result }
@@ -143,7 +144,7 @@ impl<S: Store> Target<S> {
         self.take_frames(c)
     }
 
-    /// A connection has ended, and its number is free again. What waits on it is dropped.
+    /// Removes a connection that has ended, and frees its number. What waits on it is dropped.
     pub fn gone(&mut self, c: usize)
         requires in_range { c < 64 }
         requires open { is_open_at self.old c ≡ true }
@@ -162,7 +163,7 @@ impl<S: Store> Target<S> {
         self.connections.put(c, Connection::free(self.alloc));
     }
 
-    /// What waits is still sent, and nothing more is read.
+    /// Returns whether the connection is closing: what waits is still sent, and nothing more is read.
     pub fn closing(&self, c: usize) -> bool
         requires in_range { c < 64 }
         requires open { is_open_at self.now c ≡ true }
@@ -171,7 +172,7 @@ impl<S: Store> Target<S> {
         self.connections.at(c).phase.is_closing()
     }
 
-    /// The connection was opened and has not ended.
+    /// Returns whether the connection was opened and has not ended.
     pub fn is_open(&self, c: usize) -> bool
         requires { c < 64 }
         ensures { result ≡ is_open_at self.now c }
@@ -179,8 +180,8 @@ impl<S: Store> Target<S> {
         !self.connections.at(c).phase.is_free()
     }
 
-    /// How many bytes to read next: those missing of a header, or of its frame. 0 where the
-    /// connection is closing, or where more than 1,048,576 bytes wait.
+    /// Returns how many bytes to read next: those missing of a header, or of its frame. Returns 0 if the connection
+    /// is closing or more than 1,048,576 bytes wait.
     pub fn want(&self, c: usize) -> usize
         requires in_range { c < 64 }
         requires open { is_open_at self.now c ≡ true }
@@ -193,7 +194,7 @@ impl<S: Store> Target<S> {
         connection.want()
     }
 
-    /// The connection's frames are read.
+    /// Returns whether the connection's frames are read.
     pub(crate) fn reads(&self, c: usize) -> bool
         requires { c < 64 }
         ensures value { result ≡ is_reading (link_at self.now c).phase }
@@ -202,7 +203,7 @@ impl<S: Store> Target<S> {
         self.connections.at(c).phase.reads()
     }
 
-    /// The target of its session, where the connection has one.
+    /// Returns the target of the connection's session, if it has one.
     pub(crate) fn target_at(&self, c: usize) -> Option<usize>
         requires { c < 64 }
         ensures { result ≡ target_in (link_at self.now c).phase }
@@ -210,7 +211,7 @@ impl<S: Store> Target<S> {
         self.connections.at(c).target()
     }
 
-    /// The connection has a session with this target.
+    /// Returns whether the connection has a session with this target.
     pub(crate) fn is_with(&self, c: usize, target: usize) -> bool
         requires { c < 64 }
         ensures { result ≡ is_with target (link_at self.now c).phase }
@@ -218,7 +219,7 @@ impl<S: Store> Target<S> {
         is_same_target(self.target_at(c), Some(target))
     }
 
-    /// The lowest number from this one on of a connection whose session has a command that can be done.
+    /// Returns the lowest number, from `from` on, of a connection whose session has a command that can be done.
     pub(crate) fn next_unsettled(&mut self, from: usize) -> Option<usize>
         ensures same { self.new ≡ self.old }
         ensures found { IfSome result (λ c. (from ≤ c) × (c < 64)) }
@@ -229,7 +230,7 @@ impl<S: Store> Target<S> {
         self.connections.next_unsettled(from)
     }
 
-    /// The connection closes, and its session ends.
+    /// Closes the connection and ends its session.
     #[tactic(auto, unfolding(crate::specs::Machine::closed, crate::specs::World::changed_units))]
     pub(crate) fn close(&mut self, c: usize)
         requires { c < 64 }
@@ -247,7 +248,7 @@ impl<S: Store> Target<S> {
         connection.shut();
     }
 
-    /// An allocation failed: the connection closes.
+    /// Closes the connection because an allocation failed.
     pub(crate) fn starve(&mut self, c: usize) -> Starved
         requires { c < 64 }
         ensures closed { self.new ≡ closed self.old c }
@@ -258,7 +259,7 @@ impl<S: Store> Target<S> {
         Starved { connection: c }
     }
 
-    /// A session that does not go on is closed.
+    /// Closes a session that does not go on.
     pub(crate) fn end_unless(
         &mut self,
         c: usize,
@@ -269,6 +270,7 @@ impl<S: Store> Target<S> {
         ensures same { self.new ≡ ended_unless goes_on c self.old }
         ensures count { length self.old.links ≡ 64 }
     {
+        // Reads a field, so that the type's invariant is known here (clause `count`).
         let _ = &self.alloc;
         match goes_on {
             Ok(true) => Ok(()),
