@@ -1,4 +1,4 @@
--- What the log of ports says has happened to the target.
+-- The events of the target, read from the log of the ports.
 use Rattle.std.specs.Prelude.{ℕ, List, [], ◌∷◌, flat_map, if◌then◌else◌}
 use Rattle.connection_numbers.specs.Numbers.{is_number}
 use Rattle.iscsi_target.specs.History as history

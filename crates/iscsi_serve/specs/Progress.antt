@@ -1,4 +1,4 @@
--- How far the loop has come in a turn, and what each of its steps keeps.
+-- The progress of the loop in a turn, and what each of its steps keeps.
 use Rattle.std.specs.Prelude.{◌≡◌, ◌≢◌, ◌<◌, ℕ, List, [], ◌∷◌, ◌++◌, Bool, true, false, ◌&&◌, ◌||◌, ◌==◌, length, replicate, slice_index_or}
 use Rattle.std.specs.List.{list_any}
 use Rattle.iscsi_target.specs.History as history
@@ -13,11 +13,11 @@ use Rattle.iscsi_serve.specs.Served.{StaysServed, ComesOutServed}
 use Rattle.iscsi_serve.specs.Turn.{Moment, moment, is_open, is_read, room_for, ends}
 use Rattle.iscsi_ports.specs.declared.results.Named.{Named}
 
--- the test at each number is whether the connection ended in this turn
+-- entry c of the list says whether connection c ended in this turn
 abbrev pub AreEnded : List Bool → List Entry → Type 0
 AreEnded ended turn = (c : ℕ) → c < connection_limit → slice_index_or ended c false ≡ list_any (ends c) turn
 
--- none did
+-- no connection ended
 abbrev pub none_ended : List Bool
 none_ended = replicate connection_limit false
 
@@ -25,7 +25,7 @@ none_ended = replicate connection_limit false
 abbrev pub is_over : Bool → LinkState → Bool
 is_over has_ended link = is_open link && (has_ended || is_closing link.phase && length link.waiting == 0)
 
--- a close of it is due, where these have ended
+-- the connection is to be closed, if these have ended
 abbrev pub is_to_close : List Bool → Machine → ℕ → Bool
 is_to_close ended target c = is_over (slice_index_or ended c false) (link_at target c)
 
@@ -33,25 +33,25 @@ is_to_close ended target c = is_over (slice_index_or ended c false) (link_at tar
 abbrev pub NoneToClose : ℕ → List Bool → Machine → Type 0
 NoneToClose limit ended target = (c : ℕ) → c < limit → is_to_close ended target c ≡ false
 
--- of every other connection nothing has changed
+-- every other connection is unchanged
 abbrev pub KeepsOthers : ℕ → Machine → Machine → List Bool → List Bool → Type 0
 KeepsOthers c target target_then ended ended_then =
     (d : ℕ) → d ≢ c → (link_at target_then d ≡ link_at target d) × (slice_index_or ended_then d false ≡ slice_index_or ended d false)
 
--- a read is due, with so much room
+-- a read with this much room is due
 pub record IsDue (named : Named) (c room : ℕ) (target : Machine) : Type 0 where
   pub due : is_read named c (link_at target c) ≡ true
   pub open_ : is_open_at target c ≡ true
   pub is_room : room ≡ room_for (link_at target c)
 
--- a piece of a connection was fed: the target stands behind it where the World does, by what may happen to it
+-- a piece of a connection was fed: the target stands after it where the World does, and what happened satisfies May
 abbrev pub StandsFed : (Setting → World → Happening → Type 0) → ℕ → List ℕ → Machine → Machine → Type 0
 StandsFed May c piece target target_then =
     (s : Setting) (sent : ℕ → ℕ) (h : History) → Stands s sent target h
     → (marks : List Mark) × (comings : List Coming) × May s (world s h) (happening marks comings (history.Bytes c piece))
     × Stands s sent target_then (h ++ happening marks comings (history.Bytes c piece) ∷ [])
 
--- in the turn that began at this log, from one moment to another by R
+-- in the turn that began at this log, the loop moved from one moment to another by R
 abbrev pub Goes : (Moment → Moment → Type 0) → List Entry → List Entry → Machine → Machine → List Bool → List Bool → Type 0
 Goes R log log_then target target_then ended ended_then =
     (before turn : List Entry) → log ≡ before ++ turn → AreEnded ended turn
@@ -67,7 +67,7 @@ pub record Keeps (tells tells_then : Bool) (log log_then : List Entry) (target t
   pub came : tells_then ≡ true → ComesOutServed log log_then target target_then
   pub bounded : Bounded target → Bounded target_then
 
--- what a step by R does, and keeps
+-- a step by R: what it does, and what it keeps
 pub record Does (R : Moment → Moment → Type 0) (tells tells_then : Bool) (log log_then : List Entry)
     (target target_then : Machine) (ended ended_then : List Bool) : Type 0 where
   pub keeps : Keeps tells tells_then log log_then target target_then

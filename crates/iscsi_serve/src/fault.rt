@@ -1,4 +1,4 @@
-//! Why the loop ends.
+//! The reasons why the loop ends.
 
 ghost use Rattle.std.specs.Prelude.{◌≡◌};
 
@@ -18,7 +18,7 @@ pub enum ServeFault {
 impl ServeFault {
     ghost use Rattle.iscsi_serve.specs.Fault.{fault_number};
 
-    /// The fault's number.
+    /// Returns the fault's number.
     pub fn number(&self) -> u8
         ensures { result ≡ fault_number self.now }
     {

@@ -1,9 +1,9 @@
-//! What holds of the loop's definitions. The function does nothing: its contract is the law.
+//! The law of the loop's definitions. The function does nothing: its contract is the law.
 
 ghost use Rattle.iscsi_serve.specs.Served.{NewIsServed};
 
-/// A new target is served by ports that have told nothing of a connection. So what `turn` and `turns` keep of a target
-/// that is served (the clause `served`) is true of a whole run.
+/// States that a new target is served by ports whose log names no connection. So the clause `served` of `turn` and
+/// `turns`, which keeps a served target served, holds for a whole run.
 pub fn new_is_served()
     ensures { NewIsServed }
 {}

@@ -6,13 +6,15 @@
 //!                              for each that ended or is closing:      close ──> Target::gone
 //! ```
 //!
-//! A [`turn`] asks the [`Ports`](iscsi_ports::Ports) whom to serve and does what is due, and [`turns`] makes many.
+//! A [`turn`] asks the [`Ports`](iscsi_ports::Ports) which connections may be ready, and does what is due. [`turns`]
+//! makes many turns.
 //!
-//! Promised, and proved, as long as the log of the ports tells all (`Ports::tells`), whatever they told:
+//! Promised, and proved, as long as the log of the ports is complete (`Ports::tells`), whatever is in it:
 //!
-//! - It says of every target what was done, and what the target is then (the clauses `turned`).
-//! - What was written on a connection is what the machine of `iscsi_target` answers there, without what still waits: of a
-//!   sound target (`served`), and of every one by how its commands came out (`came`).
+//! - `turned`, for every target: what was done, and what the target is after it.
+//! - `served`, for a sound target: what was written on a connection is what the machine of `iscsi_target` answers
+//!   there, without what still waits.
+//! - `came`, for every target: the same, by how its commands came out.
 #![tactic(auto)]
 
 mod ending;

@@ -1,4 +1,4 @@
-//! The loop: one turn after the other.
+//! The loop, turn by turn.
 
 ghost use Rattle.std.specs.Prelude.{◌≡◌, ◌<◌, ◌≤◌, ◌++◌, ◌∷◌, [], List, true, false, ◌||◌, ◌&&◌, ◌==◌, length, slice_index_or, OnOk, IfErr};
 ghost use Rattle.iscsi_target.specs.Bounded.{Bounded};
@@ -17,10 +17,10 @@ use iscsi_ports::{Accepted, IoResult, Named, PortFault, Ports};
 use iscsi_target::{Starved, Target};
 use media_store::Store;
 
-/// A read has room for as many bytes at most.
+/// The most bytes that a read has room for.
 const MOST_READ: usize = 65_536;
 
-/// The lowest number that is free, or 64.
+/// Returns the lowest free number, or 64 if there is none.
 fn free_number<S: Store>(target: &Target<S>) -> usize
     ensures value { result ≡ lowest_free target.now }
     ensures free { result < 64 → is_open_at target.now result ≡ false }
@@ -34,7 +34,7 @@ fn free_number<S: Store>(target: &Target<S>) -> usize
     CONNECTIONS
 }
 
-/// Accepts a connection that waits, and closes it at once where no number is free for it.
+/// Accepts a waiting connection. Closes it at once if no number is free for it.
 fn accept_one<P: Ports, S: Store>(ports: &mut P, target: &mut Target<S>) -> Result<(), ServeFault>
     ensures ok { OnOk result (P.tells ports.new ≡ true
         → Goes HasAccepted (P.log ports.old) (P.log ports.new) target.old target.new none_ended none_ended) }
@@ -57,8 +57,7 @@ fn accept_one<P: Ports, S: Store>(ports: &mut P, target: &mut Target<S>) -> Resu
     Ok(())
 }
 
-/// Feeds a connection. Where an allocation fails the connection that the target names, and that is given, is closing from then
-/// on, and the others go on.
+/// Feeds a connection. If an allocation fails, returns the connection that the target is closing; the others go on.
 fn feed<S: Store>(target: &mut Target<S>, c: usize, piece: &[u8]) -> Option<usize>
     requires in_range { c < 64 }
     requires open { is_open_at target.old c ≡ true }
@@ -76,7 +75,7 @@ fn feed<S: Store>(target: &mut Target<S>, c: usize, piece: &[u8]) -> Option<usiz
     }
 }
 
-/// Tells the ports which connection closes since an allocation failed, if one does.
+/// Reports to the ports the connection that closes because an allocation failed, if there is one.
 fn tell_starved<P: Ports>(ports: &mut P, starved: Option<usize>)
     ensures log { P.log ports.new ≡ P.log ports.old }
     ensures tells { P.tells ports.new ≡ P.tells ports.old }
@@ -86,7 +85,7 @@ fn tell_starved<P: Ports>(ports: &mut P, starved: Option<usize>)
     }
 }
 
-/// How many bytes to read of a connection: none where no read is due.
+/// Returns how many bytes to read from a connection: 0 if no read is due.
 fn room_for<S: Store>(target: &Target<S>, named: &Named, c: usize) -> usize
     requires { c < 64 }
     ensures none { result ≡ 0 → is_read named.now c (link_at target.now c) ≡ false }
@@ -99,7 +98,7 @@ fn room_for<S: Store>(target: &Target<S>, named: &Named, c: usize) -> usize
     target.want(c).min(MOST_READ)
 }
 
-/// Reads a piece of a connection and feeds it.
+/// Reads a piece from a connection and feeds it.
 fn read_piece<P: Ports, S: Store>(
     ports: &mut P,
     target: &mut Target<S>,
@@ -122,7 +121,7 @@ fn read_piece<P: Ports, S: Store>(
     }
 }
 
-/// Reads what is due on a connection.
+/// Reads from a connection if a read is due.
 fn read_one<P: Ports, S: Store>(
     ports: &mut P,
     target: &mut Target<S>,
@@ -141,7 +140,7 @@ fn read_one<P: Ports, S: Store>(
     }
 }
 
-/// Offers what is to be sent next on a connection that is open, which is written as far as it is taken.
+/// Writes the next contiguous bytes of an open connection, as many as the ports accept.
 fn write_open<P: Ports, S: Store>(
     ports: &mut P,
     target: &mut Target<S>,
@@ -165,7 +164,8 @@ fn write_open<P: Ports, S: Store>(
     }
 }
 
-/// Writes what waits on a connection, as far as it is taken. Whether a close of it is due then.
+/// Writes what waits on a connection, as many bytes as the ports accept. Returns whether the connection is then to be
+/// closed.
 fn write_one<P: Ports, S: Store>(
     ports: &mut P,
     target: &mut Target<S>,
@@ -206,7 +206,7 @@ fn close_one<P: Ports, S: Store>(
     }
 }
 
-/// All reads that are due.
+/// Makes all reads that are due.
 fn read_all<P: Ports, S: Store>(
     ports: &mut P,
     target: &mut Target<S>,
@@ -222,7 +222,7 @@ fn read_all<P: Ports, S: Store>(
     }
 }
 
-/// All writes that are due, where some may be. Whether a close may be due then.
+/// Makes all writes that are due. Returns whether a close may be due then.
 fn write_all<P: Ports, S: Store>(
     ports: &mut P,
     target: &mut Target<S>,
@@ -242,7 +242,7 @@ fn write_all<P: Ports, S: Store>(
     has_closes
 }
 
-/// All closes that are due, of each connection.
+/// Closes each connection whose close is due.
 fn close_each<P: Ports, S: Store>(
     ports: &mut P,
     target: &mut Target<S>,
@@ -256,7 +256,7 @@ fn close_each<P: Ports, S: Store>(
     }
 }
 
-/// All closes that are due, where any is.
+/// Closes each connection whose close is due, if any may be.
 fn close_all<P: Ports, S: Store>(
     ports: &mut P,
     target: &mut Target<S>,
@@ -272,7 +272,7 @@ fn close_all<P: Ports, S: Store>(
     }
 }
 
-/// Accepts one connection where the listener was named.
+/// Accepts one connection if the poll named the listener.
 fn accept_named<P: Ports, S: Store>(
     ports: &mut P,
     target: &mut Target<S>,
@@ -290,7 +290,7 @@ fn accept_named<P: Ports, S: Store>(
     accept_one(ports, target)
 }
 
-/// All reads, writes and closes that are due, in this order.
+/// Makes all reads, writes and closes that are due, in this order.
 fn carry<P: Ports, S: Store>(
     ports: &mut P,
     target: &mut Target<S>,
@@ -307,7 +307,7 @@ fn carry<P: Ports, S: Store>(
     close_all(ports, target, &ended, has_closes);
 }
 
-/// A turn that reads into this buffer.
+/// Makes a turn that reads into this buffer.
 fn turn_with<P: Ports, S: Store>(
     ports: &mut P,
     target: &mut Target<S>,
@@ -330,18 +330,23 @@ fn turn_with<P: Ports, S: Store>(
     }
 }
 
-/// One turn: a poll; one accept where the listener was named; then, each in rising number, one read
-/// of each connection that was named and wants bytes, one write of each on which bytes wait, and a
-/// close of each that has ended, or that the target has closed and on which nothing waits.
+/// Makes one turn:
 ///
-/// A fault comes only where the poll or the accept failed. A failed allocation closes one connection
-/// and is no fault.
+/// 1. one poll;
+/// 2. one accept, if the poll named the listener;
+/// 3. one read of each connection that the poll named and that wants bytes;
+/// 4. one write of each connection on which bytes wait;
+/// 5. a close of each connection that has ended, or that the target has closed and on which nothing waits.
+///
+/// Reads, writes and closes go through the connections in rising number.
+///
+/// Returns a fault only if the poll or the accept failed. A failed allocation closes one connection and is no fault.
 pub fn turn<P: Ports, S: Store>(ports: &mut P, target: &mut Target<S>) -> Result<(), ServeFault>
     ensures turned { P.tells ports.new ≡ true
         → (m : Moment) × (P.log ports.new ≡ log_of m) × (target.new ≡ m.target) × EndsTurn (beginning target.old (P.log ports.old)) result m }
     ensures served { P.tells ports.new ≡ true → IsSound target.new → StaysServed (P.log ports.old) (P.log ports.new) target.old target.new }
 
-    // Of every target, whatever its stores do: the commands came out in this way.
+    // This holds of every target, whatever its stores do: the commands came out as these comings say.
     ensures came { P.tells ports.new ≡ true → ComesOutServed (P.log ports.old) (P.log ports.new) target.old target.new }
     ensures bounded { Bounded target.old → Bounded target.new }
     ensures back { P.tells ports.new ≡ true → P.tells ports.old ≡ true }
@@ -353,7 +358,7 @@ pub fn turn<P: Ports, S: Store>(ports: &mut P, target: &mut Target<S>) -> Result
     turn_with(ports, target, &mut buffer)
 }
 
-/// So many turns, or those up to the first fault.
+/// Makes `count` turns, or fewer if a fault ends them.
 pub fn turns<P: Ports, S: Store>(
     ports: &mut P,
     target: &mut Target<S>,
@@ -363,7 +368,7 @@ pub fn turns<P: Ports, S: Store>(
         → (m : Moment) × (P.log ports.new ≡ log_of m) × (target.new ≡ m.target) × EndsTurns count (beginning target.old (P.log ports.old)) result m }
     ensures served { P.tells ports.new ≡ true → IsSound target.new → StaysServed (P.log ports.old) (P.log ports.new) target.old target.new }
 
-    // Of every target, whatever its stores do: the commands came out in this way.
+    // This holds of every target, whatever its stores do: the commands came out as these comings say.
     ensures came { P.tells ports.new ≡ true → ComesOutServed (P.log ports.old) (P.log ports.new) target.old target.new }
     ensures bounded { Bounded target.old → Bounded target.new }
     ensures back { P.tells ports.new ≡ true → P.tells ports.old ≡ true }
