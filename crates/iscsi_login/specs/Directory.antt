@@ -1,4 +1,4 @@
--- What a session may be told of the targets.
+-- The targets that a session may learn of.
 use Rattle.std.specs.Prelude.{ℕ, List}
 
 pub record KnownTargets : Type 0 where

@@ -1,10 +1,11 @@
--- Offers of keys, computed: each key of the table with a value inside its range, at its limits and outside, and each wrong form.
+-- Offers of keys, computed: each key of the table with values inside its range, at its limits and outside, and each
+-- wrong form.
 use Rattle.std.specs.Prelude.{◌≡◌, ℕ, List, [], ◌∷◌, Option, Some, None, Bool, true, false, codes, map, refl}
 use Rattle.std.specs.Fmt.{digits}
 use Rattle.iscsi_login.specs.Number.{numeral, number_of, number_in}
 use Rattle.iscsi_login.specs.Keys.{session_negotiation, transfer_negotiation, negotiation_of, is_listed, boolean_of, result_by, is_answer, is_name_key, is_passed_over, is_known, settled, key_result}
 
--- what the examples unfold
+-- the definitions that the examples unfold
 unfoldable pub computed : Bool
 unfolding digits numeral number_of number_in session_negotiation transfer_negotiation negotiation_of is_listed boolean_of result_by is_answer
     is_name_key is_passed_over is_known settled key_result
@@ -22,7 +23,7 @@ numbers : map number_of (codes "0" ∷ codes "512" ∷ codes "0x200" ∷ codes "
 unfolding computed
 numbers = refl
 
--- a leading zero, a sign, a blank, a letter, 0x alone, nothing, 0x behind a zero
+-- a leading zero, a sign, a blank, a letter, 0x alone, nothing, 0x after a zero
 no_numbers : map number_of (codes "0512" ∷ codes "00" ∷ codes "+512" ∷ codes "-1" ∷ codes " 512" ∷ codes "512 " ∷ codes "51k" ∷ codes "ff" ∷ codes
     "0x" ∷ codes "0xg" ∷ codes "0x+1" ∷ codes "00x1" ∷ [] ∷ [])
     ≡ None ∷ None ∷ None ∷ None ∷ None ∷ None ∷ None ∷ None ∷ None ∷ None ∷ None ∷ None ∷ None ∷ []
@@ -117,7 +118,7 @@ markers : (answers_to (codes "IFMarker") (codes "Yes" ∷ codes "No" ∷ codes "
 unfolding computed
 markers = (refl, refl, refl, refl)
 
--- ---- declarations, and what a target alone says
+-- ---- declarations, and keys that only a target sends
 
 declared : map (λ key. key_result key (codes "8192")) (codes "InitiatorName" ∷ codes "InitiatorAlias" ∷ codes "TargetName" ∷ codes
     "SessionType" ∷ codes "MaxRecvDataSegmentLength" ∷ [])
@@ -130,7 +131,7 @@ of_a_target : map (λ key. key_result key (codes "a")) (codes "TargetAlias" ∷ 
 unfolding computed
 of_a_target = refl
 
--- letters count as they are
+-- keys are case-sensitive
 unknown : map (λ key. key_result key (codes "Yes")) (codes "X-a" ∷ codes "initialr2t" ∷ codes "iSCSIProtocolLevel" ∷ [])
     ≡ Some (codes "NotUnderstood") ∷ Some (codes "NotUnderstood") ∷ Some (codes "NotUnderstood") ∷ []
 unfolding computed

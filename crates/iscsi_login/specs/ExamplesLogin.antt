@@ -24,7 +24,7 @@ use Rattle.iscsi_login.specs.declared.reply.Reply.{Reply}
 use Rattle.iscsi_login.specs.declared.reply.Reply.TheVariants.{GoOn, Full, Refused}
 use Rattle.iscsi_login.specs.declared.values.Values.{Values}
 
--- what the examples unfold
+-- the definitions that the examples unfold
 unfoldable pub computed : Bool
 unfolding keys_computed is_utf8 chars lib.Utf8.encode text_pairs pieces own_fault target_named with_result with_pair said session_type is_normal is_discovery
     is_segment_refused pairs_with target_asked told_of asked_for first_refusal text_refusal is_other_session interrupts is_too_long request_refusal refusal_of
@@ -33,12 +33,12 @@ computed = true
 
 -- ---- requests (RFC 7143 §11.12)
 
--- a pair of a text
+-- a pair of a text, with its terminating zero byte
 abbrev pub pair : List ℕ → List ℕ
 pair text = text ++ 0 ∷ []
 
--- Login; byte 1; Version-max, Version-min; TotalAHSLength and DataSegmentLength, which no rule of a login reads; ISID 1; TSIH.
--- Tag 1; CID 7; CmdSN; ExpStatSN; reserved.
+-- Login; byte 1; Version-max, Version-min; TotalAHSLength and DataSegmentLength, which no rule of a login reads; ISID
+-- 1; TSIH. Tag 1; CID 7; CmdSN; ExpStatSN; reserved.
 abbrev pub header_of : (flags version_min tsih cmd_sn : ℕ) → List ℕ
 header_of flags version_min tsih cmd_sn =
     0x43 ∷ flags ∷ 0 ∷ version_min ∷ 0 ∷ 0 ∷ 0 ∷ 0 ∷ 0x80 ∷ 0 ∷ 0 ∷ 0 ∷ 0 ∷ 1 ∷ 0 ∷ tsih ∷
@@ -71,13 +71,13 @@ operational_continued = 0x44
 abbrev pub names : List ℕ
 names = pair (codes "InitiatorName=a") ++ pair (codes "TargetName=t1")
 
--- ---- what is seen of replies
+-- ---- the visible parts of replies
 
 -- one target `t1`, and no live session
 abbrev pub one_target : Lookup
 one_target = record { directory = record { names = codes "t1" ∷ []; portal = codes "127.0.0.1:3260" }; named = None }
 
--- CSG, the step, TSIH, StatSN, ExpCmdSN, MaxCmdSN and the text of an answer; of a refusal why
+-- CSG, the step, TSIH, StatSN, ExpCmdSN, MaxCmdSN and the text of an answer; of a refusal the reason
 pub data Seen : Type 0 where
   Text : (stage : Stage) (step : LoginStep) (tsih : ℕ) (numbers : List ℕ) (text : List ℕ) → Seen
   Why : (refusal : LoginRefusal) (tsih : ℕ) (numbers : List ℕ) → Seen
@@ -108,7 +108,7 @@ refused_by refusal count = Why refusal 0 (count ∷ 9 ∷ 40 ∷ [])
 abbrev error : Seen
 error = refused_by refusals.InitiatorError 0
 
--- what full feature phase begins with for `a` on `t1`
+-- the parameters of full feature phase for `a` on `t1`
 abbrev begun : (count : ℕ) → Values → Params
 begun count values = record {
   nexus = record { initiator_name = codes "a"; isid = 0x80 ∷ 0 ∷ 0 ∷ 0 ∷ 0 ∷ 1 ∷ [] };
@@ -158,7 +158,7 @@ then_operational : replied (first_of_two ∷ []) (request operational_to_full (p
 unfolding computed
 then_operational = refl
 
--- from security negotiation at once: the target declares nothing
+-- from security negotiation straight to full feature phase: the target declares nothing
 security_only : replied [] (request security_to_full names)
     ≡ Begun (Text stages.SecurityNegotiation (steps.Enters stages.FullFeaturePhase) 1 (0 ∷ 9 ∷ 40 ∷ []) tag) (begun 1 default_values)
 unfolding computed
@@ -199,7 +199,7 @@ all_values = refl
 
 -- ---- text in pieces
 
--- a pair cut in the middle: the answer to the front is empty, and the texts are joined
+-- a pair cut in the middle: the answer to the first part is empty, and the texts are joined
 abbrev front : Frame
 front = request operational_continued (take 20 names)
 
@@ -219,7 +219,7 @@ not_joined : replied (request operational (names ++ pair (codes "X-a=b")) ∷ []
 unfolding computed
 not_joined = refl
 
--- 65536 bytes are kept over requests with C, and not one more
+-- at most 65536 bytes are kept over requests with C
 abbrev much : Frame
 much = request operational_continued (replicate 65536 0)
 
@@ -243,7 +243,7 @@ not_found : replied [] (request operational_to_full (pair (codes "InitiatorName=
 unfolding computed
 not_found = refl
 
--- a session of another type; a length of a segment that is none; a text out of form
+-- a session of another type; an invalid length of a segment; a text of wrong form
 in_error : map (λ text. replied [] (request operational_to_full text))
     ((names ++ pair (codes "SessionType=discovery")) ∷ (names ++ pair (codes "SessionType=")) ∷ (names
     ++ pair (codes "MaxRecvDataSegmentLength=511")) ∷ (names ++ pair (codes "MaxRecvDataSegmentLength=0512")) ∷ (names ++ codes "a=b") ∷ [])
@@ -251,18 +251,18 @@ in_error : map (λ text. replied [] (request operational_to_full text))
 unfolding computed
 in_error = refl
 
--- a length that is an answer is passed over
+-- a length whose value is an answer is ignored
 segment_answers : replied [] (request operational_to_full (names ++ pair (codes "MaxRecvDataSegmentLength=Irrelevant")))
     ≡ Begun (Text stages.OperationalNegotiation (steps.Enters stages.FullFeaturePhase) 1 (0 ∷ 9 ∷ 40 ∷ []) (tag ++ segment)) (begun 1 default_values)
 unfolding computed
 segment_answers = refl
 
--- CSG 2, CSG 3, NSG 2, NSG not behind CSG, T and C together
+-- CSG 2, CSG 3, NSG 2, NSG not after CSG, T and C together
 wrong_stages : map (λ flags. replied [] (request flags names)) (0x08 ∷ 0x0C ∷ 0x86 ∷ 0x84 ∷ 0x85 ∷ 0x80 ∷ 0xC7 ∷ []) ≡ replicate 7 error
 unfolding computed
 wrong_stages = refl
 
--- another stage than that of the login; the version comes first
+-- another stage than that of the login; the version is checked first
 other_stage : replied (first_of_two ∷ []) (request security_to_full []) ≡ refused_by refusals.InitiatorError 1
 unfolding computed
 other_stage = refl
@@ -271,7 +271,7 @@ version : replied [] (record { header = header_of 0x08 1 0 9; body = [] }) ≡ r
 unfolding computed
 version = refl
 
--- a key again, with the same value and with another; a name again as it was, and otherwise
+-- a key again, with the same value and with another; a name again as it was, and with another value
 abbrev after_keys : List ℕ → Seen
 after_keys text = replied (request operational (names ++ pair (codes "InitialR2T=No") ++ pair (codes "X-a=Reject")) ∷ []) (request operational_to_full text)
 
@@ -301,14 +301,14 @@ other_session : joining (Some (record (begun 1 default_values) { target = Some 1
 unfolding computed
 other_session = refl
 
--- a discovery session names no target, is told no portal group, and may be told of all targets
+-- a discovery session names no target, gets no portal group, and may learn of all targets
 discovery : replied [] (request operational_to_full (pair (codes "InitiatorName=a") ++ pair (codes "SessionType=Discovery")))
     ≡ Begun (Text stages.OperationalNegotiation (steps.Enters stages.FullFeaturePhase) 1 (0 ∷ 9 ∷ 40 ∷ []) segment)
     (record (begun 1 default_values) { target = None })
 unfolding computed
 discovery = refl
 
--- the name of a target is not looked at there, and no session is the same
+-- a discovery session's TargetName is ignored, and no session counts as the same
 discovery_elsewhere : replied [] (request operational_to_full (pair (codes "InitiatorName=a") ++ pair (codes "SessionType=Discovery")
     ++ pair (codes "TargetName=t2")))
     ≡ replied [] (request operational_to_full (pair (codes "InitiatorName=a") ++ pair (codes "SessionType=Discovery")))
@@ -321,7 +321,7 @@ discovery_of_none = refl
 
 -- ---- an answer in pieces
 
--- so many bytes of an answer are due
+-- this many bytes of an answer are due
 abbrev owing : ℕ → LoginState
 owing count = record (remembered one_target.directory 1 (stays ∷ [])) { due = replicate count 97 }
 
@@ -346,7 +346,7 @@ last_piece_stays : then_asked 3 (request operational []) ≡ Text stages.Operati
 unfolding computed
 last_piece_stays = refl
 
--- a piece that is due is met by text, or by C
+-- while a piece is due, a request with text or with C is refused
 piece_met : map (then_asked 1) (request operational (pair (codes "a=b")) ∷ request operational_continued [] ∷ [])
     ≡ replicate 2 (refused_by refusals.InitiatorError 1)
 unfolding computed

@@ -1,4 +1,5 @@
--- The keys of pairs in a digital search tree (Knuth, TAOCP 6.3): node n has the key of pair n, and only links are stored.
+-- The keys of pairs in a digital search tree (Knuth, TAOCP 6.3): node n has the key of pair n, and only links are
+-- stored.
 use Rattle.std.specs.Prelude.{◌≡◌, ◌<◌, ◌≤◌, ℕ, zero, suc, ◌+◌, ◌*◌, ◌/◌, ◌%◌, ◌^◌, List, [], ◌∷◌, Bool, true, false, Some, length, take, bytes_eq, slice_get, slice_index_or, map, codes, refl}
 use Rattle.iscsi_text.specs.Pairs.{Pair, value_of}
 
@@ -21,7 +22,8 @@ pub record IsKeyed (pairs : List Pair) (key : List ℕ) (node : ℕ) (is_same : 
   pub stands : slice_get pairs node ≡ Some pair
   pub tests : bytes_eq pair.0 key ≡ is_same
 
--- own: the walk of a key comes in so many steps from one node to another, which has the key; a link of 0 leads nowhere
+-- own: the walk of a key leads in this many steps from one node to another, which has the key; a link of 0 leads
+-- nowhere
 abbrev pub Leads : List ℕ → List Pair → List ℕ → ℕ → ℕ → ℕ → ℕ → Type 0
 Leads links pairs key zero depth from to = (from ≡ to) × IsKeyed pairs key from true
 Leads links pairs key (suc steps) depth from to =
@@ -32,14 +34,14 @@ Leads links pairs key (suc steps) depth from to =
 abbrev pub EndsAt : List ℕ → List Pair → List ℕ → ℕ → Type 0
 EndsAt links pairs key node = (steps : ℕ) × Leads links pairs key steps 0 0 node
 
--- own: the walk of a key ends at one of so many first pairs, and there it has this value
+-- own: the walk of a key ends at one of the first `count` pairs, and there it has this value
 pub record IsPlaced (links : List ℕ) (pairs : List Pair) (count : ℕ) (key value : List ℕ) : Type 0 where
   pub place : ℕ
   pub ends : EndsAt links pairs key place
   pub within : place < count
   pub stands : slice_get pairs place ≡ Some (key, value)
 
--- own: each key of so many first pairs is found with its value
+-- own: each key of the first `count` pairs is found with its value
 abbrev pub TellsPlaces : List ℕ → List Pair → ℕ → Type 0
 TellsPlaces links pairs count =
     (key value : List ℕ) → value_of key (take count pairs) ≡ Some value → IsPlaced links pairs count key value
@@ -58,7 +60,7 @@ LeadsOn links =
 abbrev pub KeepsChildren : List ℕ → List ℕ → Type 0
 KeepsChildren old new = (slot next : ℕ) → slice_get old slot ≡ Some next → 0 < next → slice_get new slot ≡ Some next
 
--- own: a walk of a key ends at this free slot: a node that is linked there and has the key is where it ends then
+-- own: a walk of a key ends at this free slot; after a node with the key is linked there, it ends at that node
 pub record IsFree (links : List ℕ) (pairs : List Pair) (key : List ℕ) (slot : ℕ) : Type 0 where
   pub node : ℕ
   pub within : (2 * node + 1 < length links) × (slot ≤ 2 * node + 1)

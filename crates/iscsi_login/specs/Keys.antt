@@ -1,4 +1,4 @@
--- What an offer of a key comes to (RFC 7143 §6.2, §12, §13).
+-- The results of offers of keys (RFC 7143 §6.2, §12, §13).
 use Rattle.std.specs.Prelude.{ℕ, min, max, List, [], ◌∷◌, Bool, true, false, ◌&&◌, not, ◌||◌, ◌==◌, Option, Some, None, codes, bytes_eq, decimal, if◌then◌else◌}
 use Rattle.std.specs.List.{list_any, slice_split}
 use Rattle.iscsi_login.specs.Number.{number_in}
@@ -9,7 +9,7 @@ use Rattle.iscsi_login.specs.declared.keys.KeyResult.TheVariants as results
 use Rattle.iscsi_login.specs.declared.keys.Negotiation.{Negotiation}
 use Rattle.iscsi_login.specs.declared.keys.Negotiation.TheVariants as kinds
 
--- the words that are answered
+-- the words of answers
 abbrev pub word_text : Word → List ℕ
 word_text words.None = codes "None"
 word_text words.Rfc3720 = codes "RFC3720"
@@ -21,7 +21,7 @@ abbrev pub boolean_text : Bool → List ℕ
 boolean_text true = codes "Yes"
 boolean_text false = codes "No"
 
--- RFC 7143 §6.1: what is answered, if anything; numbers in decimal (own)
+-- RFC 7143 §6.1: the answer of a result, if there is any; numbers in decimal (own)
 abbrev pub result_text : KeyResult → Option (List ℕ)
 result_text results.NoAnswer = None
 result_text (results.Boolean value) = Some (boolean_text value)
@@ -39,10 +39,11 @@ pub record Row : Type 0 where
 abbrev pub row : List ℕ → Negotiation → Row
 row key negotiation = record { key = key; negotiation = negotiation }
 
--- The keys of RFC 7143 §12.1 and §13, in its order and in three parts, with their result functions and ranges, and the value of this target (own).
--- MaxRecvDataSegmentLength and the names are declared and get no answer; the keys of a target are no offer.
+-- The keys of RFC 7143 §12.1 and §13, in its order and in three parts. Each has its result function, its range and
+-- the value of this target (own). MaxRecvDataSegmentLength and the names are declared and get no answer; the keys of
+-- a target are no offer.
 
--- security, connections, and who takes part
+-- security, connections, and the names
 abbrev pub name_keys : List Row
 name_keys =
     row (codes "AuthMethod") (kinds.Choice words.None)  -- §12.1
@@ -58,7 +59,7 @@ name_keys =
     ∷ row (codes "TargetPortalGroupTag") (kinds.Always rejected)  -- §13.9
     ∷ []
 
--- how data moves
+-- the transfer of data
 abbrev pub transfer_keys : List Row
 transfer_keys =
     row (codes "InitialR2T") (kinds.Or false)  -- §13.10
@@ -73,7 +74,7 @@ transfer_keys =
     ∷ row (codes "DataSequenceInOrder") (kinds.Or true)  -- §13.19
     ∷ []
 
--- what else a session has
+-- the other keys of a session
 abbrev pub session_keys : List Row
 session_keys =
     row (codes "ErrorRecoveryLevel") (kinds.Minimum 0 2 0)  -- §13.20
@@ -85,12 +86,12 @@ session_keys =
     ∷ row (codes "OFMarkInt") (kinds.Always rejected)  -- §13.25
     ∷ []
 
--- the row of a key, or what stands for one that has none
+-- the negotiation of a key by its row, or `other` for a key without one
 abbrev pub negotiation_in : List Row → List ℕ → Negotiation → Negotiation
 negotiation_in [] key other = other
 negotiation_in (row ∷ rows) key other = if bytes_eq key row.key then row.negotiation else negotiation_in rows key other
 
--- RFC 7143 §6.2: a key that is not known
+-- RFC 7143 §6.2: an unknown key
 abbrev pub not_understood : Negotiation
 not_understood = kinds.Always (results.Word words.NotUnderstood)
 
@@ -112,7 +113,7 @@ negotiation_of key = negotiation_in name_keys key (transfer_negotiation key)
 unfoldable pub is_known : List ℕ → Bool
 is_known key = is_understood (negotiation_of key)
 
--- RFC 7143 §6.2.1: a word of a list of values, which commas separate
+-- RFC 7143 §6.2.1: a word of a list of values, which is separated by commas
 unfoldable pub is_listed : List ℕ → List ℕ → Bool
 is_listed word offer = list_any (bytes_eq word) (slice_split (λ byte. byte == 44) offer)
 
@@ -128,7 +129,7 @@ abbrev pub number_result : (ℕ → ℕ) → Option ℕ → KeyResult
 number_result f None = rejected
 number_result f (Some value) = results.Number (f value)
 
--- RFC 7143 §6.2: the result of an offer; own: one that is out of form or range is rejected
+-- RFC 7143 §6.2: the result of an offer; own: one of wrong form or out of range is rejected
 unfoldable pub result_by : Negotiation → List ℕ → KeyResult
 result_by (kinds.Choice word) offer = if is_listed (word_text word) offer then results.Word word else rejected
 result_by (kinds.Or own) offer = boolean_result (λ value. value || own) (boolean_of offer)
@@ -138,22 +139,22 @@ result_by (kinds.Maximum low high own) offer = number_result (max own) (number_i
 result_by (kinds.Always result) offer = result
 result_by kinds.Declared offer = results.NoAnswer
 
--- RFC 7143 §6.2: values that answer an offer, and are none
+-- RFC 7143 §6.2: values that answer an offer, and are no offers
 unfoldable pub is_answer : List ℕ → Bool
 is_answer value = bytes_eq value (codes "NotUnderstood") || bytes_eq value (codes "Irrelevant") || bytes_eq value (codes "Reject")
 
--- RFC 7143 §13.4, §13.5, §13.21: who the initiator is, and what it asks for
+-- RFC 7143 §13.4, §13.5, §13.21: the names of initiator and target, and the type of session
 unfoldable pub is_name_key : List ℕ → Bool
 is_name_key key = bytes_eq key (codes "InitiatorName") || bytes_eq key (codes "TargetName") || bytes_eq key (codes "SessionType")
 
--- own: a value that answers an offer is passed over, but of a key that names, which is never offered
+-- own: a pair whose value answers an offer is ignored, except for a name, which is never offered
 unfoldable pub is_passed_over : List ℕ → List ℕ → Bool
 is_passed_over key value = is_answer value && not (is_name_key key)
 
--- what an offer comes to; own: a value that is an answer is passed over
+-- the result of an offer; own: a value that is an answer gets no answer
 unfoldable pub settled : List ℕ → List ℕ → KeyResult
 settled key offer = if is_answer offer then results.NoAnswer else result_by (negotiation_of key) offer
 
--- what an offer is answered, if anything
+-- the answer to an offer, if there is any
 unfoldable pub key_result : List ℕ → List ℕ → Option (List ℕ)
 key_result key offer = result_text (settled key offer)

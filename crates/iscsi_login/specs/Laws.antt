@@ -1,4 +1,4 @@
--- What holds of every login, as its requests come one after the other.
+-- Laws of every login, over the sequence of its requests.
 use Rattle.std.specs.Prelude.{◌≡◌, ℕ, ◌+◌, ◌*◌, List, [], ◌∷◌, ◌++◌, length, drop, flat_map, true, false, Option, Some, None, ⊤}
 use Rattle.iscsi_pdu.specs.Frames.{Frame}
 use Rattle.iscsi_pdu.specs.declared.stage.Stage.{Stage}
@@ -9,17 +9,17 @@ use Rattle.iscsi_login.specs.LoginState.{LoginState}
 use Rattle.iscsi_login.specs.Rules.{interrupts, reads_text}
 use Rattle.iscsi_login.specs.Login.{longest_piece, brought, step_of, advanced, remembered}
 
--- the step that a request is answered, where this is remembered of those before it
+-- the step in the answer to a request, by what is remembered of those before it
 abbrev pub step_told : KnownTargets → LoginState → Frame → LoginStep
 step_told directory login request = step_of request.header (brought directory login request).due
 
--- the stage that is entered with it: T is agreed
+-- the stage that a step enters: T is agreed
 abbrev pub agreed : LoginStep → Option Stage
 agreed (steps.Enters stage) = Some stage
 agreed steps.Continued = None
 agreed steps.Stays = None
 
--- behind these requests, none of those that follow agrees to a T
+-- after these requests, none of those that follow agrees to a T
 abbrev pub NoneAgrees : KnownTargets → LoginState → List Frame → Type 0
 NoneAgrees directory login [] = ⊤
 NoneAgrees directory login (request ∷ more) = (agreed (step_told directory login request) ≡ None) × NoneAgrees directory (advanced directory login request) more
@@ -31,7 +31,7 @@ StageIsLastAgreed = (directory : KnownTargets) (handle : ℕ) (before : List Fra
     → NoneAgrees directory (advanced directory (remembered directory handle before) request) later
     → (remembered directory handle (before ++ request ∷ later)).stage ≡ Some stage
 
--- behind these requests, none of those that follow ends a text, and none says anything while an answer is due
+-- after these requests, none of those that follow ends a text, and none has text or C while an answer is due
 abbrev pub NoneIsWhole : KnownTargets → LoginState → List Frame → Type 0
 NoneIsWhole directory login [] = ⊤
 NoneIsWhole directory login (request ∷ more) =
@@ -43,7 +43,8 @@ KeptIsSinceWhole = (directory : KnownTargets) (handle : ℕ) (before : List Fram
     → reads_text (remembered directory handle before) whole ≡ true → NoneIsWhole directory (advanced directory (remembered directory handle before) whole) later
     → (remembered directory handle (before ++ whole ∷ later)).kept ≡ flat_map (λ request. request.body) later
 
--- What is due is the rest of the last whole answer, of which a piece was sent with each request since (own: 8192 bytes).
+-- The text that is due is the rest of the last whole answer. A piece of it was sent with each request since (own:
+-- 8192 bytes).
 abbrev pub DueIsTheRest : Type 0
 DueIsTheRest = (directory : KnownTargets) (handle : ℕ) (before : List Frame) (whole : Frame) (later : List Frame)
     → NoneIsWhole directory (advanced directory (remembered directory handle before) whole) later

@@ -1,4 +1,4 @@
--- The dialogue of a login (RFC 7143 §6.3, §11.12, §11.13): what each request is answered, and what is remembered of it.
+-- The dialogue of a login (RFC 7143 §6.3, §11.12, §11.13): the answer to each request, and what is remembered of it.
 use Rattle.std.specs.Prelude.{ℕ, ◌+◌, ◌^◌, ◌%◌, List, [], ◌∷◌, ◌++◌, length, take, drop, fold, Bool, true, false, ◌&&◌, ◌||◌, not, nat_lt, Option, Some, None, unwrap_or, option_map, option_to_list, codes, if◌then◌else◌, ⊤, ◌≡◌}
 use Rattle.std.specs.List.{filter_map}
 use Rattle.std.specs.Option.{option_or}
@@ -37,28 +37,28 @@ longest_piece = 8192
 abbrev pub answered_pair : Pair → Option Pair
 answered_pair pair = option_map (λ text. (pair.0, text)) (key_result pair.0 pair.1)
 
--- RFC 7143 §6.1, §6.2: what a key is answered by this result, as a text spells it; nothing where it is not answered
+-- RFC 7143 §6.1, §6.2: the answer of a key with this result, as it is spelled in a text; empty without an answer
 abbrev pub answered_text : List ℕ → KeyResult → List ℕ
 answered_text key result = text_of (option_to_list (option_map (λ text. (key, text)) (result_text result)))
 
--- RFC 7143 §13.9: the tag of the portal group, of which there is one
+-- RFC 7143 §13.9: the tag of the only portal group
 abbrev pub portal_group : Bool → List Pair
 portal_group tells_group = if tells_group then (codes "TargetPortalGroupTag", codes "1") ∷ [] else []
 
--- RFC 7143 §13.12: what the target takes in one PDU
+-- RFC 7143 §13.12: the most data that the target accepts in one PDU
 abbrev pub declaration : Bool → List Pair
 declaration is_told = if is_told then (codes "MaxRecvDataSegmentLength", codes "262144") ∷ [] else []
 
--- the pairs of a whole answer: the results stand in the order of the offers
+-- the pairs of a whole answer: the results are in the order of the offers
 unfoldable pub answer_pairs : Bool → Bool → List Pair → List Pair
 answer_pairs tells_group is_told offers = portal_group tells_group ++ filter_map answered_pair offers ++ declaration is_told
 
--- RFC 7143 §13.9: it is told in the first whole answer of a Normal session
+-- RFC 7143 §13.9: the tag is in the first whole answer of a Normal session
 abbrev pub tells_group : Option Session → List Pair → Bool
 tells_group None pairs = is_normal pairs
 tells_group (Some session) pairs = false
 
--- the stage that a request is in is operational negotiation
+-- the request is in operational negotiation
 abbrev pub is_operational : List ℕ → Bool
 is_operational header = is_same_stage (current_stage header) (Some OperationalNegotiation)
 
@@ -83,14 +83,14 @@ heard directory login header pairs = record login {
   due = text_of (answer_pairs (tells_group login.session pairs) (declares login header) pairs);
 }
 
--- what a request brings, before it is answered
+-- what a request adds, before it is answered
 abbrev pub brought : KnownTargets → LoginState → Frame → LoginState
 brought directory login request =
     if reads_text login request then heard directory login request.header (pairs_with login request)
     else if is_due login then login
     else kept_with login request
 
--- RFC 7143 §11.13.6, §11.13.7: the stage changes with the last piece of an answer, where its request asks for it
+-- RFC 7143 §11.13.6, §11.13.7: the stage changes with the last piece of an answer, if its request asks for it
 abbrev pub step_of : List ℕ → List ℕ → LoginStep
 step_of header due =
     if nat_lt longest_piece (length due) then steps.Continued
@@ -120,7 +120,8 @@ remembered directory handle requests = fold (advanced directory) (new_login hand
 
 -- ---- the answer
 
--- RFC 7143 §4.2.2.1, §4.2.2.2: StatSN counts the answers, ExpCmdSN is the CmdSN of the first request, and 32 commands may be sent (own)
+-- RFC 7143 §4.2.2.1, §4.2.2.2: StatSN counts the answers, ExpCmdSN is the CmdSN of the first request, and 32 commands
+-- may be sent (own)
 unfoldable pub login_stamp : LoginState → List ℕ → Stamp
 login_stamp login header =
     let first = (opening_with login header).cmd_sn in
@@ -143,7 +144,7 @@ accepted header due = replies.Accepted (record {
   text = take longest_piece due;
 })
 
--- what full feature phase begins with
+-- the parameters with which full feature phase begins
 unfoldable pub params_of : LoginState → List ℕ → Session → Params
 params_of login header session = record {
   nexus = session.nexus;
@@ -164,7 +165,7 @@ is_last_step _ = false
 abbrev pub handle_with : LoginState → List ℕ → LoginStep → ℕ
 handle_with login header step = if is_last_step step then login.handle else tsih header
 
--- the session that begins
+-- the session that begins with a step, if one does
 abbrev pub begun_by : LoginState → LoginStep → Option Session
 begun_by login step = if is_last_step step then login.session else None
 
@@ -172,7 +173,7 @@ abbrev pub reply_with : LoginResponse → LoginState → List ℕ → Option Ses
 reply_with response login header None = GoOn response
 reply_with response login header (Some session) = Full response (params_of login header session)
 
--- the answer to what a request brought
+-- the answer to a request that is not refused
 unfoldable pub reply_to : LoginState → Frame → Reply
 reply_to login request =
     let step = step_of request.header login.due in
@@ -190,23 +191,23 @@ reply_unless None lookup login request = reply_to (brought lookup.directory logi
 unfoldable pub reply_of : LoginState → Lookup → Frame → Reply
 reply_of login lookup request = reply_unless (refusal_of login lookup request) lookup login request
 
--- The reply to a request behind these others of a login, whose session is given this TSIH.
+-- The reply to a request after these others of a login, whose session gets this TSIH.
 abbrev pub login : ℕ → List Frame → Lookup → Frame → Reply
 login handle before lookup request = reply_of (remembered lookup.directory handle before) lookup request
 
--- what is remembered after a reply; full feature phase leaves nothing to remember
+-- what is remembered after a reply; with full feature phase there is nothing left to remember
 abbrev pub IsAfter : KnownTargets → LoginState → Frame → Reply → LoginState → Type 0
 IsAfter directory old request (GoOn response) new = new ≡ advanced directory old request
 IsAfter directory old request (Refused response) new = new ≡ old
 IsAfter directory old request (Full response params) new = ⊤
 
--- what is remembered once a piece of the answer is sent
+-- what is remembered after a piece of the answer is sent
 abbrev pub IsAnswered : LoginState → Frame → Reply → LoginState → Type 0
 IsAnswered old request (GoOn response) new = new ≡ answered old request.header
 IsAnswered old request (Refused response) new = ⊥
 IsAnswered old request (Full response params) new = ⊤
 
--- the target of a session that begins is one of so many, and so is the one that a login goes on to ask for
+-- the target of a session that begins is below this count, and so is the target that a login still asks for
 abbrev pub IsBelow : ℕ → Reply → LoginState → Type 0
 IsBelow count (GoOn response) new = AsksBelow count new.session
 IsBelow count (Refused response) new = AsksBelow count new.session

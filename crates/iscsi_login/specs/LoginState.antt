@@ -10,13 +10,13 @@ use Rattle.iscsi_login.specs.declared.session.Session.{Session}
 use Rattle.iscsi_login.specs.declared.values.Values.{Values}
 
 pub record LoginState : Type 0 where
-  -- the TSIH that the session is given
+  -- the TSIH that the session gets
   pub handle : ℕ
-  -- what the first request set
+  -- the fields that the first request set
   pub opening : Option Opening
   -- the stage, from the first request on
   pub stage : Option Stage
-  -- how many answers were given
+  -- the number of answers sent
   pub answers : ℕ
   -- the text of the requests with C since the last whole text
   pub kept : List ℕ
@@ -46,16 +46,16 @@ new_login handle = record {
   due = [];
 }
 
--- the target of a session, where it has one, is one of so many
+-- the target of a session, if it has one, is below this count
 abbrev pub IsTargetBelow : ℕ → Option ℕ → Type 0
 IsTargetBelow count None = ⊤
 IsTargetBelow count (Some target) = target < count
 
--- and so is the one that is asked for
+-- the same for the target of a session that is asked for
 abbrev pub AsksBelow : ℕ → Option Session → Type 0
 AsksBelow count None = ⊤
 AsksBelow count (Some session) = IsTargetBelow count session.target
 
--- RFC 7143 §11.12.5 to §11.12.8: what the first request sets
+-- RFC 7143 §11.12.5 to §11.12.8: the fields that the first request sets
 abbrev pub opening_of : List ℕ → Opening
 opening_of header = record { isid = isid header; tsih = tsih header; connection_id = connection_id header; cmd_sn = cmd_sn header }

@@ -1,4 +1,4 @@
--- What a login is judged by beside its requests.
+-- What else a login is judged by, beside its requests.
 use Rattle.std.specs.Prelude.{Option}
 use Rattle.iscsi_login.specs.Directory.{KnownTargets}
 use Rattle.iscsi_login.specs.declared.params.Params.{Params}
@@ -8,6 +8,6 @@ pub record Lookup : Type 0 where
   -- the session in full feature phase whose TSIH the request bears
   pub named : Option Params
 
--- of these targets
+-- with these targets and this session
 abbrev pub lookup_in : KnownTargets → Option Params → Lookup
 lookup_in directory named = record { directory = directory; named = named }

@@ -21,7 +21,7 @@ is_hexadecimal text = slice_index text 0 == 48 && (slice_index text 1 == 120 || 
 abbrev pub has_leading_zero : List ℕ → Bool
 has_leading_zero text = slice_index text 0 == 48 && nat_lt 1 (length text)
 
--- RFC 7143 §6.1: the number that a value is, where it is of the form of one
+-- RFC 7143 §6.1: the number that a value is, if it has the form of one
 unfoldable pub number_of : List ℕ → Option ℕ
 number_of text =
     if is_hexadecimal text then numeral 16 (drop 2 text)
@@ -32,6 +32,6 @@ number_of text =
 abbrev pub within : ℕ → ℕ → ℕ → Option ℕ
 within low high n = if nat_le low n && nat_le n high then Some n else None
 
--- the number that a value is, where it is within these limits
+-- the number that a value is, if it is within these limits
 unfoldable pub number_in : ℕ → ℕ → List ℕ → Option ℕ
 number_in low high text = option_and_then (within low high) (number_of text)

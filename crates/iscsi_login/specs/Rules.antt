@@ -1,4 +1,5 @@
--- Why a Login request is refused (RFC 7143 §6.3, §11.12, §11.13.5): ordered lists of rules, of which the first that holds counts.
+-- Why a Login request is refused (RFC 7143 §6.3, §11.12, §11.13.5): ordered lists of rules, of which the first that
+-- holds decides.
 use Rattle.std.specs.Prelude.{◌≡◌, ⊤, ℕ, List, [], ◌∷◌, ◌++◌, length, find, Bool, false, ◌&&◌, ◌||◌, not, ◌==◌, nat_lt, Option, Some, None, is_none, unwrap_or, option_map, Result, Ok, Err, is_err, codes, bytes_eq, if◌then◌else◌}
 use Rattle.std.specs.List.{list_any}
 use Rattle.std.specs.Option.{option_or}
@@ -23,7 +24,7 @@ use Rattle.iscsi_login.specs.declared.opening.Opening.{Opening}
 use Rattle.iscsi_login.specs.declared.params.Params.{Params}
 use Rattle.iscsi_login.specs.declared.session.Session.{Session}
 
--- where a rule holds the request is refused
+-- a request is refused if the rule holds
 pub record Rule : Type 0 where
   pub holds : Bool
   pub refusal : LoginRefusal
@@ -35,9 +36,9 @@ rule holds refusal = record { holds = holds; refusal = refusal }
 abbrev pub refusal_by : List Rule → Option LoginRefusal
 refusal_by rules = option_map (λ r. r.refusal) (find (λ r. r.holds) rules)
 
--- ---- what a request is compared with
+-- ---- the values that a request is compared with
 
--- the first request sets it
+-- what the first request set, or what this one sets if it is the first
 abbrev pub opening_with : LoginState → List ℕ → Opening
 opening_with login header = unwrap_or login.opening (opening_of header)
 
@@ -53,7 +54,7 @@ abbrev pub is_login_stage : Option Stage → Bool
 is_login_stage None = false
 is_login_stage (Some stage) = not (stage_number stage == stage_number FullFeaturePhase)
 
--- RFC 7143 §6.3: the one stage comes behind the other
+-- RFC 7143 §6.3: the first stage comes after the second
 abbrev pub is_behind : Option Stage → Option Stage → Bool
 is_behind (Some stage) (Some other) = nat_lt (stage_number other) (stage_number stage)
 is_behind _ _ = false
@@ -62,27 +63,27 @@ is_behind _ _ = false
 abbrev pub is_due : LoginState → Bool
 is_due login = nat_lt 0 (length login.due)
 
--- the text since the last whole text
+-- all text since the last whole text
 abbrev pub joined : LoginState → Frame → List ℕ
 joined login request = login.kept ++ request.body
 
--- RFC 7143 §11.12.5, §11.12.6: the ISID and the TSIH are those of the first request
+-- RFC 7143 §11.12.5, §11.12.6: the ISID or the TSIH differs from that of the first request
 unfoldable pub is_other_session : LoginState → List ℕ → Bool
 is_other_session login header =
     let opening = opening_with login header in
     not (bytes_eq (isid header) opening.isid) || not (tsih header == opening.tsih)
 
--- RFC 7143 §6.2: while a piece of an answer is due nothing is said
+-- RFC 7143 §6.2: while a piece of an answer is due, a request has neither text nor C
 unfoldable pub interrupts : LoginState → Frame → Bool
 interrupts login request = is_due login && (is_continued request.header || nat_lt 0 (length request.body))
 
--- own: so much text is kept at most
+-- own: a text that is continued is longer than what is kept
 unfoldable pub is_too_long : LoginState → Frame → Bool
 is_too_long login request = is_continued request.header && nat_lt longest_text (length (joined login request))
 
 -- ---- the rules
 
--- of the request itself (RFC 7143 §11.12)
+-- for the request itself (RFC 7143 §11.12)
 abbrev pub rules_of_request : LoginState → Frame → List Rule
 rules_of_request login request =
     let header = request.header in
@@ -96,19 +97,19 @@ rules_of_request login request =
     ∷ rule (is_too_long login request) InitiatorError
     ∷ []
 
--- why it is refused
+-- why the request itself is refused
 unfoldable pub request_refusal : LoginState → Frame → Option LoginRefusal
 request_refusal login request = refusal_by (rules_of_request login request)
 
--- a whole text is read where no more of it comes, and no piece of the last answer is due
+-- a whole text is read if no more of it comes, and no piece of the last answer is due
 abbrev pub reads_text : LoginState → Frame → Bool
 reads_text login request = not (is_due login) && not (is_continued request.header)
 
--- what a key says, or nothing
+-- the value of a key, or nothing
 unfoldable pub said : List ℕ → List Pair → List ℕ
 said key pairs = unwrap_or (value_of key pairs) []
 
--- RFC 7143 §13.21: Normal where nothing is said
+-- RFC 7143 §13.21: Normal if no type is given
 unfoldable pub session_type : List Pair → List ℕ
 session_type pairs = unwrap_or (value_of (codes "SessionType") pairs) (codes "Normal")
 
@@ -122,13 +123,13 @@ is_discovery pairs = bytes_eq (session_type pairs) (codes "Discovery")
 abbrev pub longest_name : ℕ
 longest_name = 223
 
--- own: a name that is looked at is too long; of a discovery session it is the initiator's alone
+-- own: a name that counts is too long; in a discovery session only the initiator's counts
 abbrev pub has_long_name : List Pair → Bool
 has_long_name pairs =
     nat_lt longest_name (length (said (codes "InitiatorName") pairs))
     || is_normal pairs && nat_lt longest_name (length (said (codes "TargetName") pairs))
 
--- of the names in the first whole text (RFC 7143 §6.3, §13.4, §13.5, §13.21)
+-- for the names in the first whole text (RFC 7143 §6.3, §13.4, §13.5, §13.21)
 abbrev pub rules_of_names : List (List ℕ) → List Pair → List Rule
 rules_of_names names pairs =
     let target = said (codes "TargetName") pairs in
@@ -139,7 +140,7 @@ rules_of_names names pairs =
     ∷ rule (is_normal pairs && is_none (target_named names target)) TargetNotFound
     ∷ []
 
--- of the session that it asks for: a TSIH other than 0 would join one (RFC 7143 §6.3.1, §11.12.6)
+-- for the session that it asks for: a TSIH other than 0 would join one (RFC 7143 §6.3.1, §11.12.6)
 abbrev pub rules_of_handle : Session → ℕ → Option Params → List Rule
 rules_of_handle session handle named =
     rule (is_of session.nexus session.target named) TooManyConnections
@@ -150,7 +151,7 @@ abbrev pub is_again_after : Pair → Option (List ℕ) → Bool
 is_again_after pair None = false
 is_again_after pair (Some value) = not (is_name_key pair.0 && bytes_eq value pair.1)
 
--- RFC 7143 §6.3: a key is negotiated once; own: a name may be said again as it is
+-- RFC 7143 §6.3: a key is negotiated once; own: a name may be repeated as it is
 abbrev pub is_again : List Pair → Pair → Bool
 is_again earlier pair = is_again_after pair (value_of pair.0 earlier)
 
@@ -158,14 +159,14 @@ is_again earlier pair = is_again_after pair (value_of pair.0 earlier)
 unfoldable pub is_segment_refused : Pair → Bool
 is_segment_refused pair = is_segment_key pair.0 && not (is_answer pair.1) && is_none (number_in 512 16777215 pair.1)
 
--- of the keys of a whole text, and of those before it
+-- for the keys of a whole text, and those before it
 abbrev pub rules_of_keys : List Pair → List Pair → List Rule
 rules_of_keys earlier pairs =
     rule (list_any (is_again earlier) pairs) InitiatorError
     ∷ rule (list_any is_segment_refused pairs) InitiatorError
     ∷ []
 
--- a text without its fault
+-- the pairs of a text, or none if it is at fault
 abbrev pub pairs_read : {F : Type 0} → Result (List Pair) F → List Pair
 pairs_read (Ok pairs) = pairs
 pairs_read (Err fault) = []
@@ -174,15 +175,15 @@ pairs_read (Err fault) = []
 unfoldable pub pairs_with : LoginState → Frame → List Pair
 pairs_with login request = pairs_read (text_pairs (joined login request))
 
--- the target that is asked for: a discovery session is with none
+-- the target that is asked for: a discovery session has none
 unfoldable pub target_asked : List (List ℕ) → List Pair → Option ℕ
 target_asked names pairs = if is_normal pairs then target_named names (said (codes "TargetName") pairs) else None
 
--- RFC 7143 §13.3: a discovery session may be told of all targets, a normal one of its own
+-- RFC 7143 §13.3: a discovery session may learn of all targets, a normal one of its own
 unfoldable pub told_of : KnownTargets → List Pair → KnownTargets
 told_of directory pairs = if is_normal pairs then record directory { names = said (codes "TargetName") pairs ∷ [] } else directory
 
--- whose session the first whole text asks for, with which target, and what it may be told
+-- the session that the first whole text asks for: its nexus, its target, and the targets that it may learn of
 unfoldable pub asked_for : KnownTargets → List ℕ → List Pair → Session
 asked_for directory header pairs = record {
   nexus = record { initiator_name = said (codes "InitiatorName") pairs; isid = isid header };
@@ -190,7 +191,7 @@ asked_for directory header pairs = record {
   directory = told_of directory pairs;
 }
 
--- of the first whole text
+-- for the first whole text
 unfoldable pub first_refusal : Lookup → List ℕ → List Pair → Option LoginRefusal
 first_refusal lookup header pairs =
     option_or (refusal_by (rules_of_names lookup.directory.names pairs))
@@ -200,11 +201,11 @@ abbrev pub session_refusal : Option Session → Lookup → List ℕ → List Pai
 session_refusal None lookup header pairs = first_refusal lookup header pairs
 session_refusal (Some session) lookup header pairs = None
 
--- of its form (RFC 7143 §6.1)
+-- for the form of a text (RFC 7143 §6.1)
 abbrev pub text_fault : LoginState → Frame → Option LoginRefusal
 text_fault login request = if is_err (text_pairs (joined login request)) then Some InitiatorError else None
 
--- of a whole text: its form, the session that it asks for, its keys
+-- for a whole text: its form, the session that it asks for, its keys
 unfoldable pub text_refusal : LoginState → Lookup → Frame → Option LoginRefusal
 text_refusal login lookup request =
     option_or (text_fault login request)
@@ -222,7 +223,7 @@ refusal_of login lookup request =
     option_or (request_refusal login request)
     (if reads_text login request then text_refusal login lookup request else None)
 
--- how a refusal is told where an allocation may fail
+-- the fault agrees with the refusal, unless an allocation failed
 abbrev pub Tells : Option LoginRefusal → Fault → Type 0
 Tells said (faults.Refused refusal) = said ≡ Some refusal
 Tells said faults.Memory = ⊤

@@ -11,7 +11,7 @@ Live = List (Option Params)
 abbrev pub named_by : ℕ → Live → Option Params
 named_by handle live = if handle == 0 then None else slice_index_or live (handle - 1) None
 
--- both sessions are with this target: a discovery session is with none
+-- both sessions are with the same target; a discovery session is with none
 abbrev pub is_same_target : Option ℕ → Option ℕ → Bool
 is_same_target (Some target) (Some other) = target == other
 is_same_target None other = false
@@ -26,6 +26,6 @@ is_of nexus target (Some session) = same_nexus session.nexus nexus && is_same_ta
 unfoldable pub older : Params → Live → Option ℕ
 older session live = position (is_of session.nexus session.target) live
 
--- where the target of this name stands
+-- the position of the target with this name
 unfoldable pub target_named : List (List ℕ) → List ℕ → Option ℕ
 target_named names name = position (λ other. bytes_eq other name) names

@@ -35,20 +35,20 @@ with_number key value values =
     else if bytes_eq key (codes "MaxOutstandingR2T") then record values { max_outstanding_r2t = value }
     else values
 
--- the result of a key is in force; a word changes nothing, so the default stays
+-- the result of a key comes into force; a word changes nothing, so the default stays
 unfoldable pub with_result : List ℕ → KeyResult → Values → Values
 with_result key (results.Boolean value) values = with_boolean key value values
 with_result key (results.Number value) values = with_number key value values
 with_result key _ values = values
 
--- RFC 7143 §13.12: what the initiator takes in one PDU, 512 to 16777215 bytes
+-- RFC 7143 §13.12: the most data that the initiator accepts in one PDU, 512 to 16777215 bytes
 abbrev pub is_segment_key : List ℕ → Bool
 is_segment_key key = bytes_eq key (codes "MaxRecvDataSegmentLength")
 
 abbrev pub segment_in : List ℕ → ℕ → ℕ
 segment_in value before = unwrap_or (number_in 512 16777215 value) before
 
--- RFC 7143 §13.12: what a key declares is in force
+-- RFC 7143 §13.12: the declared value of a key comes into force
 abbrev pub with_declared : List ℕ → List ℕ → Values → Values
 with_declared key value values =
     if is_segment_key key then record values { max_recv_data_segment_length = segment_in value values.max_recv_data_segment_length }
@@ -60,12 +60,12 @@ with_pair values pair =
     if is_segment_key pair.0 then record values { max_recv_data_segment_length = segment_in pair.1 values.max_recv_data_segment_length }
     else with_result pair.0 (settled pair.0 pair.1) values
 
--- and after several
+-- the values in force after several more pairs
 abbrev pub with_pairs : Values → List Pair → Values
 with_pairs values pairs = fold with_pair values pairs
 
--- RFC 7143 §13.12, §13.13, §13.17: no length that data is cut by is below 512, at least one R2T may be open, and neither a burst nor
--- the number of open R2Ts is above this target's own value
+-- RFC 7143 §13.12, §13.13, §13.17: no length that data is cut by is below 512, and at least one R2T may be open.
+-- Neither a burst nor the number of open R2Ts is above this target's own value.
 pub record AreInRange (values : Values) : Type 0 where
   pub segment : 512 ≤ values.max_recv_data_segment_length
   pub burst : 512 ≤ values.max_burst_length

@@ -16,7 +16,7 @@ use std::alloc::Global;
 /// The longest piece of an answer's text, in bytes.
 pub(crate) const LONGEST_PIECE: usize = 8192;
 
-/// Puts a pair behind an answer's text.
+/// Appends a pair to an answer's text.
 fn put(text: &mut Vec<u8>, key: &str, value: &str) -> Result<(), Memory>
     ensures { OnOk result (text.new.items ≡ text.old.items ++ spelled (key.now, value.now)) }
 {
@@ -26,7 +26,7 @@ fn put(text: &mut Vec<u8>, key: &str, value: &str) -> Result<(), Memory>
     Ok(())
 }
 
-/// Puts a pair behind an answer's text, where it is told.
+/// Appends a pair to an answer's text if `is_told` is set.
 fn put_told(text: &mut Vec<u8>, is_told: bool, key: &str, value: &str) -> Result<(), Memory>
     ensures { OnOk result (text.new.items ≡ text.old.items ++ text_of (if is_told then (key.now, value.now) ∷ [] else [])) }
 {
@@ -36,7 +36,7 @@ fn put_told(text: &mut Vec<u8>, is_told: bool, key: &str, value: &str) -> Result
     Ok(())
 }
 
-/// Puts what an offer comes to behind an answer's text, where it is answered.
+/// Appends the result of an offer to an answer's text, if the offer is answered.
 fn put_result(text: &mut Vec<u8>, key: &str, answer: KeyResult) -> Result<(), Memory>
     ensures { OnOk result (text.new.items ≡ text.old.items ++ answered_text key.now answer) }
 {
@@ -48,8 +48,8 @@ fn put_result(text: &mut Vec<u8>, key: &str, answer: KeyResult) -> Result<(), Me
     }
 }
 
-/// Puts the results of offers behind an answer's text, in their order. Gives the values in force after
-/// them, so that each offer is settled once.
+/// Appends the results of offers to an answer's text, in their order. Returns the values in force after them, so that
+/// each offer is settled once.
 fn put_results(text: &mut Vec<u8>, offers: &Pairs, before: Values) -> Result<Values, Memory>
     ensures text { OnOk result (text.new.items ≡ text.old.items ++ text_of (filter_map answered_pair offers.now)) }
     ensures values { IfOk result (λ values. values ≡ with_pairs before offers.now) }
@@ -64,9 +64,9 @@ fn put_results(text: &mut Vec<u8>, offers: &Pairs, before: Values) -> Result<Val
     Ok(values)
 }
 
-/// The text of a whole answer to these offers, and the values in force after them: the portal group's
-/// tag where it is told, and what the target takes in one PDU where that is told (RFC 7143 §13.9,
-/// §13.12).
+/// Returns the text of a whole answer to these offers, and the values in force after them. The text has the portal
+/// group's tag if `tells_group` is set. It has the most that the target accepts in one PDU if `is_told` is set (RFC
+/// 7143 §13.9, §13.12).
 #[tactic(auto, using(crate::proofs::Answered::answer_parts), unfolding(crate::specs::Login::answer_pairs))]
 pub(crate) fn answer_text(
     alloc: Global,
@@ -85,7 +85,7 @@ pub(crate) fn answer_text(
     Ok((text, values))
 }
 
-/// The first piece of what is still to be sent.
+/// Returns the first piece of the text that is still to be sent.
 pub(crate) fn first_piece(alloc: Global, due: &[u8]) -> Result<Vec<u8>, Memory>
     ensures piece { IfOk result (λ piece. piece.items ≡ take longest_piece due.now) }
     ensures short { IfOk result (λ piece. length piece.items ≤ longest_piece) }

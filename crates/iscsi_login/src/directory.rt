@@ -1,11 +1,11 @@
-//! What a session may be told of the targets.
+//! The targets that a session may learn of.
 
 ghost use Rattle.std.specs.Prelude.{◌≡◌, map, string_bytes};
 
 use std::alloc::AllocError;
 use std::marker::Model;
 
-/// Targets by their names, and the portal at which they are.
+/// Targets by name, and the address of their portal.
 #[derive(Debug, Drop)]
 pub struct Directory {
     /// The name of each target, in order (RFC 7143 §4.2.7).

@@ -1,4 +1,4 @@
-//! The pairs of the texts before, in which a key is found among many.
+//! The pairs of the earlier texts, among which a key is found fast.
 
 ghost use Rattle.std.specs.Prelude.{◌≡◌, ◌++◌, [], not, IfOk, IsOk, OnErr, if◌then◌else◌};
 ghost use Rattle.std.specs.List.{list_any};
@@ -10,13 +10,13 @@ use out_of_memory::Memory;
 use std::alloc::Global;
 use std::marker::Model;
 
-/// The pairs of the texts before. Clauses see them as a list.
+/// The pairs of the earlier texts. Clauses see them as a list.
 #[derive(Drop)]
 pub(crate) struct Earlier {
     alloc: Global,
     pairs: Pairs,
-    /// The keys of the pairs, from the second text with keys on: most logins have one. After a text that is refused, or
-    /// for which an allocation fails, there is none.
+    /// The keys of the pairs, built when a second text has keys: in most logins only one does. There is none after a
+    /// text that is refused, or for which an allocation fails.
     tree: Option<KeyTree>,
 }
 
@@ -32,14 +32,14 @@ impl Model for Earlier {
 }
 
 impl Earlier {
-    /// No pairs yet.
+    /// Returns an empty list of pairs.
     pub fn new(alloc: Global) -> Earlier
         ensures { result ≡ [] }
     {
         Earlier::first(alloc, Pairs::new(alloc))
     }
 
-    /// The pairs of one text.
+    /// Returns the pairs of one text.
     fn first(alloc: Global, pairs: Pairs) -> Earlier
         ensures { result ≡ pairs }
     {
@@ -50,8 +50,8 @@ impl Earlier {
         }
     }
 
-    /// Appends pairs, if none of them says a key again that it may not. Otherwise, and where an allocation fails, the
-    /// pairs are as they were. An empty text asks for no memory.
+    /// Appends pairs, unless one of them repeats a key that may not be given again. Returns whether they were
+    /// appended. If not, or if an allocation fails, the pairs are unchanged. An empty text allocates nothing.
     #[tactic(auto, using(crate::proofs::FirstText::first_is_new, crate::proofs::FirstText::empty_is_new))]
     pub fn append(&mut self, more: Pairs) -> Result<bool, Memory>
         ensures value { IfOk result (λ is_new. is_new ≡ not (list_any (is_said_again self.old) more)) }

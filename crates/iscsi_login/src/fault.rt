@@ -1,4 +1,4 @@
-//! Out of memory, and why a request is not heard.
+//! Out of memory, and why a request is not taken.
 
 ghost use Rattle.std.specs.Prelude.{◌≡◌};
 ghost use Rattle.iscsi_login.specs.declared.fault.Fault.TheVariants as faults;
@@ -7,7 +7,7 @@ use iscsi_pdu::LoginRefusal;
 use out_of_memory::Memory;
 use std::alloc::AllocError;
 
-/// Why a text is not taken.
+/// The reason why a text is not taken.
 #[derive(Clone, Copy)]
 pub(crate) enum Fault {
     /// The login is refused.

@@ -164,8 +164,8 @@ impl KeyTree {
         }
     }
 
-    /// Adds the keys of more pairs, which come after those of this tree. Returns whether none of them says a key again
-    /// that it may not. Otherwise, and if an allocation fails, the tree is of no use any more.
+    /// Adds the keys of more pairs, which come after those of this tree. Returns whether none of them repeats a key
+    /// that may not be given again. Otherwise, or if an allocation fails, the tree can no longer be used.
     pub fn extend(&mut self, pairs: &Pairs, more: &Pairs) -> Result<bool, Memory>
         requires { IsTreeOf self.old pairs.now }
         ensures value { IfOk result (λ is_new. is_new ≡ not (list_any (is_said_again pairs.now) more.now)) }
@@ -186,7 +186,7 @@ impl KeyTree {
         ensures { IfOk result (λ tree. IsTreeOf tree pairs.now) }
     {
         let mut tree = KeyTree::new(alloc);
-        // No key stands before the first text, so none comes again.
+        // No key comes before the first text, so none is repeated.
         let _ = tree.extend(&Pairs::new(alloc), pairs)?;
         Ok(tree)
     }

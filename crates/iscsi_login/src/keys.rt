@@ -1,4 +1,4 @@
-//! What an offer of a key comes to (RFC 7143 §6.2, §12, §13).
+//! The results of offers of keys (RFC 7143 §6.2, §12, §13).
 
 ghost use Rattle.std.specs.Prelude.{◌≡◌, IfOk, bytes_eq, decimal, option_map, string_bytes};
 ghost use Rattle.iscsi_login.specs.Keys.{word_text, boolean_text, result_text, negotiation_of, transfer_negotiation as transfer_negotiation_of, session_negotiation as session_negotiation_of, is_listed as is_listed_word, boolean_of, result_by, is_answer as is_answer_value, is_name_key, is_passed_over as is_pair_passed_over, is_understood, is_known as is_known_key, settled as settled_of, key_result};
@@ -8,7 +8,7 @@ use itoa::Buffer;
 use out_of_memory::Memory;
 use std::alloc::Global;
 
-/// A word that is answered.
+/// A word that is sent as an answer.
 #[derive(Clone, Copy)]
 pub enum Word {
     None,
@@ -17,42 +17,42 @@ pub enum Word {
     NotUnderstood,
 }
 
-/// What an offer comes to.
+/// The result of an offer.
 #[derive(Clone, Copy)]
 pub enum KeyResult {
-    /// The key is a declaration, or the value an answer.
+    /// No answer: the key is a declaration, or the value is itself an answer.
     NoAnswer,
-    /// Yes or No, which is in force.
+    /// Yes or No, which comes into force.
     Boolean(bool),
-    /// A number, which is in force.
+    /// A number, which comes into force.
     Number(u32),
     /// A word.
     Word(Word),
 }
 
-/// How a key is negotiated (RFC 7143 §6.2), and the value of this target.
+/// How a key is negotiated (RFC 7143 §6.2), with the value of this target.
 #[derive(Clone, Copy)]
 pub enum Negotiation {
     /// A list of values, of which this one is chosen.
     Choice(Word),
-    /// Yes or No: Yes where one of the two says so.
+    /// Yes or No: Yes if either side says so.
     Or(bool),
-    /// Yes or No: Yes where both say so.
+    /// Yes or No: Yes if both sides say so.
     And(bool),
     /// A number within limits: the smaller of the two.
     Minimum(u32, u32, u32),
     /// A number within limits: the greater of the two.
     Maximum(u32, u32, u32),
-    /// This, whatever is offered.
+    /// This result, whatever is offered.
     Always(KeyResult),
-    /// The initiator's word alone.
+    /// Declared by the initiator alone.
     Declared,
 }
 
 const REJECTED: KeyResult = KeyResult::Word(Word::Reject);
 
 impl Word {
-    /// The word as it is sent.
+    /// Returns the word as it is sent.
     pub(crate) fn text(self) -> &'static str
         ensures { result.now ≡ word_text self }
     {
@@ -65,14 +65,14 @@ impl Word {
     }
 }
 
-/// A boolean value as it is sent.
+/// Returns a boolean value as it is sent.
 pub(crate) fn boolean_word(value: bool) -> &'static str
     ensures { result.now ≡ boolean_text value }
 {
     if value { "Yes" } else { "No" }
 }
 
-/// The two are the same. Their lengths tell most texts apart, without a call.
+/// Returns whether the two texts are equal. Most differ in length, which needs no call to compare.
 #[inline]
 #[tactic(auto, using(crate::proofs::Texts::lengths_differ))]
 pub(crate) fn same(text: &str, other: &str) -> bool
@@ -81,7 +81,7 @@ pub(crate) fn same(text: &str, other: &str) -> bool
     text.len() == other.len() && text == other
 }
 
-/// The row of a table with this key, or what stands for a key that has none: a `match` by [`same`].
+/// Returns the row of a table with this key, or the last row for a key that has none: a `match` by [`same`].
 macro_rules! of_key {
     ($key:expr; $($name:literal => $row:expr,)* _ => $other:expr,) => {{
         $(
@@ -93,7 +93,7 @@ macro_rules! of_key {
     }};
 }
 
-/// How a key is negotiated: those of RFC 7143 §12.1 to §13.9, in its order.
+/// Returns how a key is negotiated: the keys of RFC 7143 §12.1 to §13.9, in its order, and then the others.
 #[tactic(auto, unfolding(crate::specs::Keys::negotiation_of))]
 fn negotiation_for(key: &str) -> Negotiation
     ensures { result ≡ negotiation_of key.now }
@@ -114,7 +114,7 @@ fn negotiation_for(key: &str) -> Negotiation
     }
 }
 
-/// Those of RFC 7143 §13.10 to §13.19.
+/// Returns how a key of RFC 7143 §13.10 to §13.19 is negotiated, in its order, and then the others.
 #[tactic(auto, unfolding(crate::specs::Keys::transfer_negotiation))]
 fn transfer_negotiation(key: &str) -> Negotiation
     ensures { result ≡ transfer_negotiation_of key.now }
@@ -134,7 +134,7 @@ fn transfer_negotiation(key: &str) -> Negotiation
     }
 }
 
-/// Those of RFC 7143 §13.20 to §13.25, and a key that is not known.
+/// Returns how a key of RFC 7143 §13.20 to §13.25 is negotiated, or an unknown key.
 #[tactic(auto, unfolding(crate::specs::Keys::session_negotiation))]
 fn session_negotiation(key: &str) -> Negotiation
     ensures { result ≡ session_negotiation_of key.now }
@@ -151,7 +151,7 @@ fn session_negotiation(key: &str) -> Negotiation
     }
 }
 
-/// The key is one of RFC 7143.
+/// Returns whether the key is one of RFC 7143.
 #[tactic(auto, unfolding(crate::specs::Keys::is_known))]
 pub fn is_known(key: &str) -> bool
     ensures { result ≡ is_known_key key.now }
@@ -162,7 +162,7 @@ pub fn is_known(key: &str) -> bool
     )
 }
 
-/// The word is in the list, which commas separate.
+/// Returns whether the word is in the list, which is separated by commas.
 #[tactic(auto, unfolding(crate::specs::Keys::is_listed))]
 fn is_listed(word: &str, offer: &str) -> bool
     ensures { result ≡ is_listed_word word.now offer.now }
@@ -170,7 +170,7 @@ fn is_listed(word: &str, offer: &str) -> bool
     offer.split(',').any(|listed| same(word, listed))
 }
 
-/// Yes or No.
+/// Returns the boolean value of Yes or No, and `None` for anything else.
 #[tactic(auto, unfolding(crate::specs::Keys::boolean_of))]
 fn boolean(offer: &str) -> Option<bool>
     ensures { result ≡ boolean_of offer.now }
@@ -182,7 +182,7 @@ fn boolean(offer: &str) -> Option<bool>
     }
 }
 
-/// The value answers an offer, and is none.
+/// Returns whether the value answers an offer, and so is not an offer itself.
 #[tactic(auto, unfolding(crate::specs::Keys::is_answer))]
 pub(crate) fn is_answer(value: &str) -> bool
     ensures { result ≡ is_answer_value value.now }
@@ -190,7 +190,7 @@ pub(crate) fn is_answer(value: &str) -> bool
     same(value, "NotUnderstood") || same(value, "Irrelevant") || same(value, "Reject")
 }
 
-/// The key says who the initiator is, or what it asks for.
+/// Returns whether the key names the initiator, the target or the type of session.
 #[tactic(auto, unfolding(crate::specs::Keys::is_name_key))]
 pub(crate) fn is_name(key: &str) -> bool
     ensures { result ≡ is_name_key key.now }
@@ -198,7 +198,7 @@ pub(crate) fn is_name(key: &str) -> bool
     same(key, "InitiatorName") || same(key, "TargetName") || same(key, "SessionType")
 }
 
-/// The pair is passed over: its value answers an offer, and its key is none that names.
+/// Returns whether the pair is ignored: its value answers an offer, and its key is not one of the names.
 #[tactic(auto, unfolding(crate::specs::Keys::is_passed_over))]
 pub fn is_passed_over(key: &str, value: &str) -> bool
     ensures { result ≡ is_pair_passed_over key.now value.now }
@@ -207,7 +207,7 @@ pub fn is_passed_over(key: &str, value: &str) -> bool
 }
 
 impl Negotiation {
-    /// The result of an offer. One that is out of form or range is rejected.
+    /// Returns the result of an offer. One of wrong form or out of range is rejected.
     #[tactic(auto, unfolding(crate::specs::Keys::result_by))]
     fn result(self, offer: &str) -> KeyResult
         ensures { result ≡ result_by self offer.now }
@@ -241,7 +241,7 @@ impl Negotiation {
     }
 }
 
-/// What an offer comes to. A value that is an answer is passed over.
+/// Returns the result of an offer. A value that is an answer gets no answer.
 #[tactic(auto, unfolding(crate::specs::Keys::settled))]
 pub(crate) fn settled(key: &str, offer: &str) -> KeyResult
     ensures { result ≡ settled_of key.now offer.now }
@@ -252,7 +252,7 @@ pub(crate) fn settled(key: &str, offer: &str) -> KeyResult
     negotiation_for(key).result(offer)
 }
 
-/// A number as it is sent, in decimal.
+/// Returns a number as it is sent, in decimal.
 fn number_text(alloc: Global, value: u32) -> Result<String, Memory>
     ensures { IfOk result (λ text. string_bytes text ≡ decimal value) }
 {
@@ -260,7 +260,7 @@ fn number_text(alloc: Global, value: u32) -> Result<String, Memory>
     Ok(String::from_str(alloc, buffer.format(value))?)
 }
 
-/// What an offer of a key is answered, if anything.
+/// Returns the answer to an offer of a key, if there is any.
 #[tactic(auto, unfolding(crate::specs::Keys::key_result))]
 pub fn settle_key(alloc: Global, key: &str, offer: &str) -> Result<Option<String>, Memory>
     ensures { IfOk result (λ answer. option_map string_bytes answer ≡ key_result key.now offer.now) }

@@ -1,6 +1,7 @@
-//! The login phase of iSCSI (RFC 7143 §6.3, §11.12, §11.13), as a target sees it: the dialogue of
-//! Login Requests and Login Responses by which an initiator names itself and a target, and both
-//! settle by which values the session works.
+//! The login phase of iSCSI (RFC 7143 §6.3, §11.12, §11.13), on the side of the target.
+//!
+//! In a dialogue of Login Requests and Login Responses the initiator names itself and a target, and both settle the
+//! values of the session.
 //!
 //! ```text
 //!   Login Request ──> Login::take ──> Reply::GoOn(answer)           the login goes on
@@ -10,11 +11,11 @@
 //!
 //! Promised, and proved:
 //!
-//! - [`Login::take`] answers what `reply_of` (`specs/Login.antt`) says of all requests of the login
-//!   so far: the first rule that is broken refuses a request, and else the answer has the results
-//!   of its keys in order, in pieces where they are long.
+//! - [`Login::take`] answers what `reply_of` (`specs/Login.antt`) says of all requests of the login so far. The first
+//!   rule that is broken refuses a request. Otherwise the answer has the results of its keys in order, in pieces if
+//!   they are long.
 //! - [`settle_key`] answers an offer by the table of keys in `specs/Keys.antt`, as a login does.
-//! - Where an allocation fails the login is as it was.
+//! - If an allocation fails, the login is unchanged.
 #![tactic(auto)]
 
 mod answer;

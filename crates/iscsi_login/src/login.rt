@@ -1,4 +1,4 @@
-//! A login under way.
+//! A login in progress.
 
 ghost use Rattle.std.specs.Prelude.{◌≡◌, ◌<◌, ◌+◌, length, IfOk, OnErr};
 ghost use Rattle.iscsi_login.specs.Lookup.{lookup_in};
@@ -29,7 +29,7 @@ use std::marker::Model;
 /// The longest text of a login that is kept, in bytes.
 const LONGEST_TEXT: usize = 65536;
 
-/// A login under way. Clauses see it as what it remembers of its requests.
+/// A login in progress. Clauses see it as what it remembers of its requests.
 #[derive(Drop)]
 pub struct Login {
     alloc: Global,
@@ -65,7 +65,7 @@ impl Model for Login {
 }
 
 impl Login {
-    /// A login on connection `c`, before its first request. Its session will have TSIH `c + 1`.
+    /// Returns a login on connection `c`, before its first request. Its session will have TSIH `c + 1`.
     pub fn new(alloc: Global, c: usize) -> Login
         requires { c < 65535 }
         ensures { result ≡ new_login (c + 1) }
@@ -85,7 +85,7 @@ impl Login {
         }
     }
 
-    /// What the first request set, or sets.
+    /// Returns what the first request set, or what this one sets if it is the first.
     fn opening_with(&self, header: &Header) -> Opening
         ensures { result ≡ opening_for self.now header.now }
     {
@@ -95,21 +95,21 @@ impl Login {
         }
     }
 
-    /// The stage that the login is in, or begins in.
+    /// Returns the stage that the login is in, or in which it begins.
     fn stage_with(&self, header: &Header) -> Option<Stage>
         ensures { result ≡ stage_for self.now header.now }
     {
         self.stage.or(header.current_stage())
     }
 
-    /// A piece of the last answer is still to be sent.
+    /// Returns whether a piece of the last answer is still to be sent.
     fn is_due(&self) -> bool
         ensures { result ≡ has_due self.now }
     {
         !self.due.is_empty()
     }
 
-    /// The request is of another session than the first one.
+    /// Returns whether the request is of another session than the first one.
     #[tactic(auto, unfolding(crate::specs::Rules::is_other_session))]
     fn is_other_session(&self, header: &Header) -> bool
         ensures { result ≡ is_other self.now header.now }
@@ -118,7 +118,7 @@ impl Login {
         header.isid() != opening.isid || header.tsih() != opening.tsih
     }
 
-    /// The request says something while a piece of the last answer is due.
+    /// Returns whether the request has text or C while a piece of the last answer is due.
     #[tactic(auto, unfolding(crate::specs::Rules::interrupts))]
     fn is_interrupted_by(&self, request: &Frame) -> bool
         ensures { result ≡ interrupts self.now request.now }
@@ -126,7 +126,7 @@ impl Login {
         self.is_due() && (request.header.is_continued() || !request.body.is_empty())
     }
 
-    /// The text that goes on is too long to be kept.
+    /// Returns whether a text that is continued becomes too long to be kept.
     #[tactic(auto, unfolding(crate::specs::Rules::is_too_long))]
     fn is_too_long(&self, request: &Frame) -> bool
         ensures { result ≡ has_too_much self.now request.now }
@@ -134,7 +134,7 @@ impl Login {
         request.header.is_continued() && self.kept.len() + request.body.len() > LONGEST_TEXT
     }
 
-    /// Why the request itself is refused.
+    /// Returns why the request itself is refused, if it is.
     #[tactic(auto, unfolding(crate::specs::Rules::request_refusal))]
     fn refusal_of_request(&self, request: &Frame) -> Option<LoginRefusal>
         ensures { result ≡ request_refusal self.now request.now }
@@ -168,9 +168,10 @@ impl Login {
         None
     }
 
-    /// Takes a request, and answers it. `directory` has all targets in order, and `named` is the session
-    /// in full feature phase whose TSIH the request bears. Where an allocation fails
-    /// the login is as it was. After [`Reply::Full`] and [`Reply::Refused`] it is over.
+    /// Takes a request and answers it. `directory` has all targets in order. `named` is the session in full feature
+    /// phase whose TSIH the request bears.
+    ///
+    /// If an allocation fails, the login is unchanged. After [`Reply::Full`] and [`Reply::Refused`] it is over.
     pub fn take(
         &mut self,
         request: &Frame,

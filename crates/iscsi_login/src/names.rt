@@ -19,7 +19,7 @@ use std::alloc::Global;
 /// The longest name, in bytes (RFC 7143 §4.2.7.2).
 const LONGEST_NAME: usize = 223;
 
-/// What the text says of a key, or nothing.
+/// Returns the value of a key in the text, or an empty text.
 #[tactic(auto, unfolding(crate::specs::Rules::said))]
 fn what_is_said<'a>(said: &'a Pairs, key: &str) -> &'a str
     ensures { result.now ≡ said_by key.now said.now }
@@ -30,7 +30,7 @@ fn what_is_said<'a>(said: &'a Pairs, key: &str) -> &'a str
     }
 }
 
-/// The type of the session: Normal where the text does not say.
+/// Returns the type of the session: Normal if the text does not give one.
 #[tactic(auto, unfolding(crate::specs::Rules::session_type))]
 fn type_of(said: &Pairs) -> &str
     ensures { result.now ≡ session_type said.now }
@@ -41,7 +41,7 @@ fn type_of(said: &Pairs) -> &str
     }
 }
 
-/// The session is a Normal one.
+/// Returns whether the session is a Normal one.
 #[tactic(auto, unfolding(crate::specs::Rules::is_normal))]
 pub(crate) fn is_normal_session(said: &Pairs) -> bool
     ensures { result ≡ is_normal said.now }
@@ -49,7 +49,7 @@ pub(crate) fn is_normal_session(said: &Pairs) -> bool
     type_of(said) == "Normal"
 }
 
-/// The session is a discovery session.
+/// Returns whether the session is a discovery session.
 #[tactic(auto, unfolding(crate::specs::Rules::is_discovery))]
 fn is_discovery_session(said: &Pairs) -> bool
     ensures { result ≡ is_discovery said.now }
@@ -57,7 +57,7 @@ fn is_discovery_session(said: &Pairs) -> bool
     type_of(said) == "Discovery"
 }
 
-/// Where the target of this name stands among targets.
+/// Returns the position of the target with this name.
 #[tactic(auto, unfolding(crate::specs::Session::target_named))]
 pub fn position(names: &[String], name: &str) -> Option<usize>
     ensures value { result ≡ target_named (map string_bytes names.now) name.now }
@@ -66,8 +66,7 @@ pub fn position(names: &[String], name: &str) -> Option<usize>
     names.iter().position(|other| other.as_str() == name)
 }
 
-/// The target that the text of a Normal session names, by its position, or why the names in it are
-/// refused.
+/// Returns the position of the target that the text of a Normal session names, or why the names in it are refused.
 fn target_of(names: &[String], said: &Pairs) -> Result<usize, LoginRefusal>
     requires normal { is_normal said.now ≡ true }
     requires initiator { (length (said_by (codes "InitiatorName") said.now) == 0) ≡ false }
@@ -87,7 +86,7 @@ fn target_of(names: &[String], said: &Pairs) -> Result<usize, LoginRefusal>
     position(names, target).ok_or(LoginRefusal::TargetNotFound)
 }
 
-/// The target that the text asks for, or why the names in it are refused.
+/// Returns the target that the text asks for, or why the names in it are refused.
 #[tactic(auto, unfolding(crate::specs::Rules::target_asked))]
 fn target_asked_for(names: &[String], said: &Pairs) -> Result<Option<usize>, LoginRefusal>
     ensures rules { MatchResult result (λ _. refusal_by (rules_of_names (map string_bytes names.now) said.now) ≡ None)
@@ -111,7 +110,7 @@ fn target_asked_for(names: &[String], said: &Pairs) -> Result<Option<usize>, Log
     Ok(None)
 }
 
-/// What the session may be told of targets: a discovery session of all, a Normal one of its own.
+/// Returns the targets that the session may learn of: a discovery session of all, a Normal one of its own.
 #[tactic(auto, unfolding(crate::specs::Rules::told_of))]
 fn told(alloc: Global, directory: &Directory, said: &Pairs) -> Result<Directory, Memory>
     ensures { IfOk result (λ told. told ≡ told_of directory.now said.now) }
@@ -128,7 +127,7 @@ fn told(alloc: Global, directory: &Directory, said: &Pairs) -> Result<Directory,
 }
 
 impl Session {
-    /// The other is a session of the same nexus with the same target.
+    /// Returns whether the other is a session of the same nexus with the same target.
     fn is_same(&self, other: &Option<Params>) -> bool
         ensures { result ≡ is_session_of self.now.nexus self.now.target other.now }
     {
@@ -140,7 +139,7 @@ impl Session {
     }
 }
 
-/// Why the session that is asked for is refused: a TSIH other than 0 would join a session.
+/// Returns why the session that is asked for is refused, if it is. A TSIH other than 0 would join a session.
 fn refusal_of_handle(session: &Session, tsih: u16, named: &Option<Params>) -> Option<LoginRefusal>
     ensures { result ≡ refusal_by (rules_of_handle session.now tsih named.now) }
 {
@@ -153,7 +152,7 @@ fn refusal_of_handle(session: &Session, tsih: u16, named: &Option<Params>) -> Op
     None
 }
 
-/// The session that the first whole text asks for.
+/// Returns the session that the first whole text asks for, or why it is refused.
 #[tactic(auto, unfolding(crate::specs::Rules::asked_for, crate::specs::Rules::first_refusal))]
 pub(crate) fn asked(
     alloc: Global,

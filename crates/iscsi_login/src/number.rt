@@ -4,7 +4,7 @@ ghost use Rattle.std.specs.Prelude.{◌≡◌, ◌≤◌};
 ghost use Rattle.std.specs.Option.{option_and_then};
 ghost use Rattle.iscsi_login.specs.Number.{numeral as numeral_of, number_of, number_in as is_number_in, within};
 
-/// The number that digits of this radix spell, where it fits 32 bits.
+/// Returns the number that digits of this radix spell, if it fits 32 bits.
 fn numeral(digits: &str, radix: u32) -> Option<u32>
     requires least { 2 ≤ radix }
     requires most { radix ≤ 16 }
@@ -16,8 +16,8 @@ fn numeral(digits: &str, radix: u32) -> Option<u32>
     u32::from_str_radix(digits, radix).ok()
 }
 
-/// The number that a value is, where it fits 32 bits: hexadecimal after `0x` or `0X`, or decimal
-/// without leading zeros.
+/// Returns the number that a value is, if it fits 32 bits: hexadecimal after `0x` or `0X`, or decimal without leading
+/// zeros.
 #[tactic(auto, unfolding(crate::specs::Number::number_of))]
 fn number(text: &str) -> Option<u32>
     ensures { result ≡ option_and_then (within 0 0xFFFFFFFF) (number_of text.now) }
@@ -34,7 +34,7 @@ fn number(text: &str) -> Option<u32>
     numeral(text, 10)
 }
 
-/// The number that a value is, where it is within these limits.
+/// Returns the number that a value is, if it is within these limits.
 #[tactic(auto, unfolding(crate::specs::Number::number_in))]
 pub(crate) fn number_in(text: &str, low: u32, high: u32) -> Option<u32>
     ensures { result ≡ is_number_in low high text.now }

@@ -1,11 +1,11 @@
-//! What the first request of a login sets.
+//! The fields that the first request of a login sets.
 
 ghost use Rattle.std.specs.Prelude.{◌≡◌};
 ghost use Rattle.iscsi_login.specs.LoginState.{opening_of};
 
 use iscsi_pdu::Header;
 
-/// What the first request sets (RFC 7143 §11.12.5 to §11.12.8).
+/// The fields that the first request sets (RFC 7143 §11.12.5 to §11.12.8).
 #[derive(Clone, Copy)]
 pub struct Opening {
     pub isid: [u8; 6],
@@ -17,7 +17,7 @@ pub struct Opening {
 }
 
 impl Opening {
-    /// What this request would set.
+    /// Returns what this request would set.
     pub(crate) fn of(header: &Header) -> Opening
         ensures { result ≡ opening_of header.now }
     {

@@ -1,4 +1,4 @@
-//! What full feature phase begins with.
+//! The parameters with which full feature phase begins.
 
 ghost use Rattle.std.specs.Prelude.{◌≡◌};
 
@@ -7,19 +7,19 @@ use crate::values::Values;
 use scsi_sense::Nexus;
 use std::alloc::AllocError;
 
-/// What a login has come to: whose session it is, with which target, and the values in force.
+/// The result of a login: the nexus of the session, its target, and the values in force.
 #[derive(Debug, Drop)]
 pub struct Params {
     pub nexus: Nexus,
     /// The target, by its position among the targets. A discovery session has none.
     pub target: Option<usize>,
-    /// What SendTargets may tell: all targets in a discovery session, else the session's own.
+    /// The targets that SendTargets may list: all in a discovery session, otherwise the session's own.
     pub directory: Directory,
     /// CID of the first request (RFC 7143 §11.12.7)
     pub connection_id: u16,
     /// CmdSN of the first request, which the first command of the session has (RFC 7143 §11.12.8)
     pub first_cmd_sn: u32,
-    /// StatSN of the next answer, behind those of the login (RFC 7143 §4.2.2.2)
+    /// StatSN of the next answer, after those of the login (RFC 7143 §4.2.2.2)
     pub next_stat_sn: u32,
     pub values: Values,
 }

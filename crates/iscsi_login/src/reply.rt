@@ -1,4 +1,4 @@
-//! What a Login request is answered.
+//! The reply to a Login request.
 
 use crate::params::Params;
 use iscsi_pdu::LoginResponse;

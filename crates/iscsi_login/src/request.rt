@@ -6,7 +6,7 @@ ghost use Rattle.iscsi_login.specs.Login.{is_operational as is_operational_of, i
 
 use iscsi_pdu::{Header, LoginStep, Stage};
 
-/// Both stages are given, and are the same.
+/// Returns whether both stages are given, and are the same.
 pub(crate) fn is_same_stage(stage: Option<Stage>, other: Option<Stage>) -> bool
     ensures { result ≡ is_same stage other }
 {
@@ -16,7 +16,7 @@ pub(crate) fn is_same_stage(stage: Option<Stage>, other: Option<Stage>) -> bool
     }
 }
 
-/// The stage is one of a login.
+/// Returns whether the stage is one of a login.
 pub(crate) fn is_login_stage(stage: Option<Stage>) -> bool
     ensures { result ≡ is_stage_of_login stage }
 {
@@ -26,7 +26,7 @@ pub(crate) fn is_login_stage(stage: Option<Stage>) -> bool
     }
 }
 
-/// The one stage comes behind the other.
+/// Returns whether the first stage comes after the second.
 pub(crate) fn is_behind(stage: Option<Stage>, other: Option<Stage>) -> bool
     ensures { result ≡ comes_behind stage other }
 {
@@ -36,21 +36,21 @@ pub(crate) fn is_behind(stage: Option<Stage>, other: Option<Stage>) -> bool
     }
 }
 
-/// The request is in operational negotiation.
+/// Returns whether the request is in operational negotiation.
 pub(crate) fn is_operational(header: &Header) -> bool
     ensures { result ≡ is_operational_of header.now }
 {
     is_same_stage(header.current_stage(), Some(Stage::OperationalNegotiation))
 }
 
-/// Full feature phase is next.
+/// Returns whether full feature phase is next.
 pub(crate) fn is_last_step(step: LoginStep) -> bool
     ensures { result ≡ is_last step }
 {
     matches!(step, LoginStep::Enters(Stage::FullFeaturePhase))
 }
 
-/// The stage after a step.
+/// Returns the stage after a step.
 pub(crate) fn stage_after(stage: Option<Stage>, step: LoginStep) -> Option<Stage>
     ensures { result ≡ stage_behind stage step }
 {

@@ -6,8 +6,8 @@ ghost use Rattle.iscsi_login.specs.Session.{is_same_target as is_same};
 use crate::directory::Directory;
 use scsi_sense::Nexus;
 
-/// Whose session is asked for, with which target, by its position among the targets, and what it may
-/// be told of targets. A discovery session has no target.
+/// The nexus of the session that is asked for, its target by position among the targets, and the targets that it may
+/// learn of. A discovery session has no target.
 #[derive(Debug, Drop)]
 pub struct Session {
     pub nexus: Nexus,
@@ -15,7 +15,7 @@ pub struct Session {
     pub directory: Directory,
 }
 
-/// Both sessions are with this target: a discovery session is with none.
+/// Returns whether both sessions are with the same target. A discovery session is with none.
 pub fn is_same_target(target: Option<usize>, other: Option<usize>) -> bool
     ensures { result ≡ is_same target other }
 {

@@ -1,4 +1,4 @@
-//! The text of a login, and what its keys may say.
+//! The text of a login, and which keys and values are refused.
 
 ghost use Rattle.std.specs.Prelude.{◌≡◌, ◌++◌, IfOk, option_map};
 ghost use Rattle.std.specs.List.{list_any};
@@ -11,7 +11,7 @@ use iscsi_text::Pairs;
 use out_of_memory::Memory;
 use std::alloc::Global;
 
-/// The text so far with that of one more request.
+/// Returns the text so far followed by that of one more request.
 pub(crate) fn joined(alloc: Global, kept: &[u8], more: &[u8]) -> Result<Vec<u8>, Memory>
     ensures { IfOk result (λ text. text.items ≡ kept.now ++ more.now) }
 {
@@ -20,7 +20,8 @@ pub(crate) fn joined(alloc: Global, kept: &[u8], more: &[u8]) -> Result<Vec<u8>,
     Ok(text)
 }
 
-/// The key was said before with this value, if it was, and may not be said again so.
+/// Returns whether this pair repeats a key in a way that is refused. `before` is the earlier value of the key, if it
+/// has one. Only a name may be repeated, with the same value.
 pub(crate) fn is_again(before: Option<&str>, key: &str, value: &str) -> bool
     ensures { result ≡ is_again_after (key.now, value.now) (option_map (λ said. said.now) before.entry) }
 {
@@ -30,7 +31,7 @@ pub(crate) fn is_again(before: Option<&str>, key: &str, value: &str) -> bool
     }
 }
 
-/// The value is no length of a data segment, and no answer (RFC 7143 §13.12).
+/// Returns whether the value is neither a valid length of a data segment nor an answer (RFC 7143 §13.12).
 #[tactic(auto, unfolding(crate::specs::Rules::is_segment_refused))]
 fn is_segment_refused(key: &str, value: &str) -> bool
     ensures { result ≡ is_refused_segment (key.now, value.now) }
@@ -40,7 +41,7 @@ fn is_segment_refused(key: &str, value: &str) -> bool
         && number_in(value, LEAST_SEGMENT, MOST_SEGMENT).is_none()
 }
 
-/// One of the pairs declares what is no length of a data segment.
+/// Returns whether one of the pairs declares an invalid length of a data segment.
 pub(crate) fn says_no_segment(pairs: &Pairs) -> bool
     ensures { result ≡ list_any is_refused_segment pairs.now }
 {

@@ -7,17 +7,16 @@ ghost use Rattle.iscsi_login.specs.Values.{default_values, with_boolean as boole
 use crate::keys::{KeyResult, same};
 use crate::number::number_in;
 
-/// The values of the keys that a session works by, lengths in bytes and times in seconds. What
-/// cannot differ is not here: HeaderDigest, DataDigest and AuthMethod are None, MaxConnections is 1,
-/// DataPDUInOrder and DataSequenceInOrder are Yes, ErrorRecoveryLevel is 0.
+/// The values of the keys that a session uses, lengths in bytes and times in seconds. Keys that cannot differ are not
+/// here: HeaderDigest, DataDigest and AuthMethod are None, MaxConnections is 1, DataPDUInOrder and
+/// DataSequenceInOrder are Yes, ErrorRecoveryLevel is 0.
 #[derive(Clone, Copy, Debug, PartialEq, Eq)]
 pub struct Values {
     /// InitialR2T (RFC 7143 §13.10)
     pub initial_r2t: bool,
     /// ImmediateData (RFC 7143 §13.11)
     pub immediate_data: bool,
-    /// MaxRecvDataSegmentLength of the initiator: the most that one PDU to it bears (RFC 7143
-    /// §13.12)
+    /// MaxRecvDataSegmentLength of the initiator: the most data that one PDU to it carries (RFC 7143 §13.12)
     pub max_recv_data_segment_length: u32,
     /// MaxBurstLength (RFC 7143 §13.13)
     pub max_burst_length: u32,
@@ -31,14 +30,14 @@ pub struct Values {
     pub max_outstanding_r2t: u32,
 }
 
-/// The least number of bytes that MaxRecvDataSegmentLength may be (RFC 7143 §13.12).
+/// The least value of MaxRecvDataSegmentLength, in bytes (RFC 7143 §13.12).
 pub(crate) const LEAST_SEGMENT: u32 = 512;
 
-/// The most.
+/// The greatest value of MaxRecvDataSegmentLength, in bytes (RFC 7143 §13.12).
 pub(crate) const MOST_SEGMENT: u32 = 16_777_215;
 
 impl Values {
-    /// The defaults.
+    /// Returns the default values.
     pub(crate) fn new() -> Values
         ensures { result ≡ default_values }
     {
@@ -54,7 +53,7 @@ impl Values {
         }
     }
 
-    /// The result of a key that is Yes or No is in force.
+    /// Puts the result of a key that is Yes or No into force.
     fn with_boolean(self, key: &str, value: bool) -> Values
         ensures { result ≡ boolean_with key.now value self }
     {
@@ -67,7 +66,7 @@ impl Values {
         values
     }
 
-    /// The result of a key that is a number is in force.
+    /// Puts the result of a key that is a number into force.
     fn with_number(self, key: &str, value: u32) -> Values
         ensures { result ≡ number_with key.now value self }
     {
@@ -86,7 +85,7 @@ impl Values {
         values
     }
 
-    /// What a key declares is in force.
+    /// Puts the declared value of a key into force.
     fn with_declared(self, key: &str, value: &str) -> Values
         ensures { result ≡ declared_with key.now value.now self }
     {
@@ -102,7 +101,7 @@ impl Values {
         }
     }
 
-    /// The values after one more pair, whose offer comes to this.
+    /// Returns the values after one more pair, whose offer has this result.
     #[tactic(auto, using(crate::proofs::Declared::pair_by_result))]
     pub(crate) fn with_pair(self, key: &str, value: &str, settled: KeyResult) -> Values
         requires { settled ≡ settled_of key.now value.now }

@@ -1,4 +1,4 @@
-//! How a login is answered.
+//! The answers of a login.
 
 ghost use Rattle.std.specs.Prelude.{◌≡◌, ◌≤◌, ℕ, length, min, take, IfNone};
 ghost use Rattle.iscsi_login.specs.LoginState.{AsksBelow};
@@ -14,11 +14,11 @@ use iscsi_pdu::{
     Frame, Header, LoginAccepted, LoginRefusal, LoginReply, LoginResponse, LoginStep, Stage, Stamp,
 };
 
-/// So many commands beside the first may be sent, one less than the window (RFC 7143 §4.2.2.1).
+/// The number of commands beside the first that may be sent: one less than the window (RFC 7143 §4.2.2.1).
 const WINDOW_AHEAD: u32 = 31;
 
 impl Login {
-    /// The sequence numbers of the next answer.
+    /// Returns the sequence numbers of the next answer.
     #[tactic(auto, unfolding(crate::specs::Login::login_stamp))]
     fn stamp(&self, header: &Header) -> Stamp
         ensures { result ≡ login_stamp self.now header.now }
@@ -31,7 +31,7 @@ impl Login {
         }
     }
 
-    /// The Login Response with this reply.
+    /// Returns the Login Response with this reply.
     #[tactic(auto, unfolding(crate::specs::Login::login_response))]
     fn response(&self, request: &Frame, tsih: u16, reply: LoginReply) -> LoginResponse
         ensures { result ≡ login_response self.now request.now tsih reply }
@@ -46,7 +46,7 @@ impl Login {
         }
     }
 
-    /// The request is refused.
+    /// Returns the reply that refuses the request.
     pub(super) fn refuse(&self, request: &Frame, refusal: LoginRefusal) -> Reply
         ensures { result ≡ refused_reply self.now request.now refusal }
     {
@@ -54,7 +54,8 @@ impl Login {
         Reply::Refused(self.response(request, tsih, LoginReply::Refused(refusal)))
     }
 
-    /// Where the login goes with the next answer.
+    /// Returns the step of the login with the next answer: more text follows, the next stage is entered, or the stage
+    /// stays.
     fn step(&self, header: &Header) -> LoginStep
         ensures { result ≡ step_of header.now self.now.due }
     {
@@ -67,7 +68,7 @@ impl Login {
         LoginStep::Stays
     }
 
-    /// The session that begins with the next answer.
+    /// Takes the session that begins with the next answer, if one does.
     fn begin(&mut self, step: LoginStep) -> Option<Session>
         ensures session { result ≡ begun_by self.old step }
         ensures target { (count : ℕ) → AsksBelow count self.old.session → AsksBelow count result }
@@ -81,7 +82,7 @@ impl Login {
         None
     }
 
-    /// So many bytes of what is due are sent, one piece.
+    /// Records that the next piece of the answer, `sent` bytes, is sent.
     fn go_on(&mut self, header: &Header, sent: usize)
         requires { sent ≡ min longest_piece (length self.old.due) }
         ensures { self.new ≡ answered self.old header.now }
@@ -94,7 +95,7 @@ impl Login {
         self.due.advance(sent);
     }
 
-    /// The Login Response that has this piece, the next one of what is due.
+    /// Returns the Login Response that has this piece, the next one of the text that is due.
     fn accept(&self, request: &Frame, piece: Vec<u8>) -> LoginResponse
         requires next { piece.items ≡ take longest_piece self.now.due }
         requires short { length piece.items ≤ longest_piece }
@@ -118,7 +119,7 @@ impl Login {
         self.response(request, tsih, LoginReply::Accepted(accepted))
     }
 
-    /// The answer has this piece of what is due, the next one.
+    /// Answers with this piece, the next one of the text that is due.
     #[tactic(auto, unfolding(crate::specs::Login::reply_to, crate::specs::Login::params_of))]
     pub(super) fn answer(&mut self, request: &Frame, piece: Vec<u8>) -> Reply
         requires next { piece.items ≡ take longest_piece self.old.due }

@@ -28,7 +28,7 @@ use iscsi_text::{Pairs, TextFault, pairs};
 use out_of_memory::Memory;
 use std::alloc::Global;
 
-/// The pairs of a whole text, or why it is refused.
+/// Returns the pairs of a whole text, or why it is refused.
 fn read_text(alloc: Global, text: &[u8]) -> Result<Pairs, Fault>
     ensures pairs { IfOk result (λ pairs. pairs ≡ pairs_read (text_pairs text.now)) }
     ensures whole { OnOk result (is_err (text_pairs text.now) ≡ false) }
@@ -42,7 +42,7 @@ fn read_text(alloc: Global, text: &[u8]) -> Result<Pairs, Fault>
 }
 
 impl Login {
-    /// The text that a request completes, read: its pairs, or why it is refused.
+    /// Reads the text that a request completes. Returns its pairs, or why it is refused.
     #[tactic(auto, unfolding(crate::specs::Rules::pairs_with))]
     fn read(&self, request: &Frame) -> Result<Pairs, Fault>
         ensures pairs { IfOk result (λ pairs. pairs ≡ pairs_with self.now request.now) }
@@ -56,7 +56,7 @@ impl Login {
         read_text(self.alloc, text.as_slice())
     }
 
-    /// The session that a whole text asks for, where it is the first.
+    /// Returns the session that a whole text asks for, if it is the first whole text.
     fn ask(
         &self,
         request: &Frame,
@@ -76,7 +76,7 @@ impl Login {
         Ok(Some(session))
     }
 
-    /// The text of the answer to a whole text with these pairs, its first piece, and the values in force
+    /// Returns the text of the answer to a whole text with these pairs, its first piece, and the values in force
     /// after them.
     fn answer_to(
         &self,
@@ -95,8 +95,8 @@ impl Login {
         Ok((BytesMut::from(text), piece, values))
     }
 
-    /// A whole text is remembered by its pairs and the session that it asks for, and its answer is
-    /// due, unless it says a key again that it may not. Where it is refused or an allocation fails nothing changes.
+    /// Remembers a whole text by its pairs and the session that it asks for; its answer is then due. A key that may
+    /// not be given again refuses the text. If the text is refused or an allocation fails, nothing changes.
     #[tactic(auto, unfolding(crate::specs::Login::heard))]
     fn remember(
         &mut self,
@@ -128,7 +128,7 @@ impl Login {
         Ok(())
     }
 
-    /// A whole text is taken, and its answer is due. Gives the first piece of the answer.
+    /// Takes a whole text, whose answer is then due. Returns the first piece of the answer.
     #[tactic(auto, unfolding(crate::specs::Rules::text_refusal))]
     pub(super) fn hear(
         &mut self,
@@ -154,7 +154,7 @@ impl Login {
         Ok(piece)
     }
 
-    /// The text of a request with C is kept. Where an allocation fails nothing changes.
+    /// Keeps the text of a request with C. If an allocation fails, nothing changes.
     pub(super) fn keep(&mut self, request: &Frame) -> Result<(), Memory>
         ensures ok { OnOk result (self.new ≡ kept_with self.old request.now) }
         ensures err { OnErr result (self.new ≡ self.old) }
