@@ -1,4 +1,4 @@
--- What the target answers.
+-- The answers of the target.
 use Rattle.std.specs.Prelude.{ℕ, List}
 use Rattle.iscsi_pdu.specs.NopIn.{nop_in_bytes}
 use Rattle.iscsi_pdu.specs.ScsiResponse.{scsi_response_bytes}

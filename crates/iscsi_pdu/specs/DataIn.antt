@@ -1,4 +1,4 @@
--- A piece of the data that a command gives its initiator (RFC 7143 §11.7).
+-- A piece of the data that a command returns to its initiator (RFC 7143 §11.7).
 use Rattle.std.specs.Prelude.{ℕ, List, [], ◌∷◌, ◌++◌, length, replicate, Bool, if◌then◌else◌}
 use Rattle.byteorder.specs.Endian.{big_bytes}
 use Rattle.iscsi_pdu.specs.Segment.{segment}
@@ -13,8 +13,8 @@ pub record DataInFields : Type 0 where
   pub buffer_offset : ℕ
   pub body : List ℕ
 
--- RFC 7143 §11.7: F is bit 7 of byte 1, and A, O, U and S are 0. The Target Transfer Tag FFFFFFFFh asks
--- for no acknowledgement; StatSN, bytes 24 to 27, and the residual count are 0 where there is no status.
+-- RFC 7143 §11.7: F is bit 7 of byte 1, and A, O, U and S are 0. The Target Transfer Tag FFFFFFFFh asks for no
+-- acknowledgement. StatSN, bytes 24 to 27, and the residual count are 0 if there is no status.
 abbrev pub data_in_header : DataInFields → List ℕ
 data_in_header d =
     (0x25 ∷ (if d.is_final then 0x80 else 0) ∷ 0 ∷ 0 ∷ 0 ∷ []) ++ big_bytes 3 (length d.body)

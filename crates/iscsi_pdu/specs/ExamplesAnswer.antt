@@ -1,5 +1,5 @@
--- The bytes of answers to a login, to a refused login and to commands, of their data, and of an R2T, and of
--- answers to a text, to a NOP-Out, to a logout and to a refused PDU, computed.
+-- The bytes of answers, computed: login responses, a refusal among them, answers to commands with their data, and an
+-- R2T; the answers to a text, to a NOP-Out, to a logout and to a refused PDU.
 use Rattle.std.specs.Prelude.{◌≡◌, ℕ, List, [], ◌∷◌, ◌++◌, Some, None, true, codes, refl}
 use Rattle.iscsi_pdu.specs.declared.answer.Answer.TheVariants as answers
 use Rattle.iscsi_pdu.specs.declared.login_response.LoginRefusal.TheVariants as refusals
@@ -53,7 +53,7 @@ refusal_spelled : spelling (answers.LoginResponse (record {
 })) ≡ login_refusal
 refusal_spelled = refl
 
--- operational negotiation: the text goes on, and the stage is kept
+-- operational negotiation: the text continues, and the stage is kept
 continued_flags : login_flags (replies.Accepted (record { stage = stages.OperationalNegotiation; step = steps.Continued; text = [] })) ≡ 0x44
 continued_flags = refl
 
@@ -125,7 +125,7 @@ text_spelled : spelling (answers.TextResponse (record {
 })) ≡ text_response
 text_spelled = refl
 
--- a piece of a long answer, and a whole answer behind which the exchange goes on
+-- a piece of a long answer, and a whole answer after which the exchange goes on
 text_continued : text_flags text_steps.Continued ≡ 0x40
 text_continued = refl
 
@@ -157,7 +157,7 @@ data_in_spelled : spelling (answers.DataIn (record {
 })) ≡ data_in
 data_in_spelled = refl
 
--- five bytes of ping data come back; three pad bytes
+-- five bytes of ping data are returned; three pad bytes
 abbrev nop_in : List ℕ
 nop_in =
     0x20 ∷ 0x80 ∷ 0x00 ∷ 0x00 ∷ 0x00 ∷ 0x00 ∷ 0x00 ∷ 0x05 ∷ 0x00 ∷ 0x00 ∷ 0x00 ∷ 0x00 ∷ 0x00 ∷ 0x00 ∷ 0x00 ∷ 0x00 ∷
@@ -172,7 +172,7 @@ nop_in_spelled : spelling (answers.NopIn (record {
 })) ≡ nop_in
 nop_in_spelled = refl
 
--- no such unit; there is no data segment
+-- the unit does not exist; no data segment
 abbrev task_management_response : List ℕ
 task_management_response =
     0x22 ∷ 0x80 ∷ 0x02 ∷ 0x00 ∷ 0x00 ∷ 0x00 ∷ 0x00 ∷ 0x00 ∷ 0x00 ∷ 0x00 ∷ 0x00 ∷ 0x00 ∷ 0x00 ∷ 0x00 ∷ 0x00 ∷ 0x00 ∷
@@ -186,7 +186,7 @@ task_management_spelled : spelling (answers.TaskManagementResponse (record {
 })) ≡ task_management_response
 task_management_spelled = refl
 
--- connection recovery is not supported; there is no data segment
+-- connection recovery is not supported; no data segment
 abbrev logout_response : List ℕ
 logout_response =
     0x26 ∷ 0x80 ∷ 0x02 ∷ 0x00 ∷ 0x00 ∷ 0x00 ∷ 0x00 ∷ 0x00 ∷ 0x00 ∷ 0x00 ∷ 0x00 ∷ 0x00 ∷ 0x00 ∷ 0x00 ∷ 0x00 ∷ 0x00 ∷
@@ -218,7 +218,7 @@ r2t_spelled : spelling (answers.R2t (record {
 })) ≡ r2t
 r2t_spelled = refl
 
--- the header of a SCSI Command comes back as 48 bytes of data
+-- the header of a SCSI Command is returned as 48 bytes of data
 abbrev reject : List ℕ
 reject =
     0x3f ∷ 0x80 ∷ 0x09 ∷ 0x00 ∷ 0x00 ∷ 0x00 ∷ 0x00 ∷ 0x30 ∷ 0x00 ∷ 0x00 ∷ 0x00 ∷ 0x00 ∷ 0x00 ∷ 0x00 ∷ 0x00 ∷ 0x00 ∷

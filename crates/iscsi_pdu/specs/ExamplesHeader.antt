@@ -90,7 +90,7 @@ logout_header =
 logout_opcode : (opcode_of (opcode_number logout_header) ≡ opcodes.Logout) × (is_immediate logout_header ≡ true)
 logout_opcode = (refl, refl)
 
--- the reason is without the bit that is always set
+-- the reason, without the bit that is always set
 logout_fields : (logout_reason logout_header ≡ 2) × (connection_id logout_header ≡ 7)
 logout_fields = (refl, refl)
 
@@ -107,10 +107,10 @@ abort_opcode = (refl, refl)
 abort_fields : (referenced_task_tag abort_header ≡ 9) × (ref_cmd_sn abort_header ≡ 5)
 abort_fields = (refl, refl)
 
--- 0 and 9 are no functions
+-- 0 and 9 are not functions
 no_function : (task_function 0 ≡ functions.Other 0) × (task_function 9 ≡ functions.Other 9)
 no_function = (refl, refl)
 
--- 3Fh is no opcode of an initiator
+-- 3Fh is not an opcode of an initiator
 no_opcode : opcode_of 0x3F ≡ opcodes.Other 0x3F
 no_opcode = refl

@@ -3,7 +3,7 @@ use Rattle.std.specs.Prelude.{◌≡◌, ℕ, zero, suc, ◌+◌, ◌-◌, ◌�
 use Rattle.iscsi_pdu.specs.Header.{header_length, additional_length, data_length}
 use Rattle.iscsi_pdu.specs.Segment.{most_data, padded}
 
--- RFC 7143 §11.2: what counts of a PDU, its header and its data segment
+-- RFC 7143 §11.2: the relevant parts of a PDU, its header and its data segment
 pub record Frame : Type 0 where
   pub header : List ℕ
   pub body : List ℕ
@@ -16,7 +16,7 @@ frame_length bytes = header_length + additional_length bytes + padded (data_leng
 abbrev pub has_header : List ℕ → Bool
 has_header bytes = nat_le header_length (length bytes)
 
--- profile: a whole header that names more data than is taken
+-- profile: a whole header that names more data than is accepted
 unfoldable pub is_long : List ℕ → Bool
 is_long bytes = has_header bytes && nat_lt most_data (data_length bytes)
 
@@ -24,7 +24,7 @@ is_long bytes = has_header bytes && nat_lt most_data (data_length bytes)
 unfoldable pub has_frame : List ℕ → Bool
 has_frame bytes = has_header bytes && nat_le (data_length bytes) most_data && nat_le (frame_length bytes) (length bytes)
 
--- RFC 7143 §11.2: that frame; the additional header and the pad bytes are passed over
+-- RFC 7143 §11.2: that frame; the additional header and the pad bytes are skipped
 unfoldable pub first_frame : List ℕ → Frame
 first_frame bytes = record { header = take header_length bytes; body = take (data_length bytes) (drop (header_length + additional_length bytes) bytes) }
 
@@ -37,12 +37,12 @@ frames_within (suc n) bytes = if has_frame bytes then first_frame bytes ∷ fram
 unfoldable pub frames : List ℕ → List Frame
 frames bytes = frames_within (length bytes) bytes
 
--- the bytes behind them
+-- the bytes after them
 abbrev pub rest_within : ℕ → List ℕ → List ℕ
 rest_within zero bytes = bytes
 rest_within (suc n) bytes = if has_frame bytes then rest_within n (drop (frame_length bytes) bytes) else bytes
 
--- the bytes behind the whole frames, which begin with none
+-- the bytes after the whole frames, which begin with no frame
 unfoldable pub rest : List ℕ → List ℕ
 rest bytes = rest_within (length bytes) bytes
 

@@ -1,31 +1,31 @@
--- What holds of the frames of bytes, for any bytes.
+-- Laws of the frames of bytes, for any bytes.
 use Rattle.std.specs.Prelude.{◌≡◌, ℕ, ◌<◌, List, [], ◌∷◌, ◌++◌, length, drop, true, false}
 use Rattle.iscsi_pdu.specs.Frames.{Frame, is_long, has_frame, frame_length, first_frame, frames, rest, AreSpelled}
 
--- the bytes are the spellings of these frames, and then less than a whole one
+-- the bytes are the spellings of these frames, and then less than a whole frame
 pub record IsCut (bytes : List ℕ) (cut : List Frame) (remaining : List ℕ) : Type 0 where
   pub whole : List ℕ
   pub spelled : AreSpelled cut whole
   pub joined : bytes ≡ whole ++ remaining
   pub ended : has_frame remaining ≡ false
 
--- a frame in front is the first
+-- a frame at the front is the first frame
 abbrev pub FirstFrame : Type 0
 FirstFrame = (bytes : List ℕ) → has_frame bytes ≡ true → frames bytes ≡ first_frame bytes ∷ frames (drop (frame_length bytes) bytes)
 
--- and leaves the rest as it is
+-- the first frame does not change the rest
 abbrev pub FirstRest : Type 0
 FirstRest = (bytes : List ℕ) → has_frame bytes ≡ true → rest (drop (frame_length bytes) bytes) ≡ rest bytes
 
--- the bytes behind it are fewer
+-- the bytes after the first frame are fewer
 abbrev pub FirstIsShorter : Type 0
 FirstIsShorter = (bytes : List ℕ) → has_frame bytes ≡ true → length (drop (frame_length bytes) bytes) < length bytes
 
--- with no frame in front there is none
+-- without a frame at the front there is no frame
 abbrev pub NoFrames : Type 0
 NoFrames = (bytes : List ℕ) → has_frame bytes ≡ false → frames bytes ≡ []
 
--- and all is rest
+-- without a frame at the front all bytes are the rest
 abbrev pub NoFrameRest : Type 0
 NoFrameRest = (bytes : List ℕ) → has_frame bytes ≡ false → rest bytes ≡ bytes
 
@@ -33,7 +33,7 @@ NoFrameRest = (bytes : List ℕ) → has_frame bytes ≡ false → rest bytes �
 abbrev pub LongIsNoFrame : Type 0
 LongIsNoFrame = (bytes : List ℕ) → is_long bytes ≡ true → has_frame bytes ≡ false
 
--- and stays long, whatever follows
+-- a long frame stays long, whatever follows
 abbrev pub LongStays : Type 0
 LongStays = (bytes more : List ℕ) → is_long bytes ≡ true → is_long (bytes ++ more) ≡ true
 
@@ -41,7 +41,7 @@ LongStays = (bytes more : List ℕ) → is_long bytes ≡ true → is_long (byte
 abbrev pub FramesInPieces : Type 0
 FramesInPieces = (bytes more : List ℕ) → frames (bytes ++ more) ≡ frames bytes ++ frames (rest bytes ++ more)
 
--- and leave the same rest
+-- a piece and what follows it leave the same rest as both together
 abbrev pub RestInPieces : Type 0
 RestInPieces = (bytes more : List ℕ) → rest (bytes ++ more) ≡ rest (rest bytes ++ more)
 
@@ -49,10 +49,10 @@ RestInPieces = (bytes more : List ℕ) → rest (bytes ++ more) ≡ rest (rest b
 abbrev pub FramesAreCut : Type 0
 FramesAreCut = (bytes : List ℕ) → IsCut bytes (frames bytes) (rest bytes)
 
--- each cut is into these frames
+-- each cut has these frames
 abbrev pub OnlyFrames : Type 0
 OnlyFrames = (bytes : List ℕ) (cut : List Frame) (remaining : List ℕ) → IsCut bytes cut remaining → cut ≡ frames bytes
 
--- and leaves this rest
+-- each cut has this rest
 abbrev pub OnlyRest : Type 0
 OnlyRest = (bytes : List ℕ) (cut : List Frame) (remaining : List ℕ) → IsCut bytes cut remaining → remaining ≡ rest bytes

@@ -27,7 +27,7 @@ abbrev pub login_status : LoginReply → ℕ
 login_status (replies.Refused refusal) = refusal_code refusal
 login_status (replies.Accepted accepted) = 0x0000
 
--- RFC 7143 §11.13.6 and §11.13.7: T and NSG, or C; NSG stands only beside T
+-- RFC 7143 §11.13.6 and §11.13.7: T and NSG, or C; NSG is sent only with T
 abbrev pub step_flags : LoginStep → ℕ
 step_flags steps.Continued = continued
 step_flags steps.Stays = 0

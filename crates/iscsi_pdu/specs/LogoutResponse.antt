@@ -19,6 +19,6 @@ logout_response_header r =
     ++ replicate 8 0 ++ big_bytes 4 r.initiator_task_tag ++ replicate 4 0
     ++ stamp_bytes r.stamp ++ replicate 12 0
 
--- RFC 7143 §11.15: the header; there is no data segment
+-- RFC 7143 §11.15: the header; no data segment
 abbrev pub logout_response_bytes : LogoutResponse → List ℕ
 logout_response_bytes r = logout_response_header r

@@ -11,14 +11,14 @@ pub record NopInFields : Type 0 where
   pub stamp : Stamp
   pub body : List ℕ
 
--- RFC 7143 §11.19: bit 0 of byte 1 is set. The Target Transfer Tag FFFFFFFFh asks for no answer, and the
--- LUN beside it is 0.
+-- RFC 7143 §11.19: bit 0 of byte 1 is set. The Target Transfer Tag FFFFFFFFh asks for no answer, and the LUN with it
+-- is 0.
 abbrev pub nop_in_header : NopInFields → List ℕ
 nop_in_header n =
     (0x20 ∷ 0x80 ∷ 0 ∷ 0 ∷ 0 ∷ []) ++ big_bytes 3 (length n.body)
     ++ replicate 8 0 ++ big_bytes 4 n.initiator_task_tag ++ replicate 4 0xff
     ++ stamp_bytes n.stamp ++ replicate 12 0
 
--- RFC 7143 §11.19: the header, and the data that is returned as its data segment
+-- RFC 7143 §11.19: the header, and the returned data as its data segment
 abbrev pub nop_in_bytes : NopInFields → List ℕ
 nop_in_bytes n = nop_in_header n ++ segment n.body

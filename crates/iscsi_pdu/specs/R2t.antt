@@ -10,6 +10,6 @@ r2t_header r =
     (0x31 ∷ 0x80 ∷ []) ++ replicate 6 0 ++ r.lun ++ big_bytes 4 r.initiator_task_tag ++ big_bytes 4 r.target_transfer_tag
     ++ stamp_bytes r.stamp ++ big_bytes 4 r.r2t_sn ++ big_bytes 4 r.buffer_offset ++ big_bytes 4 r.desired_length
 
--- RFC 7143 §11.8: the header; there is no data segment
+-- RFC 7143 §11.8: the header; no data segment
 abbrev pub r2t_bytes : R2t → List ℕ
 r2t_bytes r = r2t_header r

@@ -14,7 +14,7 @@ reject_code reasons.CommandNotSupported = 0x05
 reject_code reasons.TooManyImmediate = 0x06
 reject_code reasons.InvalidField = 0x09
 
--- RFC 7143 §11.17: bit 0 of byte 1 is set, and FFFFFFFFh stands in the place of the Initiator Task Tag
+-- RFC 7143 §11.17: bit 0 of byte 1 is set, and FFFFFFFFh is in the place of the Initiator Task Tag
 abbrev pub reject_header : Reject → List ℕ
 reject_header r =
     (0x3f ∷ 0x80 ∷ reject_code r.reason ∷ 0 ∷ 0 ∷ []) ++ big_bytes 3 (length r.header)

@@ -1,4 +1,4 @@
--- How a SCSI command ended (RFC 7143 §11.4).
+-- The end of a SCSI command (RFC 7143 §11.4).
 use Rattle.std.specs.Prelude.{ℕ, ◌+◌, List, [], ◌∷◌, ◌++◌, length, replicate, Option, Some, None}
 use Rattle.byteorder.specs.Endian.{big_bytes}
 use Rattle.iscsi_pdu.specs.Segment.{segment}

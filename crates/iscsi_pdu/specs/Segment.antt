@@ -1,7 +1,7 @@
 -- Data segments and their padding (RFC 7143 §11.1).
 use Rattle.std.specs.Prelude.{ℕ, ◌+◌, ◌-◌, ◌*◌, ◌/◌, List, ◌++◌, length, replicate}
 
--- profile: the longest data segment in bytes that is taken or sent
+-- profile: the length in bytes of the longest data segment that is accepted or sent
 abbrev pub most_data : ℕ
 most_data = 262144
 
@@ -9,6 +9,6 @@ most_data = 262144
 abbrev pub padded : ℕ → ℕ
 padded n = 4 * ((n + 3) / 4)
 
--- RFC 7143 §11.1: the pad bytes that are sent are 0
+-- RFC 7143 §11.1: the sent pad bytes are 0
 abbrev pub segment : List ℕ → List ℕ
 segment bytes = bytes ++ replicate (padded (length bytes) - length bytes) 0

@@ -21,6 +21,6 @@ task_management_response_header r =
     ++ replicate 8 0 ++ big_bytes 4 r.initiator_task_tag ++ replicate 4 0
     ++ stamp_bytes r.stamp ++ replicate 12 0
 
--- RFC 7143 §11.6: the header; there is no data segment
+-- RFC 7143 §11.6: the header; no data segment
 abbrev pub task_management_response_bytes : TaskManagementResponse → List ℕ
 task_management_response_bytes r = task_management_response_header r

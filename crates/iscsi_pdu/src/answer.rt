@@ -1,4 +1,4 @@
-//! What the target answers, and how an answer is written.
+//! The answers of the target, and how they are written.
 
 ghost use Rattle.std.specs.Prelude.{◌≡◌, ◌+◌, ◌<◌, ◌≤◌, ◌++◌, length, IfErr, OnOk, OnErr};
 
@@ -15,7 +15,7 @@ use crate::task_management_response::TaskManagementResponse;
 use crate::text_response::TextResponse;
 use bytes::BytesMut;
 
-/// What the target sends.
+/// A PDU that the target sends.
 #[derive(Debug, Drop)]
 pub enum Answer<'a> {
     /// 20h NOP-In
@@ -43,7 +43,7 @@ impl<'a> Answer<'a> {
     ghost use Rattle.iscsi_pdu.specs.Header.{header_length};
     ghost use Rattle.iscsi_pdu.specs.Segment.{most_data};
 
-    /// How many bytes the answer takes: its header, its data segment and the padding.
+    /// Returns the length of the answer in bytes: its header, its data segment and the padding.
     pub fn length(&self) -> usize
         ensures value { result ≡ length (spelling self.now) }
         ensures bound { result ≤ header_length + most_data }
@@ -61,9 +61,9 @@ impl<'a> Answer<'a> {
         }
     }
 
-    /// Writes the answer at the end of the buffer: its header, its data segment and the padding, or
-    /// nothing. It fails only where the buffer has too little spare room, and then where an
-    /// allocation failed; where there is room, it takes as many bytes of it as the answer is long.
+    /// Writes the answer at the end of the buffer: its header, its data segment and the padding, or nothing. Fails
+    /// only if the buffer has too little spare room and an allocation failed. If there is room, the answer uses
+    /// exactly its length of it.
     pub fn write(&self, out: &mut BytesMut) -> Result<(), PduFault>
         ensures ok { OnOk result (out.new.items ≡ out.old.items ++ spelling self.now) }
         ensures spare { OnOk result (length (spelling self.now) ≤ out.old.spare

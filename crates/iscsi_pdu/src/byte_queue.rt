@@ -8,11 +8,11 @@ use std::alloc::Global;
 use std::marker::Model;
 use std::mem;
 
-/// A queue of bytes. Where all are taken at once their buffer is moved, and none is copied.
+/// A queue of bytes. If all are taken at once, their buffer is moved and no byte is copied.
 #[derive(Drop)]
 pub(crate) struct ByteQueue {
     bytes: Vec<u8>,
-    /// So many bytes at the front were taken.
+    /// The number of bytes at the front that were taken.
     taken: usize,
     alloc: Global,
 }
@@ -27,7 +27,7 @@ impl Model for ByteQueue {
     ghost invariant = { λ q. q.taken ≤ length q.bytes.items };
 }
 
-/// The bytes behind so many in front are moved to the front.
+/// Moves all bytes after the first `count` to the front.
 fn cut_front(bytes: &mut Vec<u8>, count: usize)
     requires { count ≤ length bytes.old.items }
     ensures { bytes.new.items ≡ drop count bytes.old.items }
@@ -41,7 +41,7 @@ fn cut_front(bytes: &mut Vec<u8>, count: usize)
 }
 
 impl ByteQueue {
-    /// A queue with no bytes. It takes no memory.
+    /// Returns an empty queue. Allocates nothing.
     pub(crate) fn new(alloc: Global) -> ByteQueue
         ensures { result ≡ [] }
     {
@@ -52,12 +52,12 @@ impl ByteQueue {
         }
     }
 
-    /// No spare buffers. They take no memory.
+    /// Returns an empty set of spare buffers. Allocates nothing.
     pub(crate) fn no_spares(&self) -> SpareBuffers {
         SpareBuffers::new(self.alloc)
     }
 
-    /// How many bytes there are.
+    /// Returns the number of bytes.
     pub(crate) fn len(&self) -> usize
         ensures value { result ≡ length self.now }
         ensures bound { result < 2 ^ 63 }
@@ -65,14 +65,15 @@ impl ByteQueue {
         self.bytes.len() - self.taken
     }
 
-    /// The bytes.
+    /// Returns the bytes.
     pub(crate) fn as_slice(&self) -> &[u8]
         ensures { result.now ≡ self.now }
     {
         &self.bytes.as_slice()[self.taken..]
     }
 
-    /// Appends a piece. So much room is made where that is more, in a spare buffer where there is no byte yet.
+    /// Appends a piece. Makes room for `room` bytes if that is more than the piece; uses a spare buffer if the queue
+    /// is empty.
     pub(crate) fn append(
         &mut self,
         piece: &[u8],
@@ -94,7 +95,7 @@ impl ByteQueue {
         Ok(())
     }
 
-    /// A copy of so many bytes from a place on.
+    /// Returns a copy of `count` bytes, starting at `from`.
     pub(crate) fn copied(&self, from: usize, count: usize) -> Result<Vec<u8>, PduFault>
         requires { from + count ≤ length self.now }
         ensures value { IfOk result (λ bytes. bytes.items ≡ take count (drop from self.now)) }
@@ -104,7 +105,7 @@ impl ByteQueue {
         Ok(bytes)
     }
 
-    /// So many bytes are taken from the front.
+    /// Removes `n` bytes from the front.
     pub(crate) fn skip(&mut self, n: usize)
         requires { n ≤ length self.old }
         ensures { self.new ≡ drop n self.old }
@@ -116,7 +117,7 @@ impl ByteQueue {
         }
     }
 
-    /// All bytes, in their buffer.
+    /// Takes all bytes, in their buffer.
     pub(crate) fn take_all(&mut self) -> Vec<u8>
         ensures bytes { result.items ≡ self.old }
         ensures none { self.new ≡ [] }

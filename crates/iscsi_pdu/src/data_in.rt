@@ -1,4 +1,4 @@
-//! A piece of the data that a command gives its initiator (RFC 7143 §11.7).
+//! A piece of the data that a command returns to its initiator (RFC 7143 §11.7).
 
 ghost use Rattle.std.specs.Prelude.{◌≡◌, ◌+◌, ◌≤◌, length};
 ghost use Rattle.iscsi_pdu.specs.Header.{header_length};
@@ -18,19 +18,19 @@ const FINAL: u8 = 0x80;
 /// The Target Transfer Tag of data that asks for no acknowledgement.
 const NO_TRANSFER_TAG: u32 = 0xffff_ffff;
 
-/// A piece of the data that a command gives (RFC 7143 §11.7). It carries no status, so its StatSN is
-/// 0, and it asks for no acknowledgement.
+/// A piece of the data that a command returns (RFC 7143 §11.7). It carries no status, so its StatSN is 0, and it asks
+/// for no acknowledgement.
 #[derive(Debug, Drop)]
 pub struct DataIn<'a> {
-    /// F: it is the last of its burst.
+    /// F: this piece is the last of its burst.
     pub is_final: bool,
     /// The Initiator Task Tag of the command.
     pub initiator_task_tag: u32,
     pub exp_cmd_sn: u32,
     pub max_cmd_sn: u32,
-    /// Its place among the pieces of the command's data, counted from 0.
+    /// DataSN: the number of the piece in the command's data, counted from 0.
     pub data_sn: u32,
-    /// Where it begins in the command's data.
+    /// Buffer Offset: the place in the command's data where the piece begins, in bytes.
     pub buffer_offset: u32,
     /// The data: at most 262144 bytes.
     pub body: &'a [u8],
@@ -59,7 +59,7 @@ impl<'a> Model for DataIn<'a> {
 impl<'a> DataIn<'a> {
     ghost use Rattle.iscsi_pdu.specs.DataIn.{data_in_bytes, data_in_header};
 
-    /// The length in bytes of the PDU.
+    /// Returns the length of the PDU in bytes.
     pub(crate) fn length(&self) -> usize
         ensures value { result ≡ length (data_in_bytes self.now) }
         ensures bound { result ≤ header_length + most_data }
@@ -67,7 +67,7 @@ impl<'a> DataIn<'a> {
         self.header().len() + padded(self.body.len())
     }
 
-    /// The 48 header bytes.
+    /// Returns the 48 header bytes.
     pub fn header(&self) -> [u8; HEADER_LENGTH]
         ensures { result ≡ data_in_header self.now }
     {
@@ -84,7 +84,7 @@ impl<'a> DataIn<'a> {
         header
     }
 
-    /// The data segment.
+    /// Returns the data segment.
     pub(crate) fn segment(&self) -> &[u8]
         ensures value { result.now ≡ self.now.body }
         ensures bound { length result.now ≤ most_data }

@@ -1,4 +1,4 @@
-//! Why a frame was not given or an answer not written.
+//! The reasons why a frame is not returned or an answer not written.
 
 ghost use Rattle.std.specs.Prelude.{◌≡◌};
 ghost use Rattle.iscsi_pdu.specs.declared.fault.PduFault.TheVariants.{Memory};
@@ -12,7 +12,7 @@ pub enum PduFault {
     /// 1: a header names a data segment of more than 262144 bytes.
     #[error("a data segment of more than 262144 bytes")]
     TooLong = 1,
-    /// 2: an allocation failed. The value that was called is as it was before.
+    /// 2: an allocation failed. The value that was called is unchanged.
     #[error("out of memory")]
     Memory = 2,
 }
@@ -20,7 +20,7 @@ pub enum PduFault {
 impl PduFault {
     ghost use Rattle.iscsi_pdu.specs.Fault.{fault_number};
 
-    /// The fault's number.
+    /// Returns the fault's number.
     pub fn number(&self) -> u8
         ensures { result ≡ fault_number self.now }
     {

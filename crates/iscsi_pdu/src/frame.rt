@@ -3,8 +3,8 @@
 use crate::header::Header;
 use std::marker::Model;
 
-/// A whole PDU without its additional header segments and its padding. Clauses see it as the bytes
-/// of its header and those of its data segment.
+/// A whole PDU without its additional header segments and its padding. Clauses see it as the bytes of its header and
+/// those of its data segment.
 #[derive(Debug, Drop)]
 pub struct Frame {
     /// The 48 header bytes.

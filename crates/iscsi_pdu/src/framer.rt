@@ -1,4 +1,4 @@
-//! The bytes of a connection, cut into frames.
+//! Cutting the bytes of a connection into frames.
 
 ghost use Rattle.std.specs.Prelude.{◌≡◌, ◌+◌, ◌<◌, ◌≤◌, ◌↔◌, ℕ, List, [], ◌∷◌, ◌++◌, length, take, drop, true, false, IsOk, IfOk, IfErr, IfSome, IfNone, OnOk, OnErr};
 ghost use Rattle.std.specs.Result.{IsErrOf};
@@ -13,15 +13,15 @@ use data_parts::SpareBuffers;
 use std::alloc::Global;
 use std::marker::Model;
 
-/// Cuts the bytes of one connection into frames, whatever the pieces in which they come. Clauses
-/// see it as the bytes that were fed and not yet given out.
+/// Cuts the bytes of one connection into frames, whatever the pieces in which they come. Clauses see it as the bytes
+/// that were fed and not yet returned.
 ///
-/// Where no byte has come behind a frame its data segment is given out in the buffer in which it came.
+/// If no byte has come after a frame, its data segment is returned in the buffer in which it came.
 #[derive(Drop)]
 pub struct Framer {
-    /// What has come of the header in front.
+    /// The part of the first header that has come.
     header: ArrayVec<u8, HEADER_LENGTH>,
-    /// What has come behind that header.
+    /// The bytes that have come after that header.
     behind: ByteQueue,
 }
 
@@ -50,7 +50,7 @@ impl Framer {
     ghost use Rattle.iscsi_pdu.specs.Segment.{most_data, padded as padded_to};
     ghost use Rattle.iscsi_pdu.specs.Frames.{frames, rest, has_frame, is_long, first_frame, frame_length, missing, wanted};
 
-    /// A framer with no bytes. It takes no memory.
+    /// Returns a framer without bytes. Allocates nothing.
     pub fn new(alloc: Global) -> Framer
         ensures { result ≡ [] }
     {
@@ -60,7 +60,7 @@ impl Framer {
         }
     }
 
-    /// Takes the next piece of the connection's bytes. An empty piece takes no memory.
+    /// Takes the next piece of the connection's bytes. An empty piece allocates nothing.
     pub fn feed(&mut self, piece: &[u8]) -> Result<(), PduFault>
         ensures ok { OnOk result (self.new ≡ self.old ++ piece.now) }
         ensures empty { piece.now ≡ [] → IsOk result }
@@ -71,7 +71,8 @@ impl Framer {
         self.feed_with(piece, &mut spares)
     }
 
-    /// The same. The data of a frame is put into a spare buffer.
+    /// Takes the next piece of the connection's bytes, as [`feed`](Framer::feed) does. The data of a frame goes into
+    /// a spare buffer.
     pub fn feed_with(&mut self, piece: &[u8], spares: &mut SpareBuffers) -> Result<(), PduFault>
         ensures ok { OnOk result (self.new ≡ self.old ++ piece.now) }
         ensures empty { piece.now ≡ [] → IsOk result }
@@ -92,11 +93,11 @@ impl Framer {
         Ok(())
     }
 
-    /// The first frame, taken from the front of the bytes, or `None` where less than a frame is
-    /// there. Memory is taken, and can be short, only where there is a frame.
+    /// Takes the first frame from the front of the bytes. Returns `None` if the bytes are less than a frame.
+    /// Allocates, and can run out of memory, only if there is a frame.
     #[tactic(auto, unfolding(crate::specs::Frames::has_frame, crate::specs::Frames::is_long, crate::specs::Frames::first_frame, crate::specs::Frames::frame_length))]
     pub fn next(&mut self) -> Result<Option<Frame>, PduFault>
-        // A frame that is given is the first, and the bytes lose it.
+        // A frame that is returned is the first, and is removed from the bytes.
         ensures whole { IfOk result (λ o. IfSome o (λ _. has_frame self.old ≡ true)) }
         ensures given { IfOk result (λ o. IfSome o (λ f. first_frame self.old ≡ f)) }
         ensures taken { IfOk result
@@ -105,7 +106,7 @@ impl Framer {
             (λ o. IfSome o (λ f. frames self.old ≡ f ∷ frames self.new)) }
         ensures rest { IfOk result (λ o. IfSome o (λ _. rest self.new ≡ rest self.old)) }
 
-        // Nothing is given where no whole frame and no long one is in front.
+        // Nothing is returned if neither a whole frame nor a long one is in front.
         ensures none { IfOk result (λ o. IfNone o (has_frame self.old ≡ false)) }
         ensures none_long { IfOk result (λ o. IfNone o (is_long self.old ≡ false)) }
         ensures waits { IfOk result (λ o. IfNone o (self.new ≡ self.old)) }
@@ -130,7 +131,7 @@ impl Framer {
         Ok(Some(Frame { header, body }))
     }
 
-    /// The data segment behind the header and so many additional bytes. Its frame leaves the bytes.
+    /// Takes the data segment after the header and `additional` bytes. The frame is removed from the bytes.
     fn take_body(&mut self, additional: usize, count: usize) -> Result<Vec<u8>, PduFault>
         requires short { count ≤ most_data }
         requires whole { header_length + additional + padded_to count ≤ length self.old }
@@ -152,7 +153,7 @@ impl Framer {
         Ok(body)
     }
 
-    /// The header and so many bytes behind it leave the bytes.
+    /// Removes the header and `n` bytes after it.
     fn pass(&mut self, n: usize)
         requires { header_length + n ≤ length self.old }
         ensures { self.new ≡ drop (header_length + n) self.old }
@@ -164,8 +165,8 @@ impl Framer {
         self.behind.skip(front);
     }
 
-    /// How many bytes are missing: of the header, and once that is there of its frame. Where none
-    /// are, 1.
+    /// Returns how many bytes are missing of the header or, if it is whole, of its frame. Returns 1 if none are
+    /// missing.
     #[tactic(auto, unfolding(crate::specs::Frames::has_frame, crate::specs::Frames::is_long, crate::specs::Frames::frame_length, crate::specs::Frames::missing))]
     pub fn want(&self) -> usize
         ensures value { result ≡ wanted self.now }
@@ -183,14 +184,14 @@ impl Framer {
         whole.saturating_sub(had).max(1)
     }
 
-    /// How many bytes there are.
+    /// Returns the number of bytes.
     fn len(&self) -> usize
         ensures { result ≡ length self.now }
     {
         self.header.len() + self.behind.len()
     }
 
-    /// The header in front, once it is whole.
+    /// Returns the first header, if it is whole.
     fn header(&self) -> Option<Header>
         ensures some { IfSome result (λ h. (h ≡ take header_length self.now) × (header_length ≤ length self.now)) }
         ensures none { IfNone result (length self.now < header_length) }

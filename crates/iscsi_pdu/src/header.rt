@@ -1,6 +1,7 @@
-//! The 48 header bytes of a PDU (RFC 7143 §11.2.1), and the fields that every PDU of an initiator
-//! has. RFC 7143 numbers the bits of a byte from the most significant, which is bit 0; the masks
-//! here are by value, so that bit 0 is 0x80.
+//! The 48 header bytes of a PDU (RFC 7143 §11.2.1), and the fields that every PDU of an initiator has.
+//!
+//! RFC 7143 numbers the bits of a byte from the most significant, which is bit 0. The masks here are by value, so
+//! that bit 0 is 0x80.
 
 ghost use Rattle.std.specs.Prelude.{◌≡◌, ℕ, List};
 
@@ -16,7 +17,7 @@ const IMMEDIATE: u8 = 0x40;
 /// The opcode, in byte 0.
 const OPCODE: u8 = 0x3F;
 
-/// What an initiator asks for: the opcode of its PDU (RFC 7143 §11.2.1.2).
+/// The opcode of an initiator's PDU: the request that it makes (RFC 7143 §11.2.1.2).
 #[derive(Clone, Copy, Debug, PartialEq, Eq)]
 pub enum Opcode {
     /// 00h NOP-Out
@@ -35,12 +36,12 @@ pub enum Opcode {
     Logout,
     /// 10h SNACK Request
     Snack,
-    /// No opcode of an initiator: the number.
+    /// An opcode that is not one of an initiator, by its number.
     Other(u8),
 }
 
-/// The 48 header bytes of a PDU. Each reader gives the field as it stands there: whether a field
-/// means something depends on the opcode.
+/// The 48 header bytes of a PDU. Each method returns a field as the bytes have it. Whether a field has a meaning
+/// depends on the opcode.
 #[derive(Clone, Copy, Debug, PartialEq, Eq)]
 pub struct Header {
     pub(crate) bytes: [u8; HEADER_LENGTH],
@@ -57,14 +58,14 @@ impl Model for Header {
 impl Header {
     ghost use Rattle.iscsi_pdu.specs.Header.{opcode_of, opcode_number, is_immediate, additional_length, data_length, initiator_task_tag, lun_field, cmd_sn};
 
-    /// The header with these bytes.
+    /// Returns the header with these bytes.
     pub fn new(bytes: [u8; HEADER_LENGTH]) -> Header
         ensures { result ≡ bytes }
     {
         Header { bytes }
     }
 
-    /// What is asked: bits 2 to 7 of byte 0.
+    /// Returns the opcode: bits 2 to 7 of byte 0.
     pub fn opcode(&self) -> Opcode
         ensures { result ≡ opcode_of (opcode_number self.now) }
     {
@@ -81,29 +82,28 @@ impl Header {
         }
     }
 
-    /// The I bit: the request is for immediate delivery.
+    /// Returns the I bit: whether the request is for immediate delivery.
     pub fn is_immediate(&self) -> bool
         ensures { result ≡ is_immediate self.now }
     {
         self.bytes[0] & IMMEDIATE == IMMEDIATE
     }
 
-    /// The length in bytes of the additional header segments, which TotalAHSLength counts in words
-    /// of four.
+    /// Returns the length in bytes of the additional header segments, which TotalAHSLength counts in words of four.
     pub fn additional_length(&self) -> usize
         ensures { result ≡ additional_length self.now }
     {
         4 * usize::from(self.bytes[4])
     }
 
-    /// DataSegmentLength: the length in bytes of the data segment, without its padding.
+    /// Returns DataSegmentLength: the length of the data segment in bytes, without its padding.
     pub fn data_length(&self) -> usize
         ensures { result ≡ data_length self.now }
     {
         BigEndian::read_u24(&self.bytes[5..]) as usize
     }
 
-    /// The LUN field, or in a Login Request ISID and TSIH: bytes 8 to 15.
+    /// Returns bytes 8 to 15: the LUN field, or ISID and TSIH in a Login Request.
     pub fn lun(&self) -> [u8; 8]
         ensures { result ≡ lun_field self.now }
     {
@@ -112,14 +112,14 @@ impl Header {
         lun
     }
 
-    /// The Initiator Task Tag.
+    /// Returns the Initiator Task Tag.
     pub fn initiator_task_tag(&self) -> u32
         ensures { result ≡ initiator_task_tag self.now }
     {
         BigEndian::read_u32(&self.bytes[16..])
     }
 
-    /// CmdSN, of each request but Data-Out and SNACK.
+    /// Returns CmdSN, which each request except Data-Out and SNACK has.
     pub fn cmd_sn(&self) -> u32
         ensures { result ≡ cmd_sn self.now }
     {

@@ -1,5 +1,8 @@
-//! The protocol data units (PDUs) of iSCSI (RFC 7143 §11), as a target meets them: the bytes of a
-//! connection cut into frames, the fields of a frame's header, and the bytes of each answer.
+//! The protocol data units (PDUs) of iSCSI (RFC 7143 §11), as a target uses them:
+//!
+//! - the bytes of a connection, cut into frames
+//! - the fields of a frame's header
+//! - the bytes of each answer
 //!
 //! ```text
 //!   bytes in ──> Framer::feed ──> Framer::next ──> Frame { header, body } ──> the target
@@ -8,14 +11,13 @@
 //!
 //! Promised, and proved:
 //!
-//! - The frames are the same however the bytes are cut into pieces ([`laws::chunking`]). They are
-//!   the only ones whose spellings, joined, are the front of the bytes
-//!   ([`laws::frames_are_the_spellings`], [`laws::only_these_frames`]).
-//! - A data segment longer than 262144 bytes is refused as soon as its header has come, and not
-//!   before the frames ahead of it were given.
-//! - An answer is written whole, padding included, or the buffer keeps its bytes. Where the buffer
-//!   has room for it, it is written, and takes exactly its length of that room.
-//! - Out of memory is an error in each place, and leaves every value as it was.
+//! - The frames are the same however the bytes are cut into pieces ([`laws::chunking`]). They are the only ones whose
+//!   spellings, joined, are the front of the bytes ([`laws::frames_are_the_spellings`], [`laws::only_these_frames`]).
+//! - A data segment longer than 262144 bytes is refused as soon as its header is whole and the frames before it were
+//!   returned.
+//! - An answer is written whole, padding included, or the buffer keeps its bytes. If the buffer has room for the
+//!   answer, it is written, and uses exactly its length of that room.
+//! - Out of memory is an error everywhere, and leaves every value unchanged.
 #![tactic(auto)]
 
 mod answer;

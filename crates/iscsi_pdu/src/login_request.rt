@@ -15,43 +15,43 @@ pub const CONTINUED: u8 = 0x40;
 impl Header {
     ghost use Rattle.iscsi_pdu.specs.LoginRequest.{is_transit, is_continued, current_stage, next_stage, version_min, isid, tsih, connection_id};
 
-    /// The T bit: the initiator is ready for the next stage.
+    /// Returns the T bit: whether the initiator is ready for the next stage.
     pub fn is_transit(&self) -> bool
         ensures { result ≡ is_transit self.now }
     {
         self.bytes[1] & TRANSIT == TRANSIT
     }
 
-    /// The C bit: the text goes on in the next request.
+    /// Returns the C bit: whether the text continues in the next request.
     pub fn is_continued(&self) -> bool
         ensures { result ≡ is_continued self.now }
     {
         self.bytes[1] & CONTINUED == CONTINUED
     }
 
-    /// CSG, the stage that the login is in, or `None` for the reserved number 2.
+    /// Returns CSG, the stage that the login is in, or `None` for the reserved number 2.
     pub fn current_stage(&self) -> Option<Stage>
         ensures { result ≡ current_stage self.now }
     {
         Stage::of_number(self.bytes[1] / 4 % 4)
     }
 
-    /// NSG, the stage that the initiator wants next, or `None` for the reserved number 2. It means
-    /// something only beside T.
+    /// Returns NSG, the stage that the initiator wants next, or `None` for the reserved number 2. It has a meaning
+    /// only with T.
     pub fn next_stage(&self) -> Option<Stage>
         ensures { result ≡ next_stage self.now }
     {
         Stage::of_number(self.bytes[1] % 4)
     }
 
-    /// Version-min: the lowest version that the initiator speaks.
+    /// Returns Version-min: the lowest version that the initiator supports.
     pub fn version_min(&self) -> u8
         ensures { result ≡ version_min self.now }
     {
         self.bytes[3]
     }
 
-    /// ISID, the initiator's part of the session identifier.
+    /// Returns ISID, the initiator's part of the session identifier.
     pub fn isid(&self) -> [u8; 6]
         ensures { result ≡ isid self.now }
     {
@@ -60,15 +60,14 @@ impl Header {
         isid
     }
 
-    /// TSIH, the target's part of the session identifier: 0 for a new session.
+    /// Returns TSIH, the target's part of the session identifier: 0 for a new session.
     pub fn tsih(&self) -> u16
         ensures { result ≡ tsih self.now }
     {
         BigEndian::read_u16(&self.bytes[14..])
     }
 
-    /// CID, the initiator's number of the connection in the session: of a Login Request and of a
-    /// Logout Request.
+    /// Returns CID, the initiator's number of the connection in the session. Login and Logout Requests have it.
     pub fn connection_id(&self) -> u16
         ensures { result ≡ connection_id self.now }
     {

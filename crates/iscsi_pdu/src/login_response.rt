@@ -16,7 +16,7 @@ const OPCODE: u8 = 0x23;
 /// The answer to a Login Request. Both versions are 0.
 #[derive(Debug, Drop)]
 pub struct LoginResponse {
-    /// ISID, that of the request.
+    /// ISID of the request.
     pub isid: [u8; 6],
     /// TSIH, the target's part of the session identifier.
     pub tsih: u16,
@@ -34,7 +34,7 @@ pub enum LoginReply {
     Accepted(LoginAccepted),
 }
 
-/// Why a login is refused: status class and detail of RFC 7143 §11.13.5.
+/// The reason why a login is refused: status class and detail of RFC 7143 §11.13.5.
 #[derive(Clone, Copy, Debug, PartialEq, Eq)]
 pub enum LoginRefusal {
     /// 0200h
@@ -61,14 +61,14 @@ pub struct LoginAccepted {
     pub text: Vec<u8>,
 }
 
-/// Where the login goes from its stage.
+/// The step of the login from its stage.
 #[derive(Clone, Copy, Debug, PartialEq, Eq)]
 pub enum LoginStep {
-    /// C: the text goes on in the next response.
+    /// C: the text continues in the next response.
     Continued,
-    /// It stays in its stage.
+    /// The login stays in its stage.
     Stays,
-    /// T: it enters this stage, NSG.
+    /// T: the login enters this stage, NSG.
     Enters(Stage),
 }
 
@@ -87,7 +87,7 @@ impl Model for LoginAccepted {
 impl LoginRefusal {
     ghost use Rattle.iscsi_pdu.specs.LoginResponse.{refusal_code};
 
-    /// The status class in the high byte, the status detail in the low one.
+    /// Returns the status class in the high byte and the status detail in the low one.
     pub fn code(self) -> u16
         ensures { result ≡ refusal_code self }
     {
@@ -98,7 +98,7 @@ impl LoginRefusal {
 impl LoginStep {
     ghost use Rattle.iscsi_pdu.specs.LoginResponse.{step_flags};
 
-    /// T, C and NSG of byte 1.
+    /// Returns T, C and NSG of byte 1.
     fn flags(self) -> u8
         ensures { result ≡ step_flags self }
     {
@@ -114,7 +114,7 @@ impl LoginReply {
     ghost use Rattle.iscsi_pdu.specs.Segment.{most_data};
     ghost use Rattle.iscsi_pdu.specs.LoginResponse.{login_flags, login_status, login_text};
 
-    /// Byte 1: T, C, CSG and NSG.
+    /// Returns byte 1: T, C, CSG and NSG.
     fn flags(&self) -> u8
         ensures { result ≡ login_flags self.now }
     {
@@ -124,7 +124,7 @@ impl LoginReply {
         }
     }
 
-    /// Status-Class and Status-Detail.
+    /// Returns Status-Class and Status-Detail.
     fn status(&self) -> u16
         ensures { result ≡ login_status self.now }
     {
@@ -134,7 +134,7 @@ impl LoginReply {
         }
     }
 
-    /// The data segment.
+    /// Returns the data segment.
     pub(crate) fn text(&self) -> &[u8]
         ensures value { result.now ≡ login_text self.now }
         ensures bound { length result.now ≤ most_data }
@@ -151,7 +151,7 @@ impl LoginResponse {
     ghost use Rattle.iscsi_pdu.specs.Segment.{most_data};
     ghost use Rattle.iscsi_pdu.specs.LoginResponse.{login_response_bytes, login_response_header};
 
-    /// The length in bytes of the response.
+    /// Returns the length of the response in bytes.
     pub(crate) fn length(&self) -> usize
         ensures value { result ≡ length (login_response_bytes self.now) }
         ensures bound { result ≤ header_length + most_data }
@@ -159,7 +159,7 @@ impl LoginResponse {
         self.header().len() + padded(self.reply.text().len())
     }
 
-    /// The 48 header bytes.
+    /// Returns the 48 header bytes.
     pub(crate) fn header(&self) -> [u8; HEADER_LENGTH]
         ensures { result ≡ login_response_header self.now }
     {
@@ -168,7 +168,7 @@ impl LoginResponse {
         header
     }
 
-    /// The same with zero bytes for the ISID.
+    /// Returns the 48 header bytes with zeros for the ISID.
     fn header_without_isid(&self) -> [u8; HEADER_LENGTH]
         ensures { result ≡ login_response_header (record self.now { isid = replicate 6 0 }) }
     {

@@ -10,7 +10,7 @@ const REASON: u8 = 0x7F;
 impl Header {
     ghost use Rattle.iscsi_pdu.specs.LogoutRequest.{logout_reason};
 
-    /// The reason code: 0 closes the session, 1 the connection that CID names, and 2 removes that
+    /// Returns the reason code: 0 closes the session, 1 closes the connection that CID names, 2 removes that
     /// connection for recovery.
     pub fn logout_reason(&self) -> u8
         ensures { result ≡ logout_reason self.now }

@@ -14,7 +14,7 @@ const OPCODE: u8 = 0x26;
 /// The bit of byte 1 that is always set.
 const FINAL: u8 = 0x80;
 
-/// How a logout ended (RFC 7143 §11.15.1).
+/// The result of a logout (RFC 7143 §11.15.1).
 #[derive(Clone, Copy, Debug, PartialEq, Eq)]
 pub enum LogoutResult {
     /// 0: the connection or the session is closed.
@@ -37,7 +37,7 @@ pub struct LogoutResponse {
 impl LogoutResult {
     ghost use Rattle.iscsi_pdu.specs.LogoutResponse.{logout_code};
 
-    /// Byte 2.
+    /// Returns byte 2.
     fn code(self) -> u8
         ensures { result ≡ logout_code self }
     {
@@ -48,7 +48,7 @@ impl LogoutResult {
 impl LogoutResponse {
     ghost use Rattle.iscsi_pdu.specs.LogoutResponse.{logout_response_bytes, logout_response_header};
 
-    /// The length in bytes of the response.
+    /// Returns the length of the response in bytes.
     pub(crate) fn length(&self) -> usize
         ensures value { result ≡ length (logout_response_bytes self.now) }
         ensures bound { result ≤ header_length + most_data }
@@ -56,7 +56,7 @@ impl LogoutResponse {
         self.header().len()
     }
 
-    /// The 48 header bytes.
+    /// Returns the 48 header bytes.
     pub(crate) fn header(&self) -> [u8; HEADER_LENGTH]
         ensures { result ≡ logout_response_header self.now }
     {

@@ -44,7 +44,7 @@ impl<'a> Model for NopIn<'a> {
 impl<'a> NopIn<'a> {
     ghost use Rattle.iscsi_pdu.specs.NopIn.{nop_in_bytes, nop_in_header};
 
-    /// The length in bytes of the PDU.
+    /// Returns the length of the PDU in bytes.
     pub(crate) fn length(&self) -> usize
         ensures value { result ≡ length (nop_in_bytes self.now) }
         ensures bound { result ≤ header_length + most_data }
@@ -52,7 +52,7 @@ impl<'a> NopIn<'a> {
         self.header().len() + padded(self.body.len())
     }
 
-    /// The 48 header bytes.
+    /// Returns the 48 header bytes.
     pub(crate) fn header(&self) -> [u8; HEADER_LENGTH]
         ensures { result ≡ nop_in_header self.now }
     {
@@ -66,7 +66,7 @@ impl<'a> NopIn<'a> {
         header
     }
 
-    /// The data segment.
+    /// Returns the data segment.
     pub(crate) fn segment(&self) -> &[u8]
         ensures value { result.now ≡ self.now.body }
         ensures bound { length result.now ≤ most_data }

@@ -1,4 +1,4 @@
-//! How the target asks for data of a command (RFC 7143 §11.8).
+//! Ready To Transfer: the target asks for data of a command (RFC 7143 §11.8).
 
 ghost use Rattle.std.specs.Prelude.{◌≡◌, ◌+◌, ◌≤◌, length, replicate};
 ghost use Rattle.iscsi_pdu.specs.Header.{header_length};
@@ -21,13 +21,13 @@ pub struct R2t {
     pub lun: [u8; 8],
     /// The Initiator Task Tag of the command.
     pub initiator_task_tag: u32,
-    /// The Target Transfer Tag that each Data-Out of this part is to carry: never FFFFFFFFh.
+    /// The Target Transfer Tag that each Data-Out of this part must carry: never FFFFFFFFh.
     pub target_transfer_tag: u32,
-    /// StatSN is the next one, and is not used by this.
+    /// The sequence numbers. StatSN is the next one, and the R2T does not use it up.
     pub stamp: Stamp,
-    /// R2TSN: the place among the command's R2Ts, counted from 0.
+    /// R2TSN: the number of the R2T among those of the command, counted from 0.
     pub r2t_sn: u32,
-    /// Where the part begins in the command's data, in bytes.
+    /// Buffer Offset: the place in the command's data where the part begins, in bytes.
     pub buffer_offset: u32,
     /// Desired Data Transfer Length: how many bytes are asked for.
     pub desired_length: u32,
@@ -36,7 +36,7 @@ pub struct R2t {
 impl R2t {
     ghost use Rattle.iscsi_pdu.specs.R2t.{r2t_bytes, r2t_header};
 
-    /// The length in bytes of the PDU.
+    /// Returns the length of the PDU in bytes.
     pub(crate) fn length(&self) -> usize
         ensures value { result ≡ length (r2t_bytes self.now) }
         ensures bound { result ≤ header_length + most_data }
@@ -44,7 +44,7 @@ impl R2t {
         self.header().len()
     }
 
-    /// The 48 header bytes.
+    /// Returns the 48 header bytes.
     pub(crate) fn header(&self) -> [u8; HEADER_LENGTH]
         ensures { result ≡ r2t_header self.now }
     {
@@ -53,7 +53,7 @@ impl R2t {
         header
     }
 
-    /// The same with zero bytes for the LUN.
+    /// Returns the 48 header bytes with zeros for the LUN.
     fn header_without_lun(&self) -> [u8; HEADER_LENGTH]
         ensures { result ≡ r2t_header (record self.now { lun = replicate 8 0 }) }
     {

@@ -15,10 +15,10 @@ const OPCODE: u8 = 0x3F;
 /// The bit of byte 1 that is always set.
 const FINAL: u8 = 0x80;
 
-/// Where other answers have the Initiator Task Tag.
+/// The value in the place of the Initiator Task Tag.
 const NO_TASK_TAG: u32 = 0xffff_ffff;
 
-/// Why a PDU is refused (RFC 7143 §11.17.1).
+/// The reason why a PDU is refused (RFC 7143 §11.17.1).
 #[derive(Clone, Copy, Debug, PartialEq, Eq)]
 pub enum RejectReason {
     /// 03h: SNACK is not supported.
@@ -36,14 +36,14 @@ pub enum RejectReason {
 pub struct Reject {
     pub reason: RejectReason,
     pub stamp: Stamp,
-    /// The header of the PDU that is refused.
+    /// The header of the refused PDU.
     pub header: Header,
 }
 
 impl RejectReason {
     ghost use Rattle.iscsi_pdu.specs.Reject.{reject_code};
 
-    /// Byte 2.
+    /// Returns byte 2.
     fn code(self) -> u8
         ensures { result ≡ reject_code self }
     {
@@ -54,7 +54,7 @@ impl RejectReason {
 impl Reject {
     ghost use Rattle.iscsi_pdu.specs.Reject.{reject_bytes, reject_header};
 
-    /// The length in bytes of the PDU.
+    /// Returns the length of the PDU in bytes.
     pub(crate) fn length(&self) -> usize
         ensures value { result ≡ length (reject_bytes self.now) }
         ensures bound { result ≤ header_length + most_data }
@@ -62,7 +62,7 @@ impl Reject {
         self.header().len() + padded(self.segment().len())
     }
 
-    /// The 48 header bytes.
+    /// Returns the 48 header bytes.
     pub(crate) fn header(&self) -> [u8; HEADER_LENGTH]
         ensures { result ≡ reject_header self.now }
     {
@@ -76,7 +76,7 @@ impl Reject {
         header
     }
 
-    /// The data segment: the header of the PDU that is refused.
+    /// Returns the data segment: the header of the refused PDU.
     pub(crate) fn segment(&self) -> &[u8]
         ensures value { result.now ≡ self.now.header }
         ensures bound { length result.now ≤ most_data }

@@ -15,35 +15,35 @@ const WRITE: u8 = 0x20;
 impl Header {
     ghost use Rattle.iscsi_pdu.specs.ScsiCommand.{is_final, is_read, is_write, expected_transfer_length, cdb};
 
-    /// The F bit: no unsolicited Data-Out follows.
+    /// Returns the F bit: whether no unsolicited Data-Out follows.
     pub fn is_final(&self) -> bool
         ensures { result ≡ is_final self.now }
     {
         self.bytes[1] & FINAL == FINAL
     }
 
-    /// The R bit: the command is expected to give data.
+    /// Returns the R bit: whether the command is expected to return data.
     pub fn is_read(&self) -> bool
         ensures { result ≡ is_read self.now }
     {
         self.bytes[1] & READ == READ
     }
 
-    /// The W bit: the command is expected to take data.
+    /// Returns the W bit: whether the command is expected to take data.
     pub fn is_write(&self) -> bool
         ensures { result ≡ is_write self.now }
     {
         self.bytes[1] & WRITE == WRITE
     }
 
-    /// Expected Data Transfer Length, in bytes.
+    /// Returns Expected Data Transfer Length, in bytes.
     pub fn expected_transfer_length(&self) -> u32
         ensures { result ≡ expected_transfer_length self.now }
     {
         BigEndian::read_u32(&self.bytes[20..])
     }
 
-    /// The command descriptor block: bytes 32 to 47.
+    /// Returns the command descriptor block: bytes 32 to 47.
     pub fn cdb(&self) -> [u8; 16]
         ensures { result ≡ cdb self.now }
     {

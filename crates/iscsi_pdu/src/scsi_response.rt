@@ -1,4 +1,4 @@
-//! How a SCSI command ended (RFC 7143 §11.4).
+//! The end of a SCSI command (RFC 7143 §11.4).
 
 ghost use Rattle.std.specs.Prelude.{◌≡◌, ◌+◌, ◌≤◌, length, Some};
 ghost use Rattle.iscsi_pdu.specs.Header.{header_length};
@@ -22,18 +22,18 @@ const SENSE_LENGTH: usize = 18;
 /// The length of SenseLength and the sense data in bytes.
 const SENSE_SEGMENT_LENGTH: usize = 2 + SENSE_LENGTH;
 
-/// What was moved against what the initiator expected to be moved, in bytes (RFC 7143 §11.4.5).
+/// The difference between the data moved and the data that the initiator expected, in bytes (RFC 7143 §11.4.5).
 #[derive(Clone, Copy, Debug, PartialEq, Eq)]
 pub enum Residual {
-    /// As much as was expected.
+    /// No difference.
     None,
-    /// So many bytes more would have been moved.
+    /// Overflow: this many more bytes would have been moved.
     Overflow(u32),
-    /// So many bytes less were moved.
+    /// Underflow: this many fewer bytes were moved.
     Underflow(u32),
 }
 
-/// How a SCSI command ended (RFC 7143 §11.4). The response is 00h, command completed at target.
+/// The end of a SCSI command (RFC 7143 §11.4). The response is 00h, command completed at target.
 #[derive(Clone, Copy, Debug, PartialEq, Eq)]
 pub struct ScsiResponse {
     /// The Initiator Task Tag of the command.
@@ -44,14 +44,14 @@ pub struct ScsiResponse {
     pub residual: Residual,
     /// ExpDataSN: how many Data-In PDUs were sent for the command.
     pub exp_data_sn: u32,
-    /// Fixed format sense data, where there is some.
+    /// Fixed format sense data, if there is any.
     pub sense: Option<[u8; SENSE_LENGTH]>,
 }
 
 impl Residual {
     ghost use Rattle.iscsi_pdu.specs.ScsiResponse.{residual_flags, residual_count};
 
-    /// O and U of byte 1.
+    /// Returns O and U of byte 1.
     fn flags(self) -> u8
         ensures { result ≡ residual_flags self }
     {
@@ -62,7 +62,7 @@ impl Residual {
         }
     }
 
-    /// Residual Count.
+    /// Returns Residual Count.
     fn count(self) -> u32
         ensures { result ≡ residual_count self }
     {
@@ -76,7 +76,7 @@ impl Residual {
 impl ScsiResponse {
     ghost use Rattle.iscsi_pdu.specs.ScsiResponse.{scsi_response_bytes, scsi_response_header};
 
-    /// The length in bytes of the data segment: SenseLength and the sense data.
+    /// Returns the length of the data segment in bytes: SenseLength and the sense data.
     fn data_length(&self) -> usize
         ensures value { result ≡ length (sense_segment self.now.sense) }
         ensures bound { result ≤ SENSE_SEGMENT_LENGTH }
@@ -87,7 +87,7 @@ impl ScsiResponse {
         }
     }
 
-    /// The length in bytes of the response.
+    /// Returns the length of the response in bytes.
     pub(crate) fn length(&self) -> usize
         ensures value { result ≡ length (scsi_response_bytes self.now) }
         ensures bound { result ≤ header_length + most_data }
@@ -95,7 +95,7 @@ impl ScsiResponse {
         self.header().len() + padded(self.data_length())
     }
 
-    /// The 48 header bytes.
+    /// Returns the 48 header bytes.
     pub(crate) fn header(&self) -> [u8; HEADER_LENGTH]
         ensures { result ≡ scsi_response_header self.now }
     {
@@ -112,7 +112,7 @@ impl ScsiResponse {
     }
 }
 
-/// SenseLength and the sense data (RFC 7143 §11.4.7).
+/// Returns SenseLength and the sense data (RFC 7143 §11.4.7).
 pub fn sense_segment(sense: [u8; SENSE_LENGTH]) -> [u8; SENSE_SEGMENT_LENGTH]
     ensures { result ≡ sense_segment (Some sense) }
 {

@@ -7,10 +7,10 @@ use crate::fault::PduFault;
 use crate::header::HEADER_LENGTH;
 use bytes::BytesMut;
 
-/// The longest data segment in bytes that is taken or sent.
+/// The length in bytes of the longest data segment that is accepted or sent.
 pub const MOST_DATA: usize = 262144;
 
-/// The length of a data segment with its padding to a multiple of 4.
+/// Returns the length of a data segment with its padding to a multiple of 4.
 pub fn padded(length: usize) -> usize
     requires { length < 2 ^ 32 }
     ensures { result ≡ padded length }

@@ -2,7 +2,7 @@
 
 ghost use Rattle.std.specs.Prelude.{◌≡◌};
 
-/// A stage of the login phase, or the phase behind it (RFC 7143 §6.3 and §11.12.3).
+/// A stage of the login phase, or the full feature phase after it (RFC 7143 §6.3 and §11.12.3).
 #[derive(Clone, Copy, Debug, PartialEq, Eq)]
 pub enum Stage {
     /// 0
@@ -16,14 +16,14 @@ pub enum Stage {
 impl Stage {
     ghost use Rattle.iscsi_pdu.specs.Stage.{stage_number, stage_of};
 
-    /// Its number, as CSG and NSG bear it.
+    /// Returns the number of the stage in CSG and NSG.
     pub fn number(self) -> u8
         ensures { result ≡ stage_number self }
     {
         self as u8
     }
 
-    /// The stage with this number.
+    /// Returns the stage with this number, if it has one.
     pub(crate) fn of_number(number: u8) -> Option<Stage>
         ensures { result ≡ stage_of number }
     {

@@ -8,18 +8,18 @@ use byteorder::{BigEndian, ByteOrder};
 /// §4.2.2.2).
 #[derive(Clone, Copy, Debug, PartialEq, Eq)]
 pub struct Stamp {
-    /// StatSN, this answer's number.
+    /// StatSN, the number of this answer.
     pub stat_sn: u32,
     /// ExpCmdSN, the next command number that is expected.
     pub exp_cmd_sn: u32,
-    /// MaxCmdSN, the last command number that is taken.
+    /// MaxCmdSN, the last command number that is accepted.
     pub max_cmd_sn: u32,
 }
 
 impl Stamp {
     ghost use Rattle.iscsi_pdu.specs.Stamp.{stamp_bytes};
 
-    /// Bytes 24 to 35.
+    /// Returns bytes 24 to 35.
     pub(crate) fn bytes(self) -> [u8; 12]
         ensures { result ≡ stamp_bytes self }
     {

@@ -8,7 +8,7 @@ use byteorder::{BigEndian, ByteOrder};
 /// The function code, in byte 1.
 const FUNCTION: u8 = 0x7F;
 
-/// What a Task Management Function Request asks for (RFC 7143 §11.5.1).
+/// The function that a Task Management Function Request asks for (RFC 7143 §11.5.1).
 #[derive(Clone, Copy, Debug, PartialEq, Eq)]
 pub enum TaskFunction {
     /// 1 ABORT TASK: the task with the Referenced Task Tag.
@@ -27,14 +27,14 @@ pub enum TaskFunction {
     TargetColdReset,
     /// 8 TASK REASSIGN
     TaskReassign,
-    /// No function of RFC 7143: the code.
+    /// No function of RFC 7143, by its code.
     Other(u8),
 }
 
 impl Header {
     ghost use Rattle.iscsi_pdu.specs.TaskManagement.{task_function, function_code, referenced_task_tag, ref_cmd_sn};
 
-    /// The function.
+    /// Returns the function.
     pub fn task_function(&self) -> TaskFunction
         ensures { result ≡ task_function (function_code self.now) }
     {
@@ -51,14 +51,14 @@ impl Header {
         }
     }
 
-    /// Referenced Task Tag: the Initiator Task Tag of the task to be aborted.
+    /// Returns Referenced Task Tag: the Initiator Task Tag of the task to be aborted.
     pub fn referenced_task_tag(&self) -> u32
         ensures { result ≡ referenced_task_tag self.now }
     {
         BigEndian::read_u32(&self.bytes[20..])
     }
 
-    /// RefCmdSN: the CmdSN of the task to be aborted.
+    /// Returns RefCmdSN: the CmdSN of the task to be aborted.
     pub fn ref_cmd_sn(&self) -> u32
         ensures { result ≡ ref_cmd_sn self.now }
     {

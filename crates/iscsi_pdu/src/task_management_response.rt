@@ -14,14 +14,14 @@ const OPCODE: u8 = 0x22;
 /// The bit of byte 1 that is always set.
 const FINAL: u8 = 0x80;
 
-/// How a task management function ended (RFC 7143 §11.6.1).
+/// The result of a task management function (RFC 7143 §11.6.1).
 #[derive(Clone, Copy, Debug, PartialEq, Eq)]
 pub enum TaskResult {
     /// 0: the function is complete.
     Complete = 0,
-    /// 1: there is no such task.
+    /// 1: the task does not exist.
     NoTask = 1,
-    /// 2: there is no such logical unit.
+    /// 2: the logical unit does not exist.
     NoUnit = 2,
     /// 4: tasks are not reassigned to another connection.
     NoReassignment = 4,
@@ -41,7 +41,7 @@ pub struct TaskManagementResponse {
 impl TaskResult {
     ghost use Rattle.iscsi_pdu.specs.TaskManagementResponse.{task_result_code};
 
-    /// Byte 2.
+    /// Returns byte 2.
     fn code(self) -> u8
         ensures { result ≡ task_result_code self }
     {
@@ -52,7 +52,7 @@ impl TaskResult {
 impl TaskManagementResponse {
     ghost use Rattle.iscsi_pdu.specs.TaskManagementResponse.{task_management_response_bytes, task_management_response_header};
 
-    /// The length in bytes of the response.
+    /// Returns the length of the response in bytes.
     pub(crate) fn length(&self) -> usize
         ensures value { result ≡ length (task_management_response_bytes self.now) }
         ensures bound { result ≤ header_length + most_data }
@@ -60,7 +60,7 @@ impl TaskManagementResponse {
         self.header().len()
     }
 
-    /// The 48 header bytes.
+    /// Returns the 48 header bytes.
     pub(crate) fn header(&self) -> [u8; HEADER_LENGTH]
         ensures { result ≡ task_management_response_header self.now }
     {

@@ -17,20 +17,20 @@ const OPCODE: u8 = 0x24;
 /// F, in byte 1.
 const FINAL: u8 = 0x80;
 
-/// The Target Transfer Tag of an exchange that goes on. A connection has one exchange at a time, so
-/// that one tag names each (RFC 7143 §11.11.4).
+/// The Target Transfer Tag of an exchange that goes on. A connection has one exchange at a time, so one tag is enough
+/// (RFC 7143 §11.11.4).
 pub const EXCHANGE_TAG: u32 = 0xffff_fffe;
 
 /// The Target Transfer Tag of an answer that ends its exchange, and of a request that begins one
 /// (RFC 7143 §11.10.4, §11.11.4).
 pub const NO_EXCHANGE_TAG: u32 = 0xffff_ffff;
 
-/// Whether the exchange of texts goes on behind an answer (RFC 7143 §11.11.1, §11.11.2).
+/// Whether the exchange of texts goes on after an answer (RFC 7143 §11.11.1, §11.11.2).
 #[derive(Clone, Copy, Debug, PartialEq, Eq)]
 pub enum TextStep {
-    /// C: the answer's text goes on in the next answer, for which an empty request is to ask.
+    /// C: the answer's text continues in the next answer, which the initiator asks for by an empty request.
     Continued,
-    /// Neither F nor C: the answer is whole, and the initiator may say more.
+    /// Neither F nor C: the answer is whole, and the initiator may send more.
     GoesOn,
     /// F: the exchange is over.
     Ends,
@@ -62,7 +62,7 @@ impl<'a> Model for TextResponse<'a> {
 impl TextStep {
     ghost use Rattle.iscsi_pdu.specs.TextResponse.{text_flags, exchange_tag};
 
-    /// F and C, byte 1.
+    /// Returns byte 1: F and C.
     fn flags(self) -> u8
         ensures { result ≡ text_flags self }
     {
@@ -73,7 +73,7 @@ impl TextStep {
         }
     }
 
-    /// The Target Transfer Tag.
+    /// Returns the Target Transfer Tag.
     fn tag(self) -> u32
         ensures { result ≡ exchange_tag self }
     {
@@ -87,7 +87,7 @@ impl TextStep {
 impl<'a> TextResponse<'a> {
     ghost use Rattle.iscsi_pdu.specs.TextResponse.{text_response_bytes, text_response_header};
 
-    /// The length in bytes of the PDU.
+    /// Returns the length of the PDU in bytes.
     pub(crate) fn length(&self) -> usize
         ensures value { result ≡ length (text_response_bytes self.now) }
         ensures bound { result ≤ header_length + most_data }
@@ -95,7 +95,7 @@ impl<'a> TextResponse<'a> {
         self.header().len() + padded(self.text.len())
     }
 
-    /// The 48 header bytes.
+    /// Returns the 48 header bytes.
     pub(crate) fn header(&self) -> [u8; HEADER_LENGTH]
         ensures { result ≡ text_response_header self.now }
     {
@@ -109,7 +109,7 @@ impl<'a> TextResponse<'a> {
         header
     }
 
-    /// The data segment.
+    /// Returns the data segment.
     pub(crate) fn segment(&self) -> &[u8]
         ensures value { result.now ≡ self.now.text }
         ensures bound { length result.now ≤ most_data }
