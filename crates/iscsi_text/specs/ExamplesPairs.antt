@@ -12,17 +12,17 @@ two_pairs : text_pairs (codes "InitiatorName=a" ++ 0 ∷ codes "TargetName=t1" +
 unfolding text_pairs pieces own_fault is_utf8 chars lib.Utf8.encode
 two_pairs = refl
 
--- the first `=` parts a key from its value
+-- the first `=` separates a key from its value
 two_equals_signs : text_pairs (codes "a=b=c" ++ 0 ∷ []) ≡ Ok ((codes "a", codes "b=c") ∷ [])
 unfolding text_pairs pieces own_fault is_utf8 chars lib.Utf8.encode
 two_equals_signs = refl
 
--- a value may be empty, and empty pieces are passed over
+-- a value may be empty, and empty pieces are skipped
 empty_value : text_pairs (0 ∷ codes "a=" ++ 0 ∷ 0 ∷ []) ≡ Ok ((codes "a", []) ∷ [])
 unfolding text_pairs pieces own_fault is_utf8 chars lib.Utf8.encode
 empty_value = refl
 
--- zero bytes alone hold no pair, and 65536 bytes are not too many
+-- zero bytes alone contain no pair, and 65536 bytes are not too many
 no_pair : text_pairs (replicate 65536 0) ≡ Ok []
 unfolding text_pairs pieces
 no_pair = refl
@@ -65,20 +65,20 @@ values_at_the_limit : (text_pairs (codes "k=" ++ replicate 255 118 ++ 0 ∷ []) 
 unfolding text_pairs pieces own_fault is_utf8 chars lib.Utf8.encode
 values_at_the_limit = (refl, refl)
 
--- ---- which fault is told
+-- ---- which fault is reported
 
--- of a piece: that it is not ended, then that it is not UTF-8, then that it has no key, then a long value
+-- for a piece, in this order: it is not ended, it is not UTF-8, it has no key, its value is too long
 first_of_a_piece : (text_pairs (0xFF ∷ []) ≡ Err faults.NotTerminated) × (text_pairs (0xFF ∷ 0 ∷ []) ≡ Err faults.NotUtf8)
     × (text_pairs (codes "=" ++ replicate 256 118 ++ 0 ∷ []) ≡ Err faults.NoKey)
 unfolding text_pairs pieces own_fault is_utf8 chars lib.Utf8.encode
 first_of_a_piece = (refl, refl, refl)
 
--- a value that is too long, of a key that comes twice
+-- a value that is too long, for a key that comes twice
 long_before_twice : text_pairs (codes "k=1" ++ 0 ∷ codes "k=" ++ replicate 256 118 ++ 0 ∷ []) ≡ Err faults.LongValue
 unfolding text_pairs pieces own_fault is_utf8 chars lib.Utf8.encode
 long_before_twice = refl
 
--- of a text: the fault of its first faulty piece
+-- for a text: the fault of its first faulty piece
 first_of_a_text : (text_pairs (codes "a=1" ++ 0 ∷ codes "a=2" ++ 0 ∷ codes "b") ≡ Err faults.KeyTwice)
     × (text_pairs (codes "a=1" ++ 0 ∷ codes "b" ++ 0 ∷ codes "a=2") ≡ Err faults.NoKey)
 unfolding text_pairs pieces own_fault is_utf8 chars lib.Utf8.encode
@@ -89,12 +89,12 @@ first_of_a_text = (refl, refl)
 written : text_of ((codes "AuthMethod", codes "None") ∷ (codes "X-a", []) ∷ []) ≡ codes "AuthMethod=None" ++ 0 ∷ codes "X-a=" ++ 0 ∷ []
 written = refl
 
--- letters count as they are, and the first pair with a key counts
+-- keys are case-sensitive, and the first pair with a key counts
 found : (value_of (codes "a") ((codes "A", codes "1") ∷ (codes "a", codes "2") ∷ (codes "a", codes "3") ∷ []) ≡ Some (codes "2"))
     × (value_of (codes "b") ((codes "a", codes "1") ∷ []) ≡ None)
 found = (refl, refl)
 
--- ---- how pairs are kept
+-- ---- how pairs are stored
 
 -- in one text, by where each key and each value ends
 kept : pairs_of (strings_in (codes "a12b") 0 (1 ∷ 3 ∷ 4 ∷ 4 ∷ [])) ≡ (codes "a", codes "12") ∷ (codes "b", []) ∷ []

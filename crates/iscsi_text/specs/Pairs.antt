@@ -37,7 +37,7 @@ is_equals byte = byte == equals_sign
 abbrev pub is_zero : ℕ → Bool
 is_zero byte = byte == 0
 
--- a zero byte ended each part but the last
+-- the parts of a text as pieces: a zero byte ended each except the last
 abbrev pub marked : List (List ℕ) → List Piece
 marked [] = []
 marked (part ∷ []) = record { bytes = part; ended = false } ∷ []
@@ -46,7 +46,7 @@ marked (part ∷ next ∷ parts) = record { bytes = part; ended = true } ∷ mar
 abbrev pub is_nonempty : Piece → Bool
 is_nonempty piece = nat_lt 0 (length piece.bytes)
 
--- RFC 7143 §6.1: what stands between the zero bytes of a text; profile: empty pieces are passed over
+-- RFC 7143 §6.1: the parts between the zero bytes of a text; profile: empty pieces are skipped
 unfoldable pub pieces : List ℕ → List Piece
 pieces text = filter is_nonempty (marked (slice_split is_zero text))
 
@@ -54,7 +54,7 @@ pieces text = filter is_nonempty (marked (slice_split is_zero text))
 abbrev pub key_in : Piece → List ℕ
 key_in piece = before_first is_equals piece.bytes
 
--- RFC 7143 §6.1: the bytes behind the first `=`
+-- RFC 7143 §6.1: the bytes after the first `=`
 abbrev pub value_in : Piece → List ℕ
 value_in piece = after_first is_equals piece.bytes
 
@@ -78,7 +78,7 @@ own_fault piece =
 abbrev pub repeat_fault : List (List ℕ) → List ℕ → Option TextFault
 repeat_fault earlier key = if list_any (bytes_eq key) earlier then Some faults.KeyTwice else None
 
--- the first fault of a piece that comes behind these keys
+-- the first fault of a piece that comes after these keys
 abbrev pub fault_of : List (List ℕ) → Piece → Option TextFault
 fault_of earlier piece = option_or (own_fault piece) (repeat_fault earlier (key_in piece))
 
@@ -87,17 +87,17 @@ abbrev pub first_fault : List (List ℕ) → List Piece → Option TextFault
 first_fault earlier [] = None
 first_fault earlier (piece ∷ later) = option_or (fault_of earlier piece) (first_fault (earlier ++ key_in piece ∷ []) later)
 
--- the fault, or else the pairs
+-- the fault, or the pairs if there is none
 abbrev pub pairs_unless : Option TextFault → List Pair → Result (List Pair) TextFault
 pairs_unless None pairs = Ok pairs
 pairs_unless (Some fault) pairs = Err fault
 
--- RFC 7143 §6.1: the pairs of a text, or what is wrong with it; profile: its length is tested first
+-- RFC 7143 §6.1: the pairs of a text, or its fault; profile: its length is tested first
 unfoldable pub text_pairs : List ℕ → Result (List Pair) TextFault
 text_pairs text = if nat_lt longest_text (length text) then Err faults.TooLong
     else pairs_unless (first_fault [] (pieces text)) (map pair_in (pieces text))
 
--- RFC 7143 §6.1: a pair, as a text spells it
+-- RFC 7143 §6.1: a pair in the form of a text
 abbrev pub spelled : Pair → List ℕ
 spelled pair = pair.0 ++ equals_sign ∷ pair.1 ++ 0 ∷ []
 

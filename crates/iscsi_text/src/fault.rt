@@ -1,4 +1,4 @@
-//! Why a text is not read or written.
+//! The reasons why a text is not read or written.
 
 ghost use Rattle.std.specs.Prelude.{◌≡◌};
 ghost use Rattle.iscsi_text.specs.declared.fault.TextFault.TheVariants.{Memory};
@@ -7,7 +7,7 @@ ghost use Rattle.iscsi_text.specs.Fault.{fault_number};
 use std::alloc::{AllocError, AllocFailed};
 use thiserror::Error;
 
-/// What is wrong with a text (RFC 7143 §6.1), or out of memory.
+/// A fault of a text (RFC 7143 §6.1), or out of memory.
 #[derive(Clone, Copy, Debug, PartialEq, Eq, Error)]
 pub enum TextFault {
     /// A piece has no `=`, or nothing before it.
@@ -19,7 +19,7 @@ pub enum TextFault {
     /// A value is longer than 255 bytes.
     #[error("a value is longer than 255 bytes")]
     LongValue = 3,
-    /// No zero byte ends the last pair.
+    /// The last pair is not ended by a zero byte.
     #[error("the last pair is not ended")]
     NotTerminated = 4,
     /// A pair is not UTF-8.
@@ -37,7 +37,7 @@ pub enum TextFault {
 }
 
 impl TextFault {
-    /// The number of the fault, 1 to 8.
+    /// Returns the number of the fault, 1 to 8.
     pub fn number(&self) -> u8
         ensures { result ≡ fault_number self.now }
     {

@@ -6,10 +6,9 @@
 //!
 //! Promised, and proved:
 //!
-//! - [`pairs`] reads exactly the pairs of a text, or tells the first fault that it has.
-//! - [`text`] writes exactly the text of pairs, and [`put_pair`] one pair behind a text.
-//! - What [`pairs`] read and [`text`] wrote, [`pairs`] reads again as the same pairs
-//!   ([`laws::is_read_again`]).
+//! - [`pairs`] reads exactly the pairs of a text, or reports its first fault.
+//! - [`text`] writes exactly the text of pairs, and [`put_pair`] appends one pair to a text.
+//! - If [`text`] writes what [`pairs`] read, [`pairs`] reads it again as the same pairs ([`laws::is_read_again`]).
 #![tactic(auto)]
 
 mod fault;

@@ -8,8 +8,8 @@ use crate::string_list::StringList;
 use std::alloc::Global;
 use std::marker::Model;
 
-/// Keys with their values, in the order in which they stand in the text. All of them lie in one string, and eight bytes
-/// more for each pair say where they end. Clauses see the list of the pairs.
+/// Keys with their values, in the order of the text. All of them are in one string; where they end takes eight more
+/// bytes for each pair. Clauses see the list of the pairs.
 #[derive(Debug, Drop)]
 pub struct Pairs {
     /// Each key, with its value after it.
@@ -28,7 +28,7 @@ impl Model for Pairs {
 }
 
 impl Pairs {
-    /// Returns an empty list. It takes no memory.
+    /// Returns an empty list. Allocates nothing.
     pub fn new(alloc: Global) -> Pairs
         ensures { result ≡ [] }
     {
@@ -45,14 +45,14 @@ impl Pairs {
         self.strings.len() / 2
     }
 
-    /// Returns whether there are none.
+    /// Returns whether the list is empty.
     pub fn is_empty(&self) -> bool
         ensures { result ≡ (length self.now == 0) }
     {
         self.len() == 0
     }
 
-    /// Appends a pair. The one fault is out of memory, which leaves the pairs as they were.
+    /// Appends a pair. The only fault is out of memory, which leaves the pairs unchanged.
     pub fn push(&mut self, key: &str, value: &str) -> Result<(), TextFault>
         ensures added { OnOk result (self.new ≡ self.old ++ (key.now, value.now) ∷ []) }
         ensures unchanged { OnErr result (self.new ≡ self.old) }
@@ -67,7 +67,7 @@ impl Pairs {
         Ok(())
     }
 
-    /// Appends pairs. The one fault is out of memory, which leaves the pairs as they were.
+    /// Appends pairs. The only fault is out of memory, which leaves the pairs unchanged.
     pub fn append(&mut self, more: Pairs) -> Result<(), TextFault>
         ensures added { OnOk result (self.new ≡ self.old ++ more) }
         ensures unchanged { OnErr result (self.new ≡ self.old) }
@@ -82,7 +82,7 @@ impl Pairs {
         requires { at < length self.now }
         ensures { slice_get self.now at ≡ Some (result.0.now, result.1.now) }
     {
-        // Twice this place is still a `usize`.
+        // Shows the prover that twice this place is still a `usize`.
         prove!(at < self.len());
         (self.strings.get(2 * at), self.strings.get(2 * at + 1))
     }

@@ -1,4 +1,4 @@
-//! From a text to its pairs.
+//! Reading the pairs of a text.
 
 ghost use Rattle.std.specs.Prelude.{◌≡◌, ◌<◌, ◌∷◌, length, None, Some, IfOk, IfErr, position};
 ghost use Rattle.std.specs.List.{before_first, after_first};
@@ -19,14 +19,14 @@ const LONGEST_KEY: usize = 63;
 /// The most bytes that a value may have (RFC 7143 §6.1).
 const LONGEST_VALUE: usize = 255;
 
-/// Where the first zero byte stands.
+/// Returns the place of the first zero byte.
 fn first_zero(text: &[u8]) -> Option<usize>
     ensures { result ≡ position is_zero text.now }
 {
     text.iter().position(|byte| *byte == 0)
 }
 
-/// The bytes before the first zero byte, whether there is one, and the bytes behind it.
+/// Returns the bytes before the first zero byte, whether there is one, and the bytes after it.
 fn first_piece(text: &[u8]) -> (&[u8], bool, &[u8])
     requires { 0 < length text.now }
     ensures piece { 0 < length result.0.now →
@@ -40,7 +40,7 @@ fn first_piece(text: &[u8]) -> (&[u8], bool, &[u8])
     }
 }
 
-/// The key and the value of a piece that is not empty, by itself.
+/// Returns the key and the value of a piece that is not empty, or the piece's own fault.
 #[tactic(auto, unfolding(crate::specs::Pairs::own_fault))]
 fn pair_in(piece: &[u8], ended: bool) -> Result<(&str, &str), TextFault>
     ensures whole { IfOk result (λ pair.
@@ -71,8 +71,8 @@ fn pair_in(piece: &[u8], ended: bool) -> Result<(&str, &str), TextFault>
     Ok((key, value))
 }
 
-/// The pairs of a text (RFC 7143 §6.1), or what is wrong with it: first whether it is too long, and
-/// then the first fault of its first faulty piece. An allocation may fail as well.
+/// Returns the pairs of a text (RFC 7143 §6.1), or its fault. A text that is too long has that fault; any other has
+/// the first fault of its first faulty piece. An allocation may fail as well.
 #[tactic(auto, unfolding(crate::specs::Pairs::text_pairs))]
 pub fn pairs(alloc: Global, text: &[u8]) -> Result<Pairs, TextFault>
     ensures { Gives result (text_pairs text.now) }

@@ -10,7 +10,7 @@ use std::marker::Model;
 #[derive(Debug, Drop)]
 pub(crate) struct StringList {
     text: String,
-    /// Where each string ends in the text.
+    /// The place in the text where each string ends.
     ends: NumberList,
 }
 
@@ -25,8 +25,8 @@ impl Model for StringList {
     ghost invariant = { λ list. AreEnds (string_bytes list.text) 0 list.ends };
 }
 
-/// Returns where the string at a place begins: where the one before it ends. At the place after the last, that is where
-/// the text ends.
+/// Returns the place where a string begins, which is where the one before it ends. For the place after the last
+/// string this is the end of the text.
 fn start_of(ends: &NumberList, at: usize) -> usize
     requires { at ≤ length ends.now }
     ensures { result ≡ slice_index (0 ∷ ends.now) at }
@@ -35,7 +35,7 @@ fn start_of(ends: &NumberList, at: usize) -> usize
 }
 
 impl StringList {
-    /// Returns an empty list. It takes no memory.
+    /// Returns an empty list. Allocates nothing.
     pub(crate) fn new(alloc: Global) -> StringList
         ensures { result ≡ [] }
     {
@@ -63,19 +63,19 @@ impl StringList {
         &self.text.as_str()[start..end]
     }
 
-    /// Appends a string. Where an allocation fails, the list is as it was.
+    /// Appends a string. If an allocation fails, the list is unchanged.
     pub(crate) fn push(&mut self, string: &str) -> Result<(), AllocError>
         ensures added { OnOk result (self.new ≡ self.old ++ string.now ∷ []) }
         ensures unchanged { OnErr result (self.new ≡ self.old) }
     {
-        // Once its room is reserved, appending the string cannot fail, so its end never stands alone.
+        // After its room is reserved, appending the string cannot fail. So its end is never kept without it.
         self.text.reserve(string.len())?;
         self.ends.push(self.text.len() + string.len())?;
         self.text.push_str(string)?;
         Ok(())
     }
 
-    /// Keeps the first strings, as many as `count` says, or all if there are fewer.
+    /// Keeps the first `count` strings, or all if there are fewer.
     pub(crate) fn truncate(&mut self, count: usize)
         ensures { self.new ≡ take count self.old }
     {
@@ -85,7 +85,7 @@ impl StringList {
         }
     }
 
-    /// Appends the strings of another list. Where an allocation fails, the list is as it was.
+    /// Appends the strings of another list. If an allocation fails, the list is unchanged.
     pub(crate) fn append(&mut self, more: &StringList) -> Result<(), AllocError>
         ensures added { OnOk result (self.new ≡ self.old ++ more.now) }
         ensures unchanged { OnErr result (self.new ≡ self.old) }

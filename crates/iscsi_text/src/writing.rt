@@ -1,4 +1,4 @@
-//! From pairs to their text.
+//! Writing the text of pairs.
 
 ghost use Rattle.std.specs.Prelude.{◌≡◌, ◌++◌, OnOk, OnErr, IfOk, IsOkUnless};
 ghost use Rattle.iscsi_text.specs.Pairs.{spelled, text_of};
@@ -7,14 +7,14 @@ use crate::fault::TextFault;
 use crate::list::Pairs;
 use std::alloc::Global;
 
-/// Puts a pair behind a text, as the text spells it. The one fault is out of memory, which leaves the
-/// text as it was.
+/// Appends a pair to a text, in the form of the text. The only fault is out of memory, which leaves the text
+/// unchanged.
 pub fn put_pair(text: &mut Vec<u8>, key: &str, value: &str) -> Result<(), TextFault>
     ensures put { OnOk result (text.new.items ≡ text.old.items ++ spelled (key.now, value.now)) }
     ensures unchanged { OnErr result (text.new.items ≡ text.old.items) }
     ensures memory { IsOkUnless result TextFault.Memory }
 {
-    // One request for all of it, so that nothing is put where there is no room for the rest.
+    // Reserves room for all of it at once, so that no part is put if there is no room for the rest.
     text.reserve(key.len().saturating_add(value.len()).saturating_add(2))?;
     text.extend_from_slice(key.as_bytes())?;
     text.push(b'=')?;
@@ -23,7 +23,7 @@ pub fn put_pair(text: &mut Vec<u8>, key: &str, value: &str) -> Result<(), TextFa
     Ok(())
 }
 
-/// The text of pairs (RFC 7143 §6.1). The one fault is out of memory.
+/// Returns the text of pairs (RFC 7143 §6.1). The only fault is out of memory.
 pub fn text(alloc: Global, pairs: &Pairs) -> Result<Vec<u8>, TextFault>
     ensures written { IfOk result (λ bytes. bytes.items ≡ text_of pairs.now) }
     ensures memory { IsOkUnless result TextFault.Memory }
