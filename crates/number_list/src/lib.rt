@@ -5,8 +5,10 @@
 //!   one of 2^32 or more        |    7    |    9    |   2^32   |    eight bytes each from then on
 //! ```
 //!
-//! Promised: what clauses see of [`NumberList`] is the list of its numbers, however wide they are stored. Where an
-//! allocation fails nothing changes.
+//! Promised:
+//!
+//! - Clauses see a [`NumberList`] as the list of its numbers, however wide they are stored.
+//! - If an allocation fails, nothing changes.
 #![tactic(auto)]
 
 mod list;

@@ -33,7 +33,7 @@ impl Model for NumberList {
     ghost view = { λ list. numbers_of list.numbers };
 }
 
-// By a call of its own, so that where a list is dropped nothing tells the two widths apart.
+// Dropped by a call of its own, so that code that drops a list does not distinguish the two widths.
 impl Drop for NumberList {
     fn drop(self) {
         let NumberList {
@@ -55,7 +55,7 @@ fn widened(alloc: Global, short: &[u32]) -> Result<Vec<usize>, AllocError>
 }
 
 impl NumberList {
-    /// Returns an empty list. It takes no memory.
+    /// Returns an empty list. Allocates nothing.
     pub fn new(alloc: Global) -> NumberList
         ensures { result ≡ [] }
     {
@@ -65,7 +65,7 @@ impl NumberList {
         }
     }
 
-    /// Returns the number of numbers.
+    /// Returns the length of the list.
     pub fn len(&self) -> usize
         ensures value { result ≡ length self.now }
         ensures bound { result < 2 ^ 63 }
@@ -76,7 +76,7 @@ impl NumberList {
         }
     }
 
-    /// Returns whether there are none.
+    /// Returns whether the list is empty.
     pub fn is_empty(&self) -> bool
         ensures { result ≡ (length self.now == 0) }
     {
@@ -94,7 +94,7 @@ impl NumberList {
         }
     }
 
-    /// Appends a number. Where an allocation fails, the list is as it was.
+    /// Appends a number. If an allocation fails, the list is unchanged.
     pub fn push(&mut self, number: usize) -> Result<(), AllocError>
         ensures added { OnOk result (self.new ≡ self.old ++ number ∷ []) }
         ensures unchanged { OnErr result (self.new ≡ self.old) }
@@ -111,7 +111,7 @@ impl NumberList {
         Ok(())
     }
 
-    /// Replaces the number at a place. Where an allocation fails, the list is as it was.
+    /// Replaces the number at a place. If an allocation fails, the list is unchanged.
     pub fn set(&mut self, at: usize, number: usize) -> Result<(), AllocError>
         requires { at < length self.old }
         ensures replaced { OnOk result (self.new ≡ slice_set self.old at number) }
@@ -129,7 +129,7 @@ impl NumberList {
         Ok(())
     }
 
-    /// Keeps the first numbers, as many as `count` says, or all if there are fewer.
+    /// Keeps the first `count` numbers, or all if there are fewer.
     pub fn truncate(&mut self, count: usize)
         ensures { self.new ≡ take count self.old }
     {
