@@ -9,6 +9,6 @@ connection_limit = 64
 abbrev pub connections : List ℕ
 connections = range_with_len 0 connection_limit
 
--- a connection has this number
+-- the number is that of a connection
 abbrev pub is_number : ℕ → Bool
 is_number c = nat_lt c connection_limit
