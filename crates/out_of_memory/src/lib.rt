@@ -1,12 +1,11 @@
-//! How a call of this repository says that an allocation failed.
+//! The error of a call of this repository in which an allocation failed.
 //!
 //! ```text
 //!   out.reserve(length)?        AllocError ──> Memory           "out of memory"
 //!   list.push(item)?            AllocFailed<T> ──> Memory       the item that was not taken is dropped
 //! ```
 //!
-//! Promised: nothing but that it is safe and total. That a value is as it was where a call answers [`Memory`] is promised by
-//! that call.
+//! Promised: only that it is safe and total. A call that returns [`Memory`] itself promises what is unchanged then.
 #![tactic(auto)]
 
 use std::alloc::{AllocError, AllocFailed};
