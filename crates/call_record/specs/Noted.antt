@@ -1,7 +1,7 @@
--- A call as it is noted.
+-- A noted call.
 use Rattle.std.specs.Prelude.{ℕ, Bool, List}
 
--- own: what a call was and what it answered, told in numbers, bytes and flags
+-- own: what a call asked and what it answered, as numbers, bytes and flags
 pub record Noted : Type 0 where
   pub numbers : List ℕ
   pub bytes : List ℕ

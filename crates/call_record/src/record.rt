@@ -6,7 +6,7 @@ ghost use Rattle.call_record.specs.Noted.{Noted};
 
 use std::marker::{Model, PhantomData};
 
-/// The calls that were noted, the newest first. It has no bytes.
+/// The noted calls, the newest first. It has no bytes.
 #[derive(Drop)]
 pub struct Record {
     marker: PhantomData<u8>,
@@ -18,7 +18,7 @@ impl Model for Record {
 }
 
 impl Record {
-    /// A record with no call in it.
+    /// Returns a record with no call in it.
     pub fn new() -> Record
         ensures { result.calls ≡ [] }
     {
@@ -27,8 +27,8 @@ impl Record {
         }
     }
 
-    /// Notes a call: numbers, bytes and flags that say what it was and what it answered, in an order that the one who
-    /// notes it chooses. The body is empty.
+    /// Notes a call: numbers, bytes and flags for what was asked and what was answered. The caller chooses their
+    /// order. The body is empty.
     pub fn note(&mut self, _numbers: &[u64], _bytes: &[u8], _flags: &[bool])
         ensures { self.new.calls ≡ record { numbers = _numbers.now; bytes = _bytes.now; flags = _flags.now } ∷ self.old.calls }
     {}
