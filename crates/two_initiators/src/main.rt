@@ -1,15 +1,15 @@
-//! Initiators on one target while memory runs short: what each of them is answered.
+//! Initiators on one target while memory runs short: the answers to each of them.
 //!
-//! Each line of standard input names a connection, 0 or 1, and bytes that come on it, in hexadecimal digits. They reach a
-//! target `t1` with a disk, LUN 0, and a tape, LUN 1, in memory. Printed are, line by line,
+//! Each line of standard input names a connection, 0 or 1, and bytes that come on it, in hexadecimal digits. They
+//! reach a target `t1` with a disk, LUN 0, and a tape, LUN 1, in memory. The program prints, line by line:
 //!
 //! ```text
 //! 0 23870000     bytes of the target's answer on connection 0: of a large answer a line for each SCSI Data-In
 //! 0 starved      the target closed connection 0, since an allocation failed
 //! ```
 //!
-//! and an empty line behind each line that was read. A test lets one allocation fail after the other, and looks at what the
-//! other initiator gets. Where the program itself has no memory for its own needs it ends with status 3.
+//! It prints an empty line after each line that was read. A test lets one allocation fail after the other, and looks
+//! at the answers to the other initiator. If the program itself is out of memory, it ends with status 3.
 #![tactic(auto)]
 
 use hex::FromHexError;
@@ -21,7 +21,7 @@ use std::alloc::{AllocError, AllocFailed, Global};
 use std::io::{self, ErrorKind, Input};
 use std::process::ExitCode;
 
-/// Why the program ends before its pieces do.
+/// The reason why the program ends before its input does.
 enum Fault {
     OutOfMemory,
     Unopened,
@@ -74,7 +74,7 @@ impl From<io::Error> for Fault {
 /// The blocks of the disk.
 const BLOCKS: usize = 4096;
 
-/// The bytes that the tape takes, and its early-warning position.
+/// The capacity of the tape in bytes, and its early-warning position.
 const CAPACITY: usize = 100_000;
 
 const EARLY: u64 = 90_000;
@@ -92,7 +92,7 @@ fn tape(alloc: Global) -> Result<Unit<MemStore>, Fault> {
     Ok(Unit::tape(alloc, 1, serial, tape))
 }
 
-/// A target `t1` with a disk and a tape.
+/// Returns a target `t1` with a disk and a tape.
 fn target(alloc: Global) -> Result<Target<MemStore>, Fault> {
     let mut names = Vec::new(alloc);
     names.push(String::from_str(alloc, "t1")?)?;
@@ -108,7 +108,8 @@ fn target(alloc: Global) -> Result<Target<MemStore>, Fault> {
     Ok(Target::new(alloc, config, units)?)
 }
 
-/// Prints the next bytes of what the target answers on a connection, which are then sent. Whether there were any.
+/// Prints the next bytes of the target's answer on a connection and marks them as sent. Returns whether there were
+/// any.
 fn print_front(rt: &HostRuntime, target: &mut Target<MemStore>, c: usize) -> Result<bool, Fault> {
     if c >= 64 || !target.is_open(c) {
         return Ok(false);
@@ -124,7 +125,7 @@ fn print_front(rt: &HostRuntime, target: &mut Target<MemStore>, c: usize) -> Res
     Ok(true)
 }
 
-/// Prints all that the target answers on a connection, which is then sent.
+/// Prints all of the target's answer on a connection and marks it as sent.
 fn print_answer(rt: &HostRuntime, target: &mut Target<MemStore>, c: usize) -> Result<(), Fault> {
     for _ in 0..u64::MAX {
         if !print_front(rt, target, c)? {
@@ -134,7 +135,7 @@ fn print_answer(rt: &HostRuntime, target: &mut Target<MemStore>, c: usize) -> Re
     Ok(())
 }
 
-/// Gives a piece to the target, and prints what comes of it on both connections.
+/// Feeds a piece to the target, and prints the answers on both connections.
 fn bring(
     rt: &HostRuntime,
     target: &mut Target<MemStore>,
@@ -157,7 +158,7 @@ fn bring(
     Ok(())
 }
 
-/// Puts the lines of standard input through one target.
+/// Feeds the lines of standard input to one target.
 fn run(rt: &HostRuntime) -> Result<(), Fault> {
     let mut target = target(rt.alloc())?;
     for c in 0..2 {
