@@ -1,4 +1,4 @@
--- How a command to a tape came out, as its store has it.
+-- How a command to a tape came out, depending on its store.
 use Rattle.std.specs.Prelude.{◌≡◌, ℕ, ◌+◌, ◌*◌, ◌⊎◌, ◌==◌, nat_lt, nat_le, List, [], length, Bool, true, false, ◌||◌, ◌&&◌, not, IsTrue, if◌then◌else◌}
 use Rattle.media_store.specs.Failures.{risen, NoneFailed}
 use Rattle.media_tape.specs.Items.{Item, size_of}
@@ -12,7 +12,7 @@ use Rattle.scsi_tape.specs.TapeSense.{early_warning, unrecovered_read, write_err
 use Rattle.scsi_tape.specs.State.{TapeUnitState}
 use Rattle.scsi_tape.specs.Commands.{tape_outcome, tape_left}
 
--- own: a tape as a store made it appear: its items and the position among them, and where it warns and ends
+-- own: a tape as a store made it appear: its items, the position among them, and where it warns and ends
 pub record Shown : Type 0 where
   pub before : List Item
   pub after : List Item
@@ -24,7 +24,7 @@ abbrev pub showing : Shown → TapeState → TapeState
 showing shown tape =
     record tape { before = shown.before; after = shown.after; early_mark = shown.early_mark; capacity = shown.capacity; honest = true }
 
--- own: what stands on a tape, and behind its items
+-- own: what stands on a tape, and after its items
 pub record Standing : Type 0 where
   pub before : List Item
   pub after : List Item
@@ -36,15 +36,15 @@ standing_of tape = record { before = tape.before; after = tape.after; tail = tap
 pub data TapeCame : Type 0 where
   -- as its definition says
   AsDefined : TapeCame
-  -- its store is not honest after it: it showed this tape, and this stands on it after the command
+  -- its store is not honest after it: it showed this tape, and this stands on the tape after the command
   Dishonest : (shown : Shown) (left : Standing) → TapeCame
-  -- a read failed, and the store is honest after it or not
+  -- a read failed; the store may be honest after it or not
   ReadFailed : (honest : Bool) → TapeCame
   -- a write, a cut or a sync failed, and this stands on the tape after it
   WriteFailed : (left : Standing) → TapeCame
 
--- own: what a command does with its medium: whether it goes by the items there, reads them from the store, moves the
--- position by them, changes them, or waits until all is on the medium
+-- own: what a command does with its medium. It may depend on the items there, read them from the store, move the
+-- position among them, change them, or wait until everything is on the medium
 pub record TapeTouch : Type 0 where
   pub goes_by : Bool
   pub reads : Bool
@@ -58,12 +58,12 @@ no_touch = record { goes_by = false; reads = false; moves = false; writes = fals
 abbrev reading : TapeTouch
 reading = record { goes_by = true; reads = true; moves = true; writes = false; syncs = false }
 
--- own: whether so many bytes of items are not refused on this tape; where its store is not honest they need not be
+-- own: whether this many more bytes of items are not refused on this tape; if its store is not honest, none need be
 abbrev pub can_fit : ℕ → TapeState → Bool
 can_fit more tape = not tape.honest || nat_le (size_of tape.before + more) tape.capacity
 
--- own: a READ and a WRITE of nothing do nothing with it, a LOCATE at the end or past it does not read it, a READ POSITION
--- and a SPACE to the end of data never do, and what is refused (0D/0002) does not write
+-- own: a READ and a WRITE of nothing do not touch the medium. A LOCATE at or past the end does not read it, and READ
+-- POSITION and SPACE to the end of data never do. A command that is refused (0D/0002) does not write
 abbrev pub tape_touch : TapeCommand → TapeState → TapeTouch
 tape_touch Rewind tape = no_touch
 tape_touch ReadBlockLimits tape = no_touch
@@ -83,15 +83,16 @@ tape_touch (LoadUnload load) tape = no_touch
 tape_touch (Locate number) tape = record reading { reads = not tape.honest || nat_lt number (length (items tape)) }
 tape_touch ReadPosition tape = record no_touch { goes_by = true }
 
--- own: whether no call on it fails, as long as it is honest: its store is steady, and has room for the capacity
+-- own: whether no call on it fails as long as it is honest: its store is steady, and has room for the capacity
 abbrev pub is_steady : TapeState → Bool
 is_steady tape = tape.steady && nat_le tape.capacity tape.reach
 
 abbrev pub can_fail : TapeState → Bool
 can_fail tape = not (tape.honest && is_steady tape)
 
--- own: how a command with this data can come out: never otherwise where no call on the tape can fail; a store is shown to
--- lie by one that goes by the items, and begins to by one that reads; and no more is told than the longest READ gives
+-- own: whether a command with this data can come out so. If no call on the tape can fail, it comes out as defined. A
+-- store shows itself inconsistent only to a command that depends on the items, and becomes so only by one that reads.
+-- No outcome has more data than the longest READ returns
 abbrev pub is_tape_possible : TapeCame → TapeCommand → List ℕ → TapeState → Bool
 is_tape_possible AsDefined command bytes tape = true
 is_tape_possible (Dishonest shown left) command bytes tape =
@@ -103,8 +104,8 @@ is_tape_possible (ReadFailed honest) command bytes tape =
 is_tape_possible (WriteFailed left) command bytes tape =
     can_fail tape && ((tape_touch command tape).writes || (tape_touch command tape).syncs)
 
--- own: the tape behind a command whose store is not honest: the position is anywhere if it moved it, the items are open
--- if it changed them, and they are synced as that command leaves the tape shown
+-- own: the tape after a command whose store is not honest. The position is arbitrary if the command moved it, and the
+-- items are if it changed them. They are synced as the command leaves the tape that was shown
 abbrev misled : TapeTouch → Standing → Bool → TapeState → TapeState
 misled touch left synced tape =
     record tape {
@@ -115,8 +116,8 @@ misled touch left synced tape =
       honest = false;
     }
 
--- profile: where a write, a cut or a sync failed, the items before the position are left, and those behind it are lost
--- where there was something to write; of a store that is not honest any can stand there
+-- profile: after a write, a cut or a sync failed, the items before the position remain. Those after it are lost if
+-- there was something to write. On a store that is not honest any items may remain
 abbrev torn : TapeTouch → Standing → TapeState → TapeState
 torn touch left tape =
     if touch.writes then record tape {
@@ -140,21 +141,21 @@ tape_after (WriteFailed left) command bytes unit =
       is_working = false;
     }
 
--- own: what is told of it: where its store lied, what the command is told on the tape shown
+-- own: what the command returns; if its store was inconsistent, what it returns on the tape that was shown
 abbrev pub tape_told : TapeCame → TapeCommand → List ℕ → TapeState → Outcome
 tape_told AsDefined command bytes tape = tape_outcome command bytes tape
 tape_told (Dishonest shown left) command bytes tape = tape_outcome command bytes (showing shown tape)
 tape_told (ReadFailed honest) command bytes tape = check_condition unrecovered_read
 tape_told (WriteFailed left) command bytes tape = check_condition write_error
 
--- own: a command with this data to a tape came out in one of the ways in which it can, and the unit and what is told are so
+-- own: a command with this data to a tape came out in one of its possible ways, which gives the unit and the outcome
 pub record IsTapeDone (command : TapeCommand) (bytes : List ℕ) (old new : TapeUnitState) (done : Outcome) : Type 0 where
   pub came : TapeCame
   pub possible : IsTrue (is_tape_possible came command bytes old.tape)
   pub unit : new ≡ tape_after came command bytes old
   pub told : done ≡ tape_told came command bytes old.tape
 
--- own: its store is still honest, and no call of it failed
+-- own: the store is still honest, and none of its calls failed
 pub record IsTrustedTape (old new : TapeState) : Type 0 where
   pub honest : IsTrue new.honest
   pub none : NoneFailed old.failures new.failures
@@ -167,6 +168,6 @@ tape_done command bytes unit = (record unit { tape = tape_left command bytes uni
 abbrev pub WereMarked : Outcome → Type 0
 WereMarked done = (done ≡ good) ⊎ (done ≡ check_condition early_warning)
 
--- own: then all is on the medium
+-- own: after that everything is on the medium
 abbrev pub AreSynced : TapeCommand → TapeState → Outcome → Type 0
 AreSynced command new done = (count : ℕ) → command ≡ WriteFilemarks count → WereMarked done → new.synced ≡ true

@@ -1,4 +1,4 @@
--- What commands do to a tape, and what is told of them (SSC-4 "Command descriptions").
+-- What commands do to a tape, and what they return (SSC-4 "Command descriptions").
 use Rattle.std.specs.Prelude.{ℕ, ◌+◌, ◌-◌, ◌*◌, ◌%◌, ◌^◌, ◌==◌, nat_lt, not, min, List, [], ◌∷◌, ◌++◌, length, take, replicate, Bool, false}
 use Rattle.std.specs.Prelude.{Some, if◌then◌else◌}
 use Rattle.std.specs.Int.{w32, to_be_bytes}
@@ -39,7 +39,7 @@ use Rattle.scsi_tape.specs.TapeSense.{filemark, end_of_data, beginning, early_wa
 
 -- ---- READ (6), READ POSITION, READ BLOCK LIMITS
 
--- SSC-4 "READ (6) command": the length asked for less that of the record, in two's complement
+-- SSC-4 "READ (6) command": the length requested less that of the record, in two's complement
 abbrev pub length_difference : ℕ → ℕ → ℕ
 length_difference asked actual = (asked + (2 ^ 32 - actual)) % 2 ^ 32
 
@@ -47,33 +47,34 @@ length_difference asked actual = (asked + (2 ^ 32 - actual)) % 2 ^ 32
 abbrev pub given_with : Sense → List ℕ → Outcome
 given_with sense bytes = record { status = CheckCondition; sense = Some sense; given = bytes; moved = length bytes }
 
--- SSC-4 "READ (6) command", SILI: whether it is told that a record has another length than was asked for
+-- SSC-4 "READ (6) command", SILI: whether a record whose length differs from the length requested is reported
 abbrev pub is_told : IncorrectLength → ℕ → ℕ → Bool
 is_told Told asked actual = not (actual == asked)
 is_told ToldIfLonger asked actual = nat_lt asked actual
 is_told Suppressed asked actual = false
 
--- a record of this length, of which these bytes are given
+-- a record of this length, of which these bytes are returned
 abbrev pub record_outcome : ℕ → IncorrectLength → ℕ → List ℕ → Outcome
 record_outcome asked incorrect actual bytes =
     if is_told incorrect asked actual then given_with (incorrect_length (length_difference asked actual)) bytes
     else good_with bytes
 
--- SSC-4 "READ (6) command": by what was passed, with its data
+-- SSC-4 "READ (6) command": the outcome by what was passed, with its data
 abbrev pub read_outcome : ℕ → IncorrectLength → Passed → List ℕ → Outcome
 read_outcome asked incorrect passed.Nothing bytes = good
 read_outcome asked incorrect (passed.Record actual) bytes = record_outcome asked incorrect actual (take asked bytes)
 read_outcome asked incorrect passed.Filemark bytes = check_condition (filemark asked)
 read_outcome asked incorrect passed.EndOfData bytes = check_condition (end_of_data asked)
 
--- SSC-4 "READ (6) command", FIXED: what ended it before its last block is told with how many blocks were not given
+-- SSC-4 "READ (6) command", FIXED: what ended it before its last block is reported with the number of blocks not
+-- returned
 abbrev pub fixed_ended : ℕ → FixedEnd → List ℕ → Outcome
 fixed_ended left ended.Whole bytes = good_with bytes
 fixed_ended left ended.Filemark bytes = given_with (filemark left) bytes
 fixed_ended left ended.EndOfData bytes = given_with (end_of_data left) bytes
 fixed_ended left (ended.Length actual) bytes = given_with (incorrect_length left) bytes
 
--- of so many blocks, of which these were given
+-- the outcome of a READ of `count` blocks that returned these
 abbrev pub fixed_outcome : ℕ → FixedRead → List ℕ → Outcome
 fixed_outcome count read bytes = fixed_ended (count - read.given) read.ended bytes
 
@@ -85,7 +86,7 @@ block_limits = 0x00 ∷ 0x10 ∷ 0x00 ∷ 0x00 ∷ 0x00 ∷ 0x01 ∷ []
 abbrev pub position_flags : ℕ → Bool → ℕ
 position_flags position early = if position == 0 then 0x80 else if early then 0x40 else 0x00
 
--- FIRST and LAST LOGICAL OBJECT LOCATION, FFFFFFFFh where it is above that
+-- FIRST and LAST LOGICAL OBJECT LOCATION, FFFFFFFFh if the position is above that
 abbrev pub location : ℕ → List ℕ
 location position = to_be_bytes w32 (min position (2 ^ 32 - 1))
 
@@ -96,13 +97,14 @@ position_data position early =
 
 -- ---- WRITE (6), WRITE FILEMARKS (6)
 
--- SSC-4 "WRITE (6) command": of so many bytes; those past the early warning mark were taken too
+-- SSC-4 "WRITE (6) command": the outcome of a WRITE of `count` bytes; those past the early warning mark were written
+-- too
 abbrev pub write_outcome : ℕ → Written → Outcome
 write_outcome count written.Whole = good_taking count
 write_outcome count written.Early = record (check_condition early_warning) { moved = count }
 write_outcome count written.Refused = check_condition (overflow count)
 
--- SSC-4 "WRITE (6) command", FIXED: where not all fit, with how many were not written
+-- SSC-4 "WRITE (6) command", FIXED: if not all fit, with the number of those not written
 abbrev pub fixed_write_outcome : Blocks → FixedWritten → Outcome
 fixed_write_outcome blocks fixed.Whole = good_taking (bytes_of blocks)
 fixed_write_outcome blocks fixed.Early = record (check_condition early_warning) { moved = bytes_of blocks }
@@ -138,7 +140,7 @@ locate_outcome located.EndOfData = check_condition no_such_object
 
 -- ---- all
 
--- SSC-4, each command in "Command descriptions": what is told of a command with this data
+-- SSC-4, each command in "Command descriptions": what a command with this data returns
 abbrev pub tape_outcome : TapeCommand → List ℕ → TapeState → Outcome
 tape_outcome Rewind bytes tape = good
 tape_outcome ReadBlockLimits bytes tape = good_with block_limits
@@ -175,7 +177,7 @@ tape_left ReadPosition bytes tape = tape
 
 -- ---- what a command needs
 
--- how many bytes of data; a longer payload is used in front (profile)
+-- the number of bytes of data; of a longer payload the first are used (profile)
 abbrev pub bytes_needed : TapeCommand → ℕ
 bytes_needed Rewind = 0
 bytes_needed ReadBlockLimits = 0

@@ -31,14 +31,14 @@ tape_of before after = record {
 abbrev five : List ℕ
 five = 1 ∷ 2 ∷ 3 ∷ 4 ∷ 5 ∷ []
 
--- READ of 8 bytes, of 5, of 4, and of 4 with SILI, where a record of 5 is next
+-- READ of 8 bytes, of 5, of 4, and of 4 with SILI, if a record of 5 is next
 read_record : (tape_outcome (Read 8 Told) [] (tape_of [] (Record five ∷ [])) ≡ given_with (incorrect_length 3) five)
     × (tape_outcome (Read 5 Told) [] (tape_of [] (Record five ∷ [])) ≡ good_with five)
     × (tape_outcome (Read 4 Told) [] (tape_of [] (Record five ∷ [])) ≡ given_with (incorrect_length 0xffffffff) (1 ∷ 2 ∷ 3 ∷ 4 ∷ []))
     × (tape_outcome (Read 4 Suppressed) [] (tape_of [] (Record five ∷ [])) ≡ good_with (1 ∷ 2 ∷ 3 ∷ 4 ∷ []))
 read_record = (refl, refl, refl, refl)
 
--- READ of 8 bytes where a filemark is next, and at the end; of none
+-- READ of 8 bytes if a filemark is next, and at the end of data; READ of none
 read_other : (tape_outcome (Read 8 Told) [] (tape_of [] (Filemark ∷ [])) ≡ check_condition (filemark 8))
     × (tape_outcome (Read 8 Told) [] (tape_of [] []) ≡ check_condition (end_of_data 8))
     × (tape_outcome (Read 0 Told) [] (tape_of [] (Filemark ∷ [])) ≡ good)
@@ -47,23 +47,24 @@ read_other = (refl, refl, refl)
 abbrev twenty : List ℕ
 twenty = replicate 20 7
 
--- WRITE of 20 bytes: to 28 bytes of items, to 56, past the early warning mark, and to 112, past the end
+-- WRITE of 20 bytes: to 28 bytes of items; to 56, past the early warning mark; and to 112, past the end
 write : (tape_outcome (Write 20) twenty (tape_of [] []) ≡ good_taking 20)
     × (tape_outcome (Write 20) twenty (tape_of (Record twenty ∷ []) []) ≡ record (check_condition early_warning) { moved = 20 })
     × (tape_outcome (Write 20) twenty (tape_of (replicate 3 (Record twenty)) []) ≡ check_condition (overflow 20))
 write = (refl, refl, refl)
 
--- READ of 8 bytes with SILI, where there are fixed blocks: a record of 20 bytes is told, one of 5 is not
+-- READ of 8 bytes with SILI and fixed blocks: a record of 20 bytes is reported, one of 5 is not
 read_longer : (tape_outcome (Read 8 ToldIfLonger) [] (tape_of [] (Record twenty ∷ []))
     ≡ given_with (incorrect_length 0xfffffff4) (replicate 8 7))
     × (tape_outcome (Read 8 ToldIfLonger) [] (tape_of [] (Record five ∷ [])) ≡ good_with five)
 read_longer = (refl, refl)
 
--- so many blocks of 20 bytes
+-- `count` blocks of 20 bytes
 abbrev blocks_of_20 : ℕ → Blocks
 blocks_of_20 count = record { count = count; block_length = 20 }
 
--- READ of two blocks where three are next, where one is, then a filemark or the end, and where a record of 5 bytes is
+-- READ of two blocks: three are next; one is, then a filemark; one is, then the end; a record of 5 bytes is. READ of
+-- none
 read_blocks : (tape_outcome (ReadFixed (blocks_of_20 2)) [] (tape_of [] (replicate 3 (Record twenty))) ≡ good_with (replicate 40 7))
     × (tape_outcome (ReadFixed (blocks_of_20 2)) [] (tape_of [] (Record twenty ∷ Filemark ∷ [])) ≡ given_with (filemark 1) twenty)
     × (tape_outcome (ReadFixed (blocks_of_20 2)) [] (tape_of [] (Record twenty ∷ [])) ≡ given_with (end_of_data 1) twenty)
@@ -71,36 +72,36 @@ read_blocks : (tape_outcome (ReadFixed (blocks_of_20 2)) [] (tape_of [] (replica
     × (tape_outcome (ReadFixed (blocks_of_20 0)) [] (tape_of [] []) ≡ good)
 read_blocks = (refl, refl, refl, refl, refl)
 
--- and the record of 5 bytes is passed
+-- and the position is after the record of 5 bytes
 passes_another : tape_left (ReadFixed (blocks_of_20 2)) [] (tape_of [] (Record five ∷ Record twenty ∷ []))
     ≡ tape_of (Record five ∷ []) (Record twenty ∷ [])
 passes_another = refl
 
--- WRITE of one block, of two, past the early warning mark, of four, of which three fit, and of one where none fits
+-- WRITE of one block; of two, past the early warning mark; of four, of which three fit; and of one if none fits
 write_blocks : (tape_outcome (WriteFixed (blocks_of_20 1)) twenty (tape_of [] []) ≡ good_taking 20)
     × (tape_outcome (WriteFixed (blocks_of_20 2)) (replicate 40 7) (tape_of [] []) ≡ record (check_condition early_warning) { moved = 40 })
     × (tape_outcome (WriteFixed (blocks_of_20 4)) (replicate 80 7) (tape_of [] []) ≡ record (check_condition (overflow 1)) { moved = 60 })
     × (tape_outcome (WriteFixed (blocks_of_20 1)) twenty (tape_of (replicate 3 (Record twenty)) []) ≡ check_condition (overflow 1))
 write_blocks = (refl, refl, refl, refl)
 
--- the three that fit are written, and where none fits nothing changes
+-- the three that fit are written, and if none fits nothing changes
 writes_those_that_fit : (tape_left (WriteFixed (blocks_of_20 4)) (replicate 80 7) (tape_of [] (Filemark ∷ []))
     ≡ record (tape_of (replicate 3 (Record twenty)) []) { synced = false })
     × (tape_left (WriteFixed (blocks_of_20 1)) twenty (tape_of (replicate 3 (Record twenty)) (Filemark ∷ []))
     ≡ tape_of (replicate 3 (Record twenty)) (Filemark ∷ []))
 writes_those_that_fit = (refl, refl)
 
--- SPACE over -5 logical blocks behind three
+-- SPACE over -5 logical blocks after three
 space_back : tape_outcome (Space LogicalBlocks (record { is_backward = true; count = 5 })) [] (tape_of (replicate 3 (Record twenty)) [])
     ≡ check_condition (beginning 2)
 space_back = refl
 
--- READ POSITION behind three records, past the early warning mark, and at the beginning
+-- READ POSITION after three records, past the early warning mark, and at the beginning
 position : (position_data 3 true ≡ 0x40 ∷ 0 ∷ 0 ∷ 0 ∷ 0 ∷ 0 ∷ 0 ∷ 3 ∷ 0 ∷ 0 ∷ 0 ∷ 3 ∷ replicate 8 0)
     × (position_data 0 false ≡ 0x80 ∷ replicate 19 0)
 position = (refl, refl)
 
--- a LOCATE before the end of the items reads the store, and one at the end does not, nor does READ POSITION; a WRITE that
+-- a LOCATE before the end of the items reads the store; one at the end does not, nor does READ POSITION. A WRITE that
 -- is refused does not write to it
 touched : ((tape_touch (Locate 0) (tape_of [] (Record five ∷ []))).reads ≡ true)
     × ((tape_touch (Locate 1) (tape_of [] (Record five ∷ []))).reads ≡ false)
@@ -111,8 +112,8 @@ touched : ((tape_touch (Locate 0) (tape_of [] (Record five ∷ []))).reads ≡ t
     × ((tape_touch (WriteFixed (blocks_of_20 4)) (tape_of (replicate 3 (Record twenty)) [])).writes ≡ false)
 touched = (refl, refl, refl, refl, refl, refl, refl)
 
--- a store that can lie makes a tape appear with a filemark next, where a record is: a READ tells of the filemark. WRITE
--- FILEMARKS and READ POSITION are not misled where it was honest before
+-- an inconsistent store makes a tape appear with a filemark next, instead of a record: READ reports the filemark. WRITE
+-- FILEMARKS and READ POSITION are not misled if the store was honest before
 abbrev liar : TapeState
 liar = record (tape_of [] (Record five ∷ [])) { steady = false }
 
@@ -127,7 +128,7 @@ is_misled : (is_tape_possible mark_shown (Read 8 Told) [] liar ≡ true)
     × (is_tape_possible mark_shown ReadPosition [] liar ≡ false)
 is_misled = (refl, refl, refl, refl)
 
--- a sync that failed loses nothing, and a write what stood behind the position
+-- a failed sync loses nothing, and a failed write loses what stood after the position
 failed : (tape_after (WriteFailed (record { before = []; after = []; tail = 1 ∷ [] })) (WriteFilemarks 0) [] (opened_unit liar)
     ≡ record { tape = record liar { failures = 1 }; is_working = false; block_length = 0 })
     × (tape_after (WriteFailed (record { before = []; after = []; tail = 1 ∷ [] })) (Write 20) twenty (opened_unit liar)

@@ -1,5 +1,5 @@
-//! A tape as a unit has it: what its commands do to the medium, and what is told of them (SSC-4 "Command
-//! descriptions").
+//! The tape of a logical unit: what each command does to the medium, and which status, sense data and data it returns
+//! (SSC-4 "Command descriptions").
 //!
 //! ```text
 //! TapeCommand, data --> TapeUnit::carry_out --> Done: status, sense, data
@@ -7,17 +7,24 @@
 //!                           +--> Tape: records and filemarks, a position
 //! ```
 //!
-//! Promised of a command, where the store is honest and no call of it failed, or before it is honest and steady
-//! with room for the capacity (`is_steady`), as one in memory: the tape after it and what is told are those of the
-//! definitions `tape_left` and `tape_outcome`, a line for each command. What may come of any other is one of three
-//! ways (`TapeCame`): the store is not honest, and showed a tape, of which is told what the command is told on it; a
-//! read failed, which is told as UNRECOVERED READ ERROR and changes nothing; a write, a cut or a sync failed, which is
-//! told as WRITE ERROR and leaves the items before the position, and the unit does not work until it is opened again
-//! ([`TapeUnit::not_ready`]). A command comes out so only by what it does with its medium (`tape_touch`). Behind WRITE
-//! FILEMARKS that is answered GOOD, or with the early warning, the store is synced, whether it is honest or not.
+//! A command leaves the tape as `tape_left` defines and returns what `tape_outcome` defines, a line for each command.
+//! This holds in two cases:
 //!
-//! What gives data has a buffer handed in, and makes the room in it that it takes. A record lies there as it is sent.
-//! Where an allocation fails nothing changes.
+//! - after the command the store is honest and none of its calls failed;
+//! - before the command the store is honest, and steady with room for the capacity (`is_steady`), as one in memory is.
+//!
+//! Otherwise there are three more outcomes (`TapeCame`), each possible only for a command that touches its medium
+//! accordingly (`tape_touch`):
+//!
+//! - The store is not honest: the command returns what is defined for the tape that the store showed.
+//! - A read failed: the command reports UNRECOVERED READ ERROR, and the tape does not change.
+//! - A write, a cut or a sync failed: the command reports WRITE ERROR. The items before the position remain. The unit
+//!   does not work until it is opened again ([`TapeUnit::not_ready`]).
+//!
+//! After WRITE FILEMARKS with GOOD status or the early warning the store is synced, whether it is honest or not.
+//!
+//! Commands that return data take a buffer from the caller and reserve the room that they need in it. A record lies in
+//! it as it is sent. If an allocation fails, nothing changes.
 #![tactic(auto)]
 
 mod positioning;

@@ -13,7 +13,7 @@ use scsi_cdb::{Distance, SpaceCode};
 use scsi_sense::{Condition, Done, Sense};
 use std::alloc::Global;
 
-/// What is spaced over.
+/// Returns what SPACE passes over: records or filemarks.
 fn over(code: SpaceCode) -> Over
     ensures { result ≡ over_of code }
 {
@@ -23,7 +23,7 @@ fn over(code: SpaceCode) -> Over
     }
 }
 
-/// Which way.
+/// Returns the direction of a distance.
 fn toward(distance: Distance) -> Direction
     ensures { result ≡ toward distance }
 {
@@ -34,7 +34,7 @@ fn toward(distance: Distance) -> Direction
     }
 }
 
-/// What is told of SPACE that ended so.
+/// Reports how SPACE ended; CHECK CONDITION carries the count that is left.
 fn spaced(alloc: Global, spaced: Spaced) -> Done
     ensures told { result ≡ space_outcome spaced }
     ensures given { result.given ≡ [] }
@@ -47,7 +47,7 @@ fn spaced(alloc: Global, spaced: Spaced) -> Done
     }
 }
 
-/// What is told of LOCATE that ended so.
+/// Reports how LOCATE ended.
 fn located(alloc: Global, located: Located) -> Done
     ensures told { result ≡ locate_outcome located }
     ensures given { result.given ≡ [] }
@@ -61,7 +61,7 @@ fn located(alloc: Global, located: Located) -> Done
 }
 
 impl<S: Store> TapeUnit<S> {
-    /// REWIND.
+    /// Carries out REWIND.
     pub(crate) fn rewind(&mut self, alloc: Global) -> Done
         ensures done { (bytes : List ℕ) → IsTapeDone Rewind bytes self.old self.new result }
         ensures given { result.given ≡ [] }
@@ -70,7 +70,7 @@ impl<S: Store> TapeUnit<S> {
         Done::good(alloc)
     }
 
-    /// LOAD UNLOAD.
+    /// Carries out LOAD UNLOAD.
     pub(crate) fn load_unload(&mut self, alloc: Global, load: bool) -> Done
         ensures done { (bytes : List ℕ) → IsTapeDone (LoadUnload load) bytes self.old self.new result }
         ensures given { result.given ≡ [] }
@@ -79,7 +79,7 @@ impl<S: Store> TapeUnit<S> {
         Done::good(alloc)
     }
 
-    /// SPACE (6) over logical blocks or filemarks.
+    /// Spaces over logical blocks or filemarks (SPACE (6)).
     pub(crate) fn space(&mut self, alloc: Global, code: SpaceCode, distance: Distance) -> Done
         ensures done { (bytes : List ℕ) → IsTapeDone (Space code distance) bytes self.old self.new result }
         ensures given { result.given ≡ [] }
@@ -93,7 +93,7 @@ impl<S: Store> TapeUnit<S> {
         }
     }
 
-    /// SPACE (6) to the end of data.
+    /// Spaces to the end of data (SPACE (6)).
     pub(crate) fn space_to_end_of_data(&mut self, alloc: Global) -> Done
         ensures done { (bytes : List ℕ) → IsTapeDone SpaceToEndOfData bytes self.old self.new result }
         ensures given { result.given ≡ [] }
@@ -102,7 +102,7 @@ impl<S: Store> TapeUnit<S> {
         Done::good(alloc)
     }
 
-    /// LOCATE (10).
+    /// Locates a logical object by its number (LOCATE (10)).
     pub(crate) fn locate(&mut self, alloc: Global, number: u32) -> Done
         ensures done { (bytes : List ℕ) → IsTapeDone (Locate number) bytes self.old self.new result }
         ensures given { result.given ≡ [] }

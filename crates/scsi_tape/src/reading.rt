@@ -1,4 +1,4 @@
-//! The commands that give data.
+//! The commands that return data.
 
 ghost use Rattle.std.specs.Prelude.{◌≡◌, ◌≤◌, ℕ, List, [], length, drop, IfOk, OnErr};
 ghost use Rattle.scsi_sense.specs.Given.{headroom, tailroom};
@@ -23,7 +23,7 @@ use std::mem;
 /// READ BLOCK LIMITS data: the greatest length of a record in bytes, and the least.
 const BLOCK_LIMITS: [u8; 6] = [0x00, 0x10, 0x00, 0x00, 0x00, 0x01];
 
-/// READ POSITION data behind so many records and filemarks: the short form.
+/// Returns READ POSITION data in the short form for a position in records and filemarks.
 fn position_data(position: u64, is_early: bool) -> [u8; 20]
     ensures { result ≡ position_data position is_early }
 {
@@ -41,7 +41,7 @@ fn position_data(position: u64, is_early: bool) -> [u8; 20]
     ]
 }
 
-/// GOOD with these bytes, which are copied into an empty buffer behind room for a header.
+/// Returns GOOD with these bytes, copied into an empty buffer after room for a header.
 fn good_with_front(alloc: Global, buffer: &mut BytesMut, bytes: &[u8]) -> Result<Done, Memory>
     requires empty { buffer.old.items ≡ [] }
     requires few { length bytes.now ≤ most_record }
@@ -55,7 +55,7 @@ fn good_with_front(alloc: Global, buffer: &mut BytesMut, bytes: &[u8]) -> Result
     Ok(Done::good_with(Given::in_place(filled)))
 }
 
-/// Whether it is told that a record has another length than was asked for.
+/// Returns whether a READ reports that the record's length differs from the length requested.
 fn is_told(incorrect_length: IncorrectLength, asked: u32, actual: u32) -> bool
     ensures { result ≡ is_told incorrect_length asked actual }
 {
@@ -66,7 +66,7 @@ fn is_told(incorrect_length: IncorrectLength, asked: u32, actual: u32) -> bool
     }
 }
 
-/// CHECK CONDITION with data.
+/// Returns CHECK CONDITION with data.
 fn given_with(sense: Sense, given: Given) -> Done
     requires { length given ≤ most_record }
     ensures { result ≡ given_with sense given }
@@ -80,8 +80,8 @@ fn given_with(sense: Sense, given: Given) -> Done
     }
 }
 
-/// What is told of a record of this length, of which the buffer has what was asked for behind room for a header, and
-/// before room for what is sent behind it.
+/// Reports a record of this length. The buffer has room for a header, then the part that was requested, then room for
+/// what is sent after it.
 fn record_read(
     alloc: Global,
     buffer: &mut BytesMut,
@@ -102,7 +102,7 @@ fn record_read(
     }
 }
 
-/// What is told of READ that passed this.
+/// Reports what READ passed.
 fn told(
     alloc: Global,
     buffer: &mut BytesMut,
@@ -124,8 +124,8 @@ fn told(
     }
 }
 
-/// What is told of READ of so many fixed blocks that gave these, which the buffer has behind room for a header, and
-/// before room for what is sent behind them.
+/// Reports READ of `count` fixed blocks. The buffer has room for a header, then the blocks that were read, then room
+/// for what is sent after them.
 fn told_of_blocks(alloc: Global, buffer: &mut BytesMut, count: u32, read: FixedRead) -> Done
     requires few { length (drop headroom buffer.old.items) ≤ most_record }
     requires room { tailroom ≤ buffer.old.spare }
@@ -144,7 +144,7 @@ fn told_of_blocks(alloc: Global, buffer: &mut BytesMut, count: u32, read: FixedR
 }
 
 impl<S: Store> TapeUnit<S> {
-    /// READ (6) of so many bytes. Where an allocation fails nothing changes.
+    /// Reads a record, of which `asked` bytes are requested (READ (6)). If an allocation fails, nothing changes.
     pub(crate) fn read(
         &mut self,
         alloc: Global,
@@ -167,7 +167,7 @@ impl<S: Store> TapeUnit<S> {
         }
     }
 
-    /// READ (6) of fixed blocks. Where an allocation fails nothing changes.
+    /// Reads fixed blocks (READ (6)). If an allocation fails, nothing changes.
     pub(crate) fn read_fixed(
         &mut self,
         alloc: Global,
@@ -193,7 +193,7 @@ impl<S: Store> TapeUnit<S> {
         }
     }
 
-    /// READ BLOCK LIMITS.
+    /// Returns the limits of a record's length (READ BLOCK LIMITS).
     pub(crate) fn read_block_limits(
         &self,
         alloc: Global,
@@ -206,7 +206,7 @@ impl<S: Store> TapeUnit<S> {
         good_with_front(alloc, buffer, &BLOCK_LIMITS)
     }
 
-    /// READ POSITION, in the short form.
+    /// Returns the position in the short form (READ POSITION).
     pub(crate) fn read_position(&self, alloc: Global, buffer: &mut BytesMut) -> Result<Done, Memory>
         requires { buffer.old.items ≡ [] }
         ensures done { IfOk result (λ done. (bytes : List ℕ) → IsTapeDone ReadPosition bytes self.now self.now done) }

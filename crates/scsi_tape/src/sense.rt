@@ -1,4 +1,4 @@
-//! What a tape tells in sense data (SSC-4 "Sense data").
+//! The sense data of a tape (SSC-4 "Sense data").
 
 ghost use Rattle.std.specs.Prelude.{◌≡◌};
 ghost use Rattle.scsi_sense.specs.Done.{check_condition};
@@ -9,7 +9,7 @@ ghost use Rattle.scsi_tape.specs.TapeSense.{unrecovered_read};
 use scsi_sense::{Condition, Done, Sense};
 use std::alloc::Global;
 
-/// A filemark was read or spaced over, with what was left to do.
+/// Returns the sense data of a filemark that was read or spaced over, with what was left to do.
 pub(crate) fn filemark(left: u32) -> Sense
     ensures { result ≡ filemark_sense left }
 {
@@ -19,7 +19,7 @@ pub(crate) fn filemark(left: u32) -> Sense
     sense
 }
 
-/// Nothing is behind the position, with what was left to do.
+/// Returns the sense data of the end of data: nothing comes after the position. It carries what was left to do.
 pub(crate) fn end_of_data(left: u32) -> Sense
     ensures { result ≡ end_of_data_sense left }
 {
@@ -28,7 +28,8 @@ pub(crate) fn end_of_data(left: u32) -> Sense
     sense
 }
 
-/// Nothing is before the position, with what was left to do.
+/// Returns the sense data of the beginning of the medium: nothing comes before the position. It carries what was left
+/// to do.
 pub(crate) fn beginning(left: u32) -> Sense
     ensures { result ≡ beginning_sense left }
 {
@@ -38,7 +39,7 @@ pub(crate) fn beginning(left: u32) -> Sense
     sense
 }
 
-/// All was written, past the early warning mark.
+/// Returns the sense data of the early warning: everything was written, past the early warning mark.
 pub(crate) fn early_warning() -> Sense
     ensures { result ≡ early_sense }
 {
@@ -48,7 +49,7 @@ pub(crate) fn early_warning() -> Sense
     sense
 }
 
-/// So much was not written, for there is no room for it.
+/// Returns the sense data of a full medium, with the amount that was not written because there is no room for it.
 pub(crate) fn overflow(count: u32) -> Sense
     ensures { result ≡ overflow_sense count }
 {
@@ -58,7 +59,7 @@ pub(crate) fn overflow(count: u32) -> Sense
     sense
 }
 
-/// A record has another length than was asked for, by so much.
+/// Returns the sense data of a record whose length differs from the length requested, with the difference.
 pub(crate) fn incorrect_length(difference: u32) -> Sense
     ensures { result ≡ length_sense difference }
 {
@@ -68,7 +69,7 @@ pub(crate) fn incorrect_length(difference: u32) -> Sense
     sense
 }
 
-/// UNRECOVERED READ ERROR.
+/// Returns CHECK CONDITION with UNRECOVERED READ ERROR.
 pub(crate) fn read_failed(alloc: Global) -> Done
     ensures { result ≡ check_condition unrecovered_read }
 {

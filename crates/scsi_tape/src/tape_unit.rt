@@ -15,7 +15,7 @@ use scsi_sense::{Condition, Done, Sense};
 use std::alloc::Global;
 use std::marker::Model;
 
-/// How many bytes of data a command needs. More are used in front.
+/// Returns the number of bytes of data that a command needs. Of a longer payload the first bytes are used.
 pub fn bytes_needed(command: &TapeCommand) -> usize
     ensures { result ≡ bytes_needed command.now }
 {
@@ -41,7 +41,7 @@ pub fn bytes_needed(command: &TapeCommand) -> usize
 pub struct TapeUnit<S: Store> {
     pub(crate) tape: Tape<S>,
     pub(crate) is_working: bool,
-    /// In bytes; 0 where it has none.
+    /// In bytes; 0 if it has none.
     pub(crate) block_length: u32,
 }
 
@@ -54,7 +54,7 @@ impl<S: Store> Model for TapeUnit<S> {
 }
 
 impl<S: Store> TapeUnit<S> {
-    /// A tape that was just opened. It has no fixed block length.
+    /// Returns a tape that was just opened, which has no fixed block length.
     pub fn new(tape: Tape<S>) -> TapeUnit<S>
         ensures { result ≡ opened_unit tape }
     {
@@ -65,14 +65,14 @@ impl<S: Store> TapeUnit<S> {
         }
     }
 
-    /// Whether the tape is loaded.
+    /// Returns whether the tape is loaded.
     pub fn is_loaded(&self) -> bool
         ensures { result ≡ self.now.tape.is_loaded }
     {
         self.tape.is_loaded()
     }
 
-    /// The length of its fixed blocks in bytes, 0 where it has none (SSC-4 "Fixed-block transfers").
+    /// Returns the length of its fixed blocks in bytes, 0 if it has none (SSC-4 "Fixed-block transfers").
     pub fn block_length(&self) -> u32
         ensures { result ≡ self.now.block_length }
     {
@@ -86,8 +86,8 @@ impl<S: Store> TapeUnit<S> {
         self.block_length = block_length;
     }
 
-    /// Why no operation with this need is done now, where it is so: INTERNAL TARGET FAILURE where a write has failed,
-    /// MEDIUM NOT PRESENT where the tape is not loaded.
+    /// Returns why an operation with this need cannot be done now, or `None`. After a failed write that is INTERNAL
+    /// TARGET FAILURE; if the tape is not loaded, MEDIUM NOT PRESENT.
     pub fn not_ready(&self, need: Need) -> Option<Sense>
         ensures { result ≡ not_ready need self.now }
     {
@@ -101,9 +101,9 @@ impl<S: Store> TapeUnit<S> {
         }
     }
 
-    /// A command with the data that it needs. The data that it gives lies in the buffer, which is empty: behind room
-    /// for a header, and with room for what is sent behind it. Where none is given the buffer is left. Where an
-    /// allocation fails nothing changes; where the store fails it is told so.
+    /// Carries out a command with the data that it needs, in a buffer that is empty. Data that it returns lies in the
+    /// buffer after room for a header, and before room for what is sent after it. If it returns none, the buffer is
+    /// left as it is. If an allocation fails, nothing changes; if the store fails, the sense data reports it.
     pub fn carry_out(
         &mut self,
         alloc: Global,
@@ -124,7 +124,7 @@ impl<S: Store> TapeUnit<S> {
         self.by_command(alloc, buffer, command, data)
     }
 
-    /// What each command does.
+    /// Calls the function of each command.
     fn by_command(
         &mut self,
         alloc: Global,

@@ -18,7 +18,7 @@ use scsi_cdb::{FixedBlocks, RecordLength};
 use scsi_sense::{Condition, Done, Sense};
 use std::alloc::Global;
 
-/// What is told of WRITE of so many bytes that ended so.
+/// Reports how WRITE of `count` bytes ended.
 fn written(alloc: Global, count: u32, written: Written) -> Done
     ensures told { result ≡ write_outcome count written }
     ensures given { result.given ≡ [] }
@@ -34,7 +34,7 @@ fn written(alloc: Global, count: u32, written: Written) -> Done
     }
 }
 
-/// What is told of WRITE of these fixed blocks that ended so.
+/// Reports how WRITE of these fixed blocks ended.
 fn blocks_written(alloc: Global, blocks: FixedBlocks, written: FixedWritten) -> Done
     requires { IsPart blocks.count written }
     ensures told { result ≡ fixed_write_outcome blocks written }
@@ -55,7 +55,7 @@ fn blocks_written(alloc: Global, blocks: FixedBlocks, written: FixedWritten) -> 
     }
 }
 
-/// What is told of WRITE FILEMARKS of so many that ended so.
+/// Reports how WRITE FILEMARKS of `count` filemarks ended.
 fn marked(alloc: Global, count: u32, written: Written) -> Done
     ensures told { result ≡ marks_outcome count written }
     ensures given { result.given ≡ [] }
@@ -68,7 +68,7 @@ fn marked(alloc: Global, count: u32, written: Written) -> Done
 }
 
 impl<S: Store> TapeUnit<S> {
-    /// A write, a cut or a sync failed: the unit does not work from now on.
+    /// Marks the unit as failed, after a write, a cut or a sync failed, and returns WRITE ERROR.
     fn write_failed(&mut self, alloc: Global) -> Done
         ensures unit { self.new ≡ record self.old { is_working = false } }
         ensures told { result ≡ check_condition write_error }
@@ -77,7 +77,7 @@ impl<S: Store> TapeUnit<S> {
         Done::check_condition(alloc, Sense::new(Condition::WriteError))
     }
 
-    /// WRITE (6) of a record, with its data in front. Where an allocation fails nothing changes.
+    /// Writes a record, whose data comes first in `data` (WRITE (6)). If an allocation fails, nothing changes.
     pub(crate) fn write(
         &mut self,
         alloc: Global,
@@ -99,7 +99,7 @@ impl<S: Store> TapeUnit<S> {
         }
     }
 
-    /// WRITE (6) of fixed blocks, with their data in front. Where an allocation fails nothing changes.
+    /// Writes fixed blocks, whose data comes first in `data` (WRITE (6)). If an allocation fails, nothing changes.
     pub(crate) fn write_fixed(
         &mut self,
         alloc: Global,
@@ -122,8 +122,8 @@ impl<S: Store> TapeUnit<S> {
         }
     }
 
-    /// WRITE FILEMARKS (6). All that was written is waited for, also where there is no filemark to write.
-    /// Where an allocation fails nothing changes.
+    /// Writes filemarks (WRITE FILEMARKS (6)). Waits until everything written is on the medium, even if there is no
+    /// filemark to write. If an allocation fails, nothing changes.
     pub(crate) fn write_filemarks(&mut self, alloc: Global, count: u32) -> Result<Done, Memory>
         ensures done { IfOk result (λ done. (bytes : List ℕ) → IsTapeDone (WriteFilemarks count) bytes self.old self.new done) }
         ensures given { IfOk result (λ done. done.given ≡ []) }
@@ -135,7 +135,7 @@ impl<S: Store> TapeUnit<S> {
         }
     }
 
-    /// ERASE (6).
+    /// Erases the tape from the position on (ERASE (6)).
     pub(crate) fn erase(&mut self, alloc: Global) -> Done
         ensures done { (bytes : List ℕ) → IsTapeDone Erase bytes self.old self.new result }
         ensures given { result.given ≡ [] }
