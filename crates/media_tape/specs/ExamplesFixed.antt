@@ -1,5 +1,5 @@
--- READ (6) and WRITE (6) with FIXED, computed: which of the blocks of 20 bytes go to and come from a tape of 100 bytes.
--- What is told of them is computed with the commands.
+-- READ (6) and WRITE (6) with FIXED, computed: which blocks of 20 bytes are written to and read from a tape of 100
+-- bytes. The outcomes are computed with the commands.
 use Rattle.std.specs.Prelude.{◌≡◌, ℕ, List, [], ◌∷◌, ◌++◌, true, false, replicate, refl}
 use Rattle.media_tape.specs.Items.{Item, Record, Filemark}
 use Rattle.media_tape.specs.Tape.{TapeState}
@@ -27,7 +27,7 @@ block byte = replicate 20 byte
 abbrev three : List Item
 three = Record (block 1) ∷ Record (block 2) ∷ Record (block 3) ∷ []
 
--- of four blocks of 28 bytes of items each three fit
+-- of four blocks, each 28 bytes of items, three fit
 four_written : tape_written_fixed 4 20 (block 1 ++ block 2 ++ block 3 ++ block 4) (tape_of [] []) ≡ record (tape_of three []) { synced = false }
 four_written = refl
 
@@ -35,7 +35,7 @@ four_written = refl
 read : fixed 2 20 three ≡ record { given = 2; bytes = block 1 ++ block 2; ended = end.Whole }
 read = refl
 
--- a filemark is passed and not given
+-- a filemark is passed and not returned
 mark_passed : (fixed 3 20 (Record (block 1) ∷ Filemark ∷ three) ≡ record { given = 1; bytes = block 1; ended = end.Filemark })
     × (tape_read_fixed 3 20 (tape_of [] (Record (block 1) ∷ Filemark ∷ three)) ≡ tape_of (Record (block 1) ∷ Filemark ∷ []) three)
 mark_passed = (refl, refl)

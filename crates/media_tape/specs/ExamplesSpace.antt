@@ -9,7 +9,7 @@ use Rattle.media_tape.specs.declared.outcome.Spaced.TheVariants as spaced
 abbrev three : List Item
 three = Record (97 ∷ []) ∷ Filemark ∷ Record (98 ∷ []) ∷ []
 
--- over three records: one, and then the filemark ends it, with two left
+-- over three records: after one, the filemark ends it, with two left
 records_ended : way Forward Records 3 three ≡ record { passed = 2; told = spaced.Filemark 2 }
 records_ended = refl
 
@@ -17,7 +17,7 @@ records_ended = refl
 record_passed : way Forward Records 1 three ≡ record { passed = 1; told = spaced.Whole }
 record_passed = refl
 
--- over a filemark, the record before it too; over two, of which one is left at the end
+-- over a filemark, and the record before it; over two, of which one is left at the end
 filemarks_passed : (way Forward Filemarks 1 three ≡ record { passed = 2; told = spaced.Whole })
     × (way Forward Filemarks 2 three ≡ record { passed = 3; told = spaced.EndOfData 1 })
 filemarks_passed = (refl, refl)

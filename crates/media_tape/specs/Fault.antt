@@ -12,15 +12,15 @@ fault_number Device = 2
 fault_number TooLong = 3
 fault_number OutOfMemory = 4
 
--- own: the store's count of failures behind a fault: only where the device has failed it rose
+-- own: the store's count of failures after a fault: it rose only if the device failed
 abbrev pub failures_after : TapeOpenFault → ℕ → ℕ
 failures_after (TornEnd offset) count = count
 failures_after Device count = risen count
 failures_after TooLong count = count
 failures_after OutOfMemory count = count
 
--- own: why a store with this content is not opened: its end is torn, or it is longer than the capacity, and whatever it
--- holds where it failed or an allocation did
+-- own: why a store with this content is not opened: its end is torn, or it is longer than the capacity. If it or an
+-- allocation failed, the content is arbitrary
 abbrev pub Explains : List ℕ → ℕ → TapeOpenFault → Type 0
 Explains content capacity (TornEnd offset) = (offset ≡ torn_at content) × (offset < length content)
 Explains content capacity Device = Unit {0}

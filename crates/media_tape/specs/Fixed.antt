@@ -1,4 +1,4 @@
--- READ (6) and WRITE (6) with FIXED (SSC-4): so many records of one length, here called blocks.
+-- READ (6) and WRITE (6) with FIXED (SSC-4): several records of one length, here called blocks.
 use Rattle.std.specs.Prelude.{◌≡◌, ℕ, zero, suc, ◌+◌, ◌-◌, ◌*◌, ◌/◌, ◌<◌, ◌==◌, ◌||◌, min, nat_lt, List, [], ◌∷◌, ◌++◌, length, take, drop}
 use Rattle.std.specs.Prelude.{Bool, false, if◌then◌else◌}
 use Rattle.media_tape.specs.Items.{Item, Record, Filemark, size_of}
@@ -11,13 +11,13 @@ use Rattle.media_tape.specs.declared.outcome.FixedWritten.TheVariants as fixed_w
 
 -- ---- READ (6) with FIXED
 
--- how many blocks are given, their bytes, and what ended them
+-- the number of blocks returned, their bytes, and what ended them
 pub record Fixed : Type 0 where
   pub given : ℕ
   pub bytes : List ℕ
   pub ended : FixedEnd
 
--- none is given
+-- no block is returned
 abbrev pub ending : FixedEnd → Fixed
 ending ended = record { given = 0; bytes = []; ended = ended }
 
@@ -25,7 +25,7 @@ ending ended = record { given = 0; bytes = []; ended = ended }
 abbrev pub giving : List ℕ → Fixed → Fixed
 giving block rest = record { given = suc rest.given; bytes = block ++ rest.bytes; ended = rest.ended }
 
--- SSC-4 "READ (6) command": so many blocks of a length from these items, as far as they are records of that length
+-- SSC-4 "READ (6) command": `count` blocks of a length from these items, as far as they are records of that length
 abbrev pub fixed : ℕ → ℕ → List Item → Fixed
 fixed zero block_length items = ending end.Whole
 fixed (suc count) block_length [] = ending end.EndOfData
@@ -34,7 +34,7 @@ fixed (suc count) block_length (Record bytes ∷ items) =
     if length bytes == block_length then giving bytes (fixed count block_length items)
     else ending (end.Length (length bytes))
 
--- SSC-4, own for a record of another length: what ended them is passed, where it is an item
+-- SSC-4, own for a record of another length: what ended them is passed, if it is an item
 abbrev pub passed_last : FixedEnd → ℕ
 passed_last end.Whole = 0
 passed_last end.Filemark = 1
@@ -51,12 +51,12 @@ fixed_told count block_length tape =
 abbrev pub fixed_data : ℕ → ℕ → TapeState → List ℕ
 fixed_data count block_length tape = (fixed count block_length tape.after).bytes
 
--- own: a read of blocks can come out so: on some items it does
+-- own: a read of blocks can come out so, since it does on some items
 abbrev pub Gives : ℕ → ℕ → FixedRead → List ℕ → Type 0
 Gives count block_length read bytes =
     (items : List Item) × (fixed count block_length items ≡ record { given = read.given; bytes = bytes; ended = read.ended })
 
--- so many items are passed
+-- this many items are passed
 abbrev pub tape_passed : ℕ → TapeState → TapeState
 tape_passed many tape = record tape { before = tape.before ++ take many tape.after; after = drop many tape.after }
 
@@ -65,7 +65,7 @@ tape_read_fixed count block_length tape = tape_passed (fixed_passed (fixed_told 
 
 -- ---- WRITE (6) with FIXED
 
--- own: so many of the blocks fit within the capacity
+-- own: the number of blocks that fit within the capacity
 abbrev pub fitting : ℕ → ℕ → TapeState → ℕ
 fitting count block_length tape = min count ((tape.capacity - size_of tape.before) / (block_length + 8))
 
@@ -77,18 +77,18 @@ fixed_written_told count block_length tape =
     else if nat_lt tape.early_mark (size_of tape.before + count * (block_length + 8)) then fixed_written.Early
     else fixed_written.Whole
 
--- so many blocks of a length with these bytes
+-- `count` blocks of a length with these bytes
 abbrev pub blocks_of : ℕ → ℕ → List ℕ → List Item
 blocks_of zero block_length bytes = []
 blocks_of (suc count) block_length bytes = Record (take block_length bytes) ∷ blocks_of count block_length (drop block_length bytes)
 
--- own: those that fit are written, in the place of all that stood behind the position; where none fits nothing changes
+-- own: those that fit are written in place of everything after the position; if none fits, nothing changes
 abbrev pub tape_written_fixed : ℕ → ℕ → List ℕ → TapeState → TapeState
 tape_written_fixed count block_length bytes tape =
     if (count * block_length == 0) || (fitting count block_length tape == 0) then tape
     else wrote (blocks_of (fitting count block_length tape) block_length bytes) tape
 
--- own: whether all is on the medium behind a write of some blocks that told this, where it was so before or not
+-- own: whether everything is on the medium after a write of blocks with this outcome, by whether it was before
 abbrev pub fixed_synced : FixedWritten → Bool → Bool
 fixed_synced fixed_written.Whole before = false
 fixed_synced fixed_written.Early before = false

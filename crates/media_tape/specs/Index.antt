@@ -15,13 +15,13 @@ mark_size = 8
 abbrev pub most_size : ℕ
 most_size = 1048584
 
--- what an index shows
+-- the abstract value of an index
 pub record Items : Type 0 where
   pub sizes : List ℕ
-  -- how many runs it can take before it needs memory
+  -- the number of runs it can take before it needs memory
   pub room : ℕ
 
--- items of this size would lengthen the last run: of no items the last size is 0
+-- items of this size would lengthen the last run; if there are no items, the last size is 0
 abbrev pub Joins : ℕ → List ℕ → Type 0
 Joins size sizes = slice_index sizes (length sizes - 1) ≡ size
 
@@ -55,7 +55,7 @@ abbrev pub sizes_ahead : Direction → ℕ → List ℕ → List ℕ
 sizes_ahead Forward from sizes = drop from sizes
 sizes_ahead Backward from sizes = reverse (take from sizes)
 
--- there is a position so many items on
+-- there is a position this many items away
 abbrev pub CanMove : Direction → ℕ → ℕ → Type 0
 CanMove Forward at many = at + many < 2 ^ 64
 CanMove Backward at many = many ≤ at

@@ -42,22 +42,22 @@ spelled item = big_bytes 4 (length (data_of item)) ++ (data_of item ++ big_bytes
 abbrev pub spelling : List Item → List ℕ
 spelling items = flat_map spelled items
 
--- profile: an item of n bytes is whole in front of these: n is no greater than the length of a record can be, and it is
--- told again behind them
+-- profile: an item of n bytes is whole at the front of these: n is not above the greatest length of a record, and
+-- stands again after them
 abbrev pub is_whole : ℕ → List ℕ → Bool
 is_whole n bytes = nat_le n most_bytes && (nat_le (n + 8) (length bytes) && (big_number 4 (drop (n + 4) bytes) == n))
 
--- profile: the length of the item that is whole in front of these bytes
+-- profile: the length of the item that is whole at the front of these bytes
 unfoldable pub front : List ℕ → Option ℕ
 front bytes = let n = big_number 4 bytes in if is_whole n bytes then Some n else None
 
--- own: the items in front of these bytes, one after the other, so many at the most
+-- own: the items at the front of these bytes, one after the other, at most this many
 unfoldable pub items_in : ℕ → List ℕ → List Item
 items_in zero bytes = []
 items_in (suc most) bytes =
     elim (front bytes) [ None ↦ [] | Some n ↦ item_of (take n (drop 4 bytes)) ∷ items_in most (drop (n + 8) bytes) ]
 
--- own: all items in front of these bytes
+-- own: all items at the front of these bytes
 abbrev pub items_of : List ℕ → List Item
 items_of bytes = items_in (length bytes) bytes
 

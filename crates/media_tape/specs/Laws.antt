@@ -12,7 +12,7 @@ use Rattle.media_tape.specs.declared.outcome.Spaced.TheVariants as spaced
 abbrev pub before_written : List ℕ → TapeState → TapeState
 before_written bytes tape = located_at (length tape.before) (tape_written bytes tape)
 
--- is all that is behind the position, whatever stood there, and what is before it is as it was
+-- it is all that comes after the position, whatever stood there, and what is before it is as it was
 pub record IsReadBack (bytes : List ℕ) (tape : TapeState) : Type 0 where
   pub before : (before_written bytes tape).before ≡ tape.before
   pub after : (before_written bytes tape).after ≡ Record bytes ∷ []

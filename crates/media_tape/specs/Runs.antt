@@ -1,5 +1,5 @@
--- Runs: each says how many items there are up to its last, where that ends, and the size of its own. They follow those of
--- the run before.
+-- Runs: each has the number of items up to its last, where that ends, and the size of its own. They follow those of the
+-- run before.
 use Rattle.std.specs.Prelude.{◌≡◌, ◌≢◌, ℕ, ◌+◌, ◌-◌, ◌*◌, ◌≤◌, ◌<◌, List, [], ◌∷◌, ◌++◌}
 use Rattle.std.specs.Prelude.{replicate, get_or, vec_len, vec_capacity}
 use Rattle.media_tape.specs.Index.{Items, mark_size, most_size}
@@ -9,7 +9,7 @@ use Rattle.media_tape.specs.declared.index.Index.TheInside.{Inside}
 abbrev pub no_run : Run
 no_run = record { count = 0; end = 0; size = 0 }
 
--- the run before this one, or the last where there are so many
+-- the run before this one, which is the last if there are this many
 abbrev pub run_before : List Run → ℕ → Run
 run_before runs i = get_or (no_run ∷ runs) i no_run
 
@@ -21,12 +21,12 @@ run_size runs i = (get_or runs i no_run).size
 abbrev pub AreRecords : List Run → ℕ → ℕ → Type 0
 AreRecords runs from to = (i : ℕ) → from ≤ i → i < to → run_size runs i ≢ mark_size
 
--- the sizes of their items, where this run is before them
+-- the sizes of their items, if this run is before them
 abbrev pub sizes_of : Run → List Run → List ℕ
 sizes_of before [] = []
 sizes_of before (run ∷ runs) = replicate (run.count - before.count) run.size ++ sizes_of run runs
 
--- the items of a run follow those of another, and there is one at least
+-- the items of a run follow those of another, and there is at least one
 pub record Follows (before run : Run) : Type 0 where
   pub some : before.count < run.count
   pub end : before.end + (run.count - before.count) * run.size ≡ run.end

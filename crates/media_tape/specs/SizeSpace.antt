@@ -1,4 +1,4 @@
--- SPACE (6) (SSC-4): from item to item, over records or over filemarks, behind the position or before it.
+-- SPACE (6) (SSC-4): from item to item, over records or over filemarks, after the position or before it.
 use Rattle.std.specs.Prelude.{◌≡◌, ℕ, zero, suc, ◌+◌, ◌≤◌, ◌<◌, ◌==◌, List, [], ◌∷◌, length, if◌then◌else◌}
 use Rattle.media_tape.specs.Index.{mark_size, sizes_ahead}
 use Rattle.media_tape.specs.Space.{Way, edge, spaced_to}
@@ -13,7 +13,7 @@ use Rattle.media_tape.specs.declared.space.Within.TheVariants as within
 abbrev pub further : ℕ → Way → Way
 further many size_way = record { passed = many + size_way.passed; told = size_way.told }
 
--- SSC-4: spacing over records ends behind a filemark, which is not counted; spacing over filemarks passes records
+-- SSC-4: spacing over records ends after a filemark, which is not counted; spacing over filemarks passes records
 abbrev pub size_way : Direction → Over → ℕ → List ℕ → Way
 size_way direction over zero sizes = record { passed = 0; told = spaced.Whole }
 size_way direction over (suc left) [] = record { passed = 0; told = edge direction (suc left) }
@@ -27,7 +27,7 @@ size_way direction Filemarks (suc left) (size ∷ sizes) =
 abbrev pub size_way_from : Direction → Over → ℕ → ℕ → List ℕ → Way
 size_way_from direction over count from sizes = size_way direction over count (sizes_ahead direction from sizes)
 
--- own: how many records there are before the first filemark
+-- own: the number of records before the first filemark
 abbrev pub leading_records : List ℕ → ℕ
 leading_records [] = 0
 leading_records (size ∷ sizes) = if size == mark_size then 0 else suc (leading_records sizes)
@@ -41,12 +41,12 @@ abbrev pub through : Within → Direction → Over → ℕ → List ℕ → Way
 through (within.All left) direction over many sizes = further many (size_way direction over left sizes)
 through (within.Part passed told) direction over many sizes = record { passed = passed; told = told }
 
--- own: something is left behind a run that is passed, and no more than it has is passed of one that is not
+-- own: something is left after a run that is passed; of one that is not, no more is passed than it has
 abbrev pub IsWithin : ℕ → Within → Type 0
 IsWithin many (within.All left) = 0 < left
 IsWithin many (within.Part passed told) = passed ≤ many
 
--- own: spacing ends there and so
+-- own: spacing ends at this place with this outcome
 pub record HasEnded (toward : Direction) (over : Over) (count from : ℕ) (sizes : List ℕ) (ended : Ended) : Type 0 where
   pub within : ended.number ≤ length sizes
   pub number : ended.number ≡ spaced_to toward from (size_way_from toward over count from sizes).passed

@@ -1,4 +1,4 @@
--- SPACE (6) (SSC-4): from item to item, over records or over filemarks, behind the position or before it.
+-- SPACE (6) (SSC-4): from item to item, over records or over filemarks, after the position or before it.
 use Rattle.std.specs.Prelude.{◌≡◌, ℕ, zero, suc, ◌+◌, ◌-◌, List, [], ◌∷◌, length, reverse}
 use Rattle.media_tape.specs.Items.{Item, Record, Filemark}
 use Rattle.media_tape.specs.Tape.{TapeState, items, located_at}
@@ -9,7 +9,7 @@ use Rattle.media_tape.specs.declared.outcome.Direction.TheVariants.{Forward, Bac
 use Rattle.media_tape.specs.declared.outcome.Spaced.{Spaced}
 use Rattle.media_tape.specs.declared.outcome.Spaced.TheVariants as spaced
 
--- how many items were passed, and what ended the spacing
+-- the number of items passed, and what ended the spacing
 pub record Way : Type 0 where
   pub passed : ℕ
   pub told : Spaced
@@ -17,12 +17,12 @@ pub record Way : Type 0 where
 abbrev pub one_more : Way → Way
 one_more way = record { passed = suc way.passed; told = way.told }
 
--- where no item is left: the end of data, or the beginning of the partition
+-- no item is left: the end of data, or the beginning of the partition
 abbrev pub edge : Direction → ℕ → Spaced
 edge Forward left = spaced.EndOfData left
 edge Backward left = spaced.Beginning left
 
--- SSC-4: spacing over records ends behind a filemark, which is not counted; spacing over filemarks passes records
+-- SSC-4: spacing over records ends after a filemark, which is not counted; spacing over filemarks passes records
 abbrev pub way : Direction → Over → ℕ → List Item → Way
 way direction over zero items = record { passed = 0; told = spaced.Whole }
 way direction over (suc left) [] = record { passed = 0; told = edge direction (suc left) }
@@ -40,7 +40,7 @@ abbrev pub spaced_to : Direction → ℕ → ℕ → ℕ
 spaced_to Forward position passed = position + passed
 spaced_to Backward position passed = position - passed
 
--- own: spacing over so many can end so: on these items it does
+-- own: spacing over this many can end so, since it does on some items
 abbrev pub Ends : Direction → Over → ℕ → Spaced → Type 0
 Ends toward over count told = (ahead : List Item) × (told ≡ (way toward over count ahead).told)
 

@@ -1,4 +1,4 @@
--- A tape as the items before its position and those behind it (SSC-4 "Position within a partition"), and what commands
+-- A tape as the items before its position and those after it (SSC-4 "Position within a partition"), and what commands
 -- do to it.
 use Rattle.std.specs.Prelude.{◌≡◌, ℕ, ◌+◌, ◌*◌, ◌≤◌, ◌==◌, nat_lt, nat_le, List, [], ◌∷◌, ◌++◌, length, take, drop, replicate}
 use Rattle.std.specs.Prelude.{Bool, true, false, IsTrue, sum, map, if◌then◌else◌}
@@ -11,17 +11,17 @@ use Rattle.media_tape.specs.declared.outcome.Passed.TheVariants as passed
 use Rattle.media_tape.specs.declared.outcome.Written.{Written}
 use Rattle.media_tape.specs.declared.outcome.Written.TheVariants as written
 
--- own: what a tape shows of itself
+-- own: the abstract value of a tape
 pub record TapeState : Type 0 where
   pub before : List Item
   pub after : List Item
-  -- what its store holds behind the last item: some bytes only where a write or a cut failed
+  -- what its store holds after the last item: some bytes only if a write or a cut failed
   pub tail : List ℕ
   pub is_loaded : Bool
   -- in bytes of items
   pub capacity : ℕ
   pub early_mark : ℕ
-  -- as they are of its store
+  -- those of its store
   pub synced : Bool
   pub failures : ℕ
   pub honest : Bool
@@ -31,7 +31,7 @@ pub record TapeState : Type 0 where
 abbrev pub items : TapeState → List Item
 items tape = tape.before ++ tape.after
 
--- own: the tape with its position behind so many items
+-- own: the tape with its position after this many items
 abbrev pub located_at : ℕ → TapeState → TapeState
 located_at number tape = record tape { before = take number (items tape); after = drop number (items tape) }
 
@@ -41,7 +41,7 @@ located_told number tape = if nat_le number (length (items tape)) then located.T
 
 -- ---- READ (6) (SSC-4)
 
--- what the first of these items is, where it is passed
+-- what the first of these items is, if it is passed
 abbrev pub first_told : List Item → Passed
 first_told [] = passed.EndOfData
 first_told (Record bytes ∷ items) = passed.Record (length bytes)
@@ -58,7 +58,7 @@ passed_length (passed.Record length) = length
 passed_length passed.Filemark = 0
 passed_length passed.EndOfData = 0
 
--- profile: a read of no byte passes nothing
+-- profile: a read of no bytes passes nothing
 abbrev pub read_told : ℕ → TapeState → Passed
 read_told room tape = if room == 0 then passed.Nothing else first_told tape.after
 
@@ -68,7 +68,7 @@ first_data [] = []
 first_data (Record bytes ∷ items) = bytes
 first_data (Filemark ∷ items) = []
 
--- own: a buffer with as many of these bytes in front as there is room for
+-- own: a buffer with as many of these bytes at its front as there is room for
 abbrev pub filled : List ℕ → List ℕ → List ℕ
 filled bytes buffer = take (length buffer) bytes ++ drop (length bytes) buffer
 
@@ -80,15 +80,15 @@ tape_read room tape =
 
 -- ---- WRITE (6), WRITE FILEMARKS (6), ERASE (6) (SSC-4)
 
--- profile: items of this size are refused where they would exceed the capacity, and told where they then exceed the
--- early mark
+-- profile: items of this size are refused if they would exceed the capacity, and reported as early if they then exceed
+-- the early mark
 abbrev pub size_told : ℕ → TapeState → Written
 size_told more tape =
     if nat_lt tape.capacity (size_of tape.before + more) then written.Refused
     else if nat_lt tape.early_mark (size_of tape.before + more) then written.Early
     else written.Whole
 
--- profile: items from the position on, in the place of all that stood there
+-- profile: items from the position on, in place of everything that stood there
 abbrev pub wrote : List Item → TapeState → TapeState
 wrote others tape = record tape { before = tape.before ++ others; after = []; tail = []; synced = false }
 
@@ -98,7 +98,7 @@ wrote_if_told written.Refused others tape = tape
 wrote_if_told written.Early others tape = wrote others tape
 wrote_if_told written.Whole others tape = wrote others tape
 
--- profile: a write of no byte changes nothing
+-- profile: a write of no bytes changes nothing
 abbrev pub write_told : List ℕ → TapeState → Written
 write_told [] tape = written.Whole
 write_told (byte ∷ bytes) tape = size_told (length (byte ∷ bytes) + 8) tape
@@ -107,7 +107,7 @@ abbrev pub tape_written : List ℕ → TapeState → TapeState
 tape_written [] tape = tape
 tape_written (byte ∷ bytes) tape = wrote_if_told (write_told (byte ∷ bytes) tape) (Record (byte ∷ bytes) ∷ []) tape
 
--- profile: and then all is synced, also where there is no filemark to write
+-- profile: after that everything is synced, even if there is no filemark to write
 abbrev pub marks_told : ℕ → TapeState → Written
 marks_told count tape = if count == 0 then written.Whole else size_told (8 * count) tape
 
@@ -121,7 +121,7 @@ tape_marked count tape =
     if count == 0 then record tape { synced = true }
     else synced_if_told (size_told (8 * count) tape) (wrote_if_told (size_told (8 * count) tape) (replicate count Filemark) tape)
 
--- own: whether all is on the medium behind a WRITE or WRITE FILEMARKS that told this, where it was so before or not
+-- own: whether everything is on the medium after a WRITE or WRITE FILEMARKS with this outcome, by whether it was before
 abbrev pub written_synced : Written → Bool → Bool
 written_synced written.Refused before = before
 written_synced written.Early before = false
@@ -136,24 +136,24 @@ marked_synced written.Whole before = true
 abbrev pub erased : TapeState → TapeState
 erased tape = wrote [] tape
 
--- own: the early warning mark is passed where the items before the position are longer (SSC-4 "early-warning")
+-- own: the early warning mark is passed if the items before the position are longer (SSC-4 "early-warning")
 abbrev pub is_early : TapeState → Bool
 is_early tape = nat_lt tape.early_mark (size_of tape.before)
 
--- own: what is left where a write, a cut or a sync failed: the items before the position
+-- own: what remains after a write, a cut or a sync failed: the items before the position
 abbrev pub lost : List ℕ → Bool → TapeState → TapeState
 lost tail synced tape = record tape { after = []; tail = tail; synced = synced; failures = risen tape.failures }
 
 -- ---- own: what a tape knows of the content of its store
 
--- the items in front of an end are of these sizes, and nothing else stands there; where no write or cut failed, nor does
--- anything behind them
+-- the items in front of an end are of these sizes, and nothing else stands there. If no write or cut failed, nothing
+-- stands after them either
 pub record AreIn (content sizes : List ℕ) (is_torn : Bool) : Type 0 where
   pub long : sum sizes ≤ length content
   pub sized : map size (items_of (take (sum sizes) content)) ≡ sizes
   pub whole : is_torn ≡ false → length content ≡ sum sizes
 
--- where a store is honest its items are of these sizes, and the position is among them
+-- if a store is honest, its items are of these sizes, and the position is among them
 pub record IsIndexed (honest : Bool) (content sizes : List ℕ) (is_torn : Bool) (position capacity : ℕ) : Type 0 where
   pub within : position ≤ length sizes
   pub fits : sum sizes ≤ capacity

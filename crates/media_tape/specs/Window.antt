@@ -6,11 +6,11 @@ use Rattle.media_tape.specs.declared.window.Window.{Window}
 pub record IsWindow (window : Window) : Type 0 where
   pub room : 4 ≤ length window.bytes.items + window.bytes.spare
 
--- the four bytes at a place are among them
+-- the four bytes at a place are among its bytes
 pub record Holds (at : ℕ) (window : Window) : Type 0 where
   pub from : window.offset ≤ at
   pub to : at + 4 ≤ window.offset + length window.bytes.items
 
--- they stand in this content
+-- its bytes stand in this content
 abbrev pub Shows : List ℕ → Window → Type 0
 Shows content window = window.bytes.items ≡ slice_range content window.offset (window.offset + length window.bytes.items)

@@ -1,4 +1,4 @@
--- What is written to a store, and what is left of it where a write to its end failed.
+-- What is written to a store, and what remains of it if a write to its end failed.
 use Rattle.std.specs.Prelude.{◌≡◌, ℕ, ◌*◌, ◌≤◌, ◌<◌, nat_lt, Bool, true, false, List, length, take, map, replicate, if◌then◌else◌}
 use Rattle.media_tape.specs.Index.{mark_size, most_size}
 use Rattle.media_tape.specs.Items.{size, items_of}
@@ -10,7 +10,7 @@ use Rattle.media_tape.specs.declared.outcome.Written.TheVariants as written
 use Rattle.media_tape.specs.declared.write.Objects.{Objects}
 use Rattle.media_tape.specs.declared.write.Objects.TheVariants as object
 
--- own: the bytes before a place are as before, where it lies within them
+-- own: the bytes before a place are as before, if it lies within them
 abbrev pub KeepsBefore : ℕ → List ℕ → List ℕ → Type 0
 KeepsBefore place old new = place ≤ length old → (place ≤ length new) × (take place new ≡ take place old)
 
@@ -29,7 +29,7 @@ abbrev pub each_size : Objects → ℕ
 each_size (object.Records spelled count size) = size
 each_size (object.Filemarks count) = mark_size
 
--- their bytes are so many items of this size
+-- their bytes are this many items of this size
 pub record AreWhole (objects : Objects) : Type 0 where
   pub sized : map size (items_of (bytes_of objects)) ≡ replicate (count_of objects) (each_size objects)
   pub total : length (bytes_of objects) ≡ count_of objects * each_size objects
@@ -46,12 +46,12 @@ abbrev pub put_synced : Objects → Written → Bool → Bool
 put_synced (object.Records spelled count size) told before = written_synced told before
 put_synced (object.Filemarks count) told before = marked_synced told before
 
--- the tape behind them, unless they are refused
+-- the tape after them, unless they are refused
 abbrev pub put_if_told : Objects → Written → TapeState → TapeState
 put_if_told (object.Records spelled count size) told tape = wrote_if_told told (items_of spelled.items) tape
 put_if_told (object.Filemarks count) told tape = synced_if_told told (wrote_if_told told (items_of (replicate (8 * count) 0)) tape)
 
--- own: what is told of so many blocks of all, where this is told of them: they fit
+-- own: the outcome of a write of `count` blocks, of which `fitting` fit and were written with this outcome
 abbrev pub part_told : Written → ℕ → ℕ → FixedWritten
 part_told written.Refused fitting count = fixed_written.Part 0
 part_told written.Early fitting count = if nat_lt fitting count then fixed_written.Part fitting else fixed_written.Early

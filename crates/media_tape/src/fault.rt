@@ -11,13 +11,13 @@ use thiserror::Error;
 /// Why a store is not opened as a tape.
 #[derive(Clone, Copy, Debug, PartialEq, Eq, Error)]
 pub enum TapeOpenFault {
-    /// At this offset in bytes no whole item begins, and bytes stand there.
+    /// No whole item begins at this offset in bytes, and bytes stand there.
     #[error("no whole item begins at byte {0}")]
     TornEnd(u64),
     /// The store failed.
     #[error("the device failed")]
     Device,
-    /// It is longer than the capacity.
+    /// The store is longer than the capacity.
     #[error("the tape is longer than its capacity")]
     TooLong,
     /// An allocation failed.
@@ -26,7 +26,7 @@ pub enum TapeOpenFault {
 }
 
 impl TapeOpenFault {
-    /// The number of the fault, 1 to 4.
+    /// Returns the number of the fault, 1 to 4.
     pub fn number(self) -> u8
         ensures { result ≡ fault_number self }
     {

@@ -9,7 +9,7 @@ use crate::run::{MARK_SIZE, Run, marks_before, marks_from, run_before, run_of};
 use std::alloc::{AllocError, Global};
 use std::marker::Model;
 
-/// The sizes of the items of a file, one behind the other from offset 0 on.
+/// The sizes of the items of a file, which follow each other from offset 0 on.
 #[derive(Drop)]
 pub(crate) struct Index {
     runs: Vec<Run>,
@@ -27,33 +27,33 @@ impl Model for Index {
     ghost invariant = { IsIndex };
 }
 
-/// Items of one size, one behind the other.
+/// Consecutive items of one size.
 #[derive(Clone, Copy, Debug)]
 pub(crate) struct Alike {
     /// The number of the first.
     pub first: u64,
-    /// The number behind the last.
+    /// The number after that of the last.
     pub next: u64,
-    /// Where the last ends.
+    /// The offset at which the last ends.
     pub end: u64,
     /// The size of each.
     pub size: u32,
-    /// How many runs there are up to theirs.
+    /// The number of runs up to theirs.
     pub runs: usize,
 }
 
-/// Items of one size on the way from a position.
+/// Items of one size, next to a position in the direction of spacing.
 #[derive(Clone, Copy, Debug)]
 pub(crate) struct Ahead {
     pub many: u64,
     /// The size of each.
     pub size: u32,
-    /// A run that may have the item behind them.
+    /// A run that may have the item after them.
     pub near: usize,
 }
 
 impl Index {
-    /// Of no items.
+    /// Returns the index of no items.
     pub fn new(alloc: Global) -> Index
         ensures { result.sizes ≡ [] }
     {
@@ -62,21 +62,21 @@ impl Index {
         }
     }
 
-    /// The last run, or one of no items.
+    /// Returns the last run, or one of no items.
     fn last(&self) -> Run
         ensures { IsLast self.now.sizes result }
     {
         run_before(&self.runs, self.runs.len())
     }
 
-    /// How many items there are.
+    /// Returns the number of items.
     pub fn count(&self) -> u64
         ensures { result ≡ length self.now.sizes }
     {
         self.last().count
     }
 
-    /// Where the last item ends.
+    /// Returns the offset at which the last item ends.
     pub fn end(&self) -> u64
         ensures end { result ≡ sum self.now.sizes }
         ensures few { length self.now.sizes * mark_size ≤ result }
@@ -84,7 +84,7 @@ impl Index {
         self.last().end
     }
 
-    /// The run with the item of this number, which may be this one.
+    /// Finds the run that has the item of this number; `near` is tried first.
     fn run_at(&self, number: u64, near: usize) -> Alike
         requires { number < length self.now.sizes }
         ensures { AreAround self.now.sizes result number }
@@ -100,7 +100,7 @@ impl Index {
         }
     }
 
-    /// Where the item of this number begins, or where the last ends, by bisection over the runs.
+    /// Returns the offset at which the item of this number begins, or at which the last ends. It bisects the runs.
     pub fn place_of(&self, number: u64) -> u64
         requires { number ≤ length self.now.sizes }
         ensures { result ≡ sum (take number self.now.sizes) }
@@ -112,7 +112,7 @@ impl Index {
         run.end - (run.next - number) * u64::from(run.size)
     }
 
-    /// The size of the item of this number, by bisection over the runs.
+    /// Returns the size of the item of this number. It bisects the runs.
     pub fn size_at(&self, number: u64) -> u32
         requires { number < length self.now.sizes }
         ensures size { result ≡ slice_index self.now.sizes number }
@@ -122,7 +122,7 @@ impl Index {
         self.run_at(number, 0).size
     }
 
-    /// The items of one size next to a position, which may be in this run.
+    /// Returns the items of one size next to a position, or `None` at the edge. The run `near` is tried first.
     pub fn ahead(&self, toward: Direction, at: u64, near: usize) -> Option<Ahead>
         requires { at ≤ length self.now.sizes }
         ensures { MatchOption result (sizes_ahead toward at self.now.sizes ≡ []) (λ ahead. AreAhead toward at self.now.sizes ahead) }
@@ -159,7 +159,7 @@ impl Index {
         }
     }
 
-    /// Passes the records next to a position, and returns where they end and the filemarks of one run there. Of each run
+    /// Passes the records next to a position. Returns where they end, and the filemarks of one run there. Of each run
     /// of records only the size is read.
     pub fn marks_ahead(&self, toward: Direction, at: u64, near: usize) -> (u64, Option<Ahead>)
         requires { at ≤ length self.now.sizes }
@@ -199,7 +199,7 @@ impl Index {
         }
     }
 
-    /// Makes room for one run more. Where that fails nothing changed.
+    /// Reserves room for one more run. If that fails, nothing has changed.
     pub fn reserve_one(&mut self) -> Result<(), AllocError>
         ensures sizes { self.new.sizes ≡ self.old.sizes }
         ensures ok { OnOk result (0 < self.new.room) }
@@ -210,7 +210,7 @@ impl Index {
         self.runs.reserve(1)
     }
 
-    /// So many items of a size more, where there is room for a run or the last item has this size.
+    /// Appends `many` items of a size. There is room for a run, or the last item has this size.
     pub fn push_reserved(&mut self, size: u32, many: u64)
         requires least { mark_size ≤ size }
         requires most { size ≤ most_size }
@@ -232,8 +232,8 @@ impl Index {
         });
     }
 
-    /// So many items of a size more. It takes no memory where the last item has this size, and where it
-    /// fails nothing changed.
+    /// Appends `many` items of a size. It takes no memory if the last item has this size, and if it fails, nothing has
+    /// changed.
     pub fn push(&mut self, size: u32, many: u64) -> Result<(), AllocError>
         requires least { mark_size ≤ size }
         requires most { size ≤ most_size }
@@ -250,7 +250,7 @@ impl Index {
         Ok(())
     }
 
-    /// Keeps the first items, so many, or all where there are fewer.
+    /// Keeps the first `count` items, or all if there are fewer.
     pub fn truncate(&mut self, count: u64)
         ensures sizes { self.new.sizes ≡ take count self.old.sizes }
         ensures room { self.old.room ≤ self.new.room }

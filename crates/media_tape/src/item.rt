@@ -11,13 +11,14 @@ use media_store::{Store, StoreFault};
 /// The greatest length of a record in bytes.
 pub const MOST_BYTES: u32 = 1_048_576;
 
-/// An item takes so many bytes more than it has: its length before them, and again behind them.
+/// The bytes that an item takes beyond its own: its length before them, and its length again after them.
 pub(crate) const LENGTHS: u64 = 8;
 
-/// A page of the system, which it reads whole. Where items are no longer, what stands behind one is read with it.
+/// A page, which the system reads whole. After an item that is no longer than a page, the bytes that follow are read
+/// with it.
 const PAGE: u32 = 4096;
 
-/// How many bytes are read with the length behind an item.
+/// Returns the most bytes to read at once, from the length after an item on.
 fn ahead(length: u32) -> u64
     ensures { 4 ≤ result }
 {
@@ -29,7 +30,7 @@ fn ahead(length: u32) -> u64
     }
 }
 
-/// The length of the item that is whole at a place, below an end.
+/// Returns the length of the item at a place, if a whole one stands there below an end.
 pub(crate) fn item_at<S: Store>(
     store: &mut S,
     place: u64,

@@ -2,12 +2,12 @@
 
 ghost use Rattle.media_tape.specs.Laws.{WrittenIsReadBack, RecordsThereAndBack};
 
-/// A record that was written is read back, in the place of all that stood behind the position.
+/// States that a record that was written is read back, and replaces everything after the position.
 pub fn written_is_read_back()
     ensures { WrittenIsReadBack }
 {}
 
-/// Records that were spaced over are spaced over again the other way.
+/// States that spacing back over the records that were spaced over returns to the same position.
 pub fn records_there_and_back()
     ensures { RecordsThereAndBack }
 {}

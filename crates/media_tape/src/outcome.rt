@@ -1,4 +1,4 @@
-//! How calls on a tape come out, where its store did not fail.
+//! The outcomes of calls on a tape whose store did not fail.
 
 ghost use Rattle.std.specs.Prelude.{◌≡◌};
 ghost use Rattle.media_tape.specs.Tape.{length_told};
@@ -7,43 +7,43 @@ ghost use Rattle.media_tape.specs.Fixed.{fixed_passed};
 /// What a read passed.
 #[derive(Clone, Copy, Debug, PartialEq, Eq)]
 pub enum Passed {
-    /// Nothing, since there was room for no byte.
+    /// Nothing, since no byte was requested.
     Nothing,
     /// A record of this length in bytes.
     Record(u32),
     Filemark,
-    /// Nothing, since no item stands behind the position.
+    /// Nothing, since no item comes after the position.
     EndOfData,
 }
 
 /// Whether items were written.
 #[derive(Clone, Copy, Debug, PartialEq, Eq)]
 pub enum Written {
-    /// They are, or there were none.
+    /// They were, or there were none.
     Whole,
-    /// They are, and the items before the position now exceed the early mark.
+    /// They were, and the items before the position now exceed the early mark.
     Early,
-    /// They are not, since the items would exceed the capacity.
+    /// They were not, since the items would exceed the capacity.
     Refused,
 }
 
 /// What ended a read of blocks.
 #[derive(Clone, Copy, Debug, PartialEq, Eq)]
 pub enum FixedEnd {
-    /// As many were given as were asked for.
+    /// All blocks that were requested were returned.
     Whole,
     /// A filemark, which was passed.
     Filemark,
-    /// No item stands behind the position.
+    /// No item comes after the position.
     EndOfData,
     /// A record of another length, in bytes, which was passed.
     Length(u32),
 }
 
-/// How a read of blocks came out.
+/// The outcome of a read of blocks.
 #[derive(Clone, Copy, Debug, PartialEq, Eq)]
 pub struct FixedRead {
-    /// How many were given.
+    /// The number of blocks returned.
     pub given: u32,
     pub ended: FixedEnd,
 }
@@ -51,20 +51,20 @@ pub struct FixedRead {
 /// Whether blocks were written.
 #[derive(Clone, Copy, Debug, PartialEq, Eq)]
 pub enum FixedWritten {
-    /// They are, or there were none.
+    /// They were, or there were none.
     Whole,
-    /// They are, and the items before the position now exceed the early mark.
+    /// They were, and the items before the position now exceed the early mark.
     Early,
-    /// So many are, since all would exceed the capacity.
+    /// This many were, since all would exceed the capacity.
     Part(u32),
 }
 
 /// Where a position was set.
 #[derive(Clone, Copy, Debug, PartialEq, Eq)]
 pub enum Located {
-    /// Behind as many items as it was to be.
+    /// After the number of items requested.
     There,
-    /// Behind all items, since there are fewer.
+    /// After all items, since there are fewer.
     EndOfData,
 }
 
@@ -75,27 +75,27 @@ pub enum Over {
     Filemarks,
 }
 
-/// Whether spacing goes over the items behind the position, or over those before it.
+/// Whether spacing passes the items after the position, or those before it.
 #[derive(Clone, Copy, Debug, PartialEq, Eq)]
 pub enum Direction {
     Forward,
     Backward,
 }
 
-/// What ended the spacing, and how much was then left of its count.
+/// What ended the spacing, and how much of its count was then left.
 #[derive(Clone, Copy, Debug, PartialEq, Eq)]
 pub enum Spaced {
     /// Nothing was left.
     Whole,
     /// A filemark was passed while records were counted.
     Filemark(u32),
-    /// No item is behind the position.
+    /// No item comes after the position.
     EndOfData(u32),
-    /// No item is before the position.
+    /// No item comes before the position.
     Beginning(u32),
 }
 
-/// What an item of this length is, where it is passed.
+/// Returns what is passed with an item of this length: a filemark or a record.
 pub(crate) fn passed_item(length: u32) -> Passed
     ensures { result ≡ length_told length }
 {
@@ -106,7 +106,7 @@ pub(crate) fn passed_item(length: u32) -> Passed
     }
 }
 
-/// How many items a read of blocks passes.
+/// Returns the number of items that a read of blocks passes.
 pub(crate) fn passed_blocks(read: FixedRead) -> u64
     ensures { result ≡ fixed_passed read }
 {

@@ -10,10 +10,10 @@ use bytes::BytesMut;
 use media_store::{Store, StoreFault};
 use std::alloc::{AllocError, Global};
 
-/// The bytes of a record stand behind its length.
+/// The length of an item, after which the bytes of a record stand.
 pub(crate) const LENGTH: u64 = 4;
 
-/// Reads so many bytes from an offset on, behind those of a buffer that has room for them.
+/// Reads `count` bytes from an offset on, and appends them to a buffer that has room for them.
 pub(crate) fn read_behind<S: Store>(
     store: &mut S,
     at: u64,
@@ -42,8 +42,8 @@ pub(crate) fn read_behind<S: Store>(
     store.read_at(at, &mut buffer.as_mut_slice()[front..])
 }
 
-/// Puts the bytes of so many records of one length, as they stand in a store, behind those of a buffer that
-/// has room for them.
+/// Appends the bytes of `count` records of one length to a buffer that has room for them. `items` has the records as
+/// they stand in a store.
 fn put_data(items: &[u8], count: usize, block_length: usize, buffer: &mut BytesMut)
     requires long { count * (block_length + 8) ≤ length items.now }
     requires room { count * block_length ≤ buffer.old.spare }
@@ -56,8 +56,8 @@ fn put_data(items: &[u8], count: usize, block_length: usize, buffer: &mut BytesM
     }
 }
 
-/// Reads so many records of one length from a place on, in one call, and puts their bytes behind those of a
-/// buffer, where room is made first for them and for some more behind them.
+/// Reads `count` records of one length from a place on, in one call, and appends their bytes to a buffer. First it
+/// reserves room there for them and for `behind` bytes more.
 pub(crate) fn read_blocks<S: Store>(
     alloc: Global,
     store: &mut S,

@@ -16,9 +16,9 @@ use media_store::{Store, StoreFault};
 use out_of_memory::Memory;
 
 impl<S: Store> Tape<S> {
-    /// Passes the item behind the position, and puts as many bytes of a record as are asked for behind those
-    /// of a buffer, where room is made first for them and for some more behind them (SSC-4 "READ (6)").
-    /// Where an allocation fails nothing changes; where the store fails the tape is as before.
+    /// Passes the item after the position (SSC-4 "READ (6)"). Of a record it appends the bytes requested to a buffer.
+    /// First it reserves room there for them and for `behind` bytes more. If an allocation fails, nothing changes; if
+    /// the store fails, the tape is as before.
     pub fn read(
         &mut self,
         asked: u32,
@@ -66,10 +66,10 @@ impl<S: Store> Tape<S> {
         }
     }
 
-    /// Passes so many records of a length behind the position, here called blocks, and puts their bytes behind
-    /// those of a buffer, where room is made first for them and for some more behind them. A filemark or a
-    /// record of another length ends them, and is passed (SSC-4 "READ (6)", FIXED). Where an allocation fails
-    /// nothing changes; where the store fails the tape is as before, and no block is given.
+    /// Passes `count` records of one length after the position, here called blocks, and appends their bytes to a buffer
+    /// (SSC-4 "READ (6)", FIXED). First it reserves room there for them and for `behind` bytes more. A filemark or a
+    /// record of another length ends them, and is passed. If an allocation fails, nothing changes; if the store fails,
+    /// the tape is as before, and no block is returned.
     pub fn read_fixed(
         &mut self,
         count: u32,

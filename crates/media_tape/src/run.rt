@@ -7,18 +7,18 @@ ghost use Rattle.media_tape.specs.Runs.{run_before, run_size, AreRecords};
 /// The size of a filemark.
 pub(crate) const MARK_SIZE: u32 = 8;
 
-/// Items of one size, one behind the other, behind those of the run before.
+/// Consecutive items of one size, which follow those of the run before.
 #[derive(Clone, Copy, Debug)]
 pub(crate) struct Run {
-    /// How many items there are up to its last.
+    /// The number of items up to its last.
     pub count: u64,
-    /// Where its last ends.
+    /// The offset at which its last ends.
     pub end: u64,
     /// The size of each.
     pub size: u32,
 }
 
-/// The run before this one, or the last where there are so many. Before the first there is one of no items.
+/// Returns the run before this one, which is the last if there are `many`. Before the first there is one of no items.
 pub(crate) fn run_before(runs: &[Run], many: usize) -> Run
     requires { many ≤ length runs.now }
     ensures { result ≡ run_before runs.now many }
@@ -33,7 +33,7 @@ pub(crate) fn run_before(runs: &[Run], many: usize) -> Run
     }
 }
 
-/// The run with the item of this number: where it is not this one, by bisection.
+/// Finds the run with the item of this number: `near` if it has it, else by bisection.
 pub(crate) fn run_of(runs: &[Run], number: u64, near: usize) -> usize
     requires { number < (run_before runs.now (length runs.now)).count }
     ensures within { result < length runs.now }
@@ -56,7 +56,7 @@ pub(crate) fn run_of(runs: &[Run], number: u64, near: usize) -> usize
     low
 }
 
-/// The first run of filemarks from this one on, or the number of runs where none is left.
+/// Returns the first run of filemarks from this one on, or the number of runs if none is left.
 pub(crate) fn marks_from(runs: &[Run], from: usize) -> usize
     requires { from ≤ length runs.now }
     ensures from { from ≤ result }
@@ -71,7 +71,7 @@ pub(crate) fn marks_from(runs: &[Run], from: usize) -> usize
     run
 }
 
-/// The number of runs up to the last of filemarks among so many, or 0 where none is among them.
+/// Returns the number of runs up to the last of filemarks among the first `many`, or 0 if there is none.
 pub(crate) fn marks_before(runs: &[Run], many: usize) -> usize
     requires { many ≤ length runs.now }
     ensures within { result ≤ many }

@@ -15,20 +15,20 @@ use crate::run::MARK_SIZE;
 /// Where spacing ended, and why.
 #[derive(Clone, Copy, Debug, PartialEq, Eq)]
 pub(crate) struct Ended {
-    /// Behind so many items.
+    /// The number of items before it.
     pub number: u64,
     pub told: Spaced,
 }
 
-/// How far spacing goes within items of one size.
+/// How far spacing gets within items of one size.
 pub(crate) enum Within {
-    /// Over all of them, and so much is left of the count.
+    /// Over all of them, and this much is left of the count.
     All(u32),
-    /// Over so many, and there it ends.
+    /// Over this many, and there it ends.
     Part(u64, Spaced),
 }
 
-/// How far spacing goes within so many items of one size.
+/// Returns how far spacing gets within `many` items of one size.
 fn within_run(over: Over, left: u32, size: u32, many: u64) -> Within
     requires left { 0 < left }
     requires some { 0 < many }
@@ -44,7 +44,7 @@ fn within_run(over: Over, left: u32, size: u32, many: u64) -> Within
     }
 }
 
-/// A position so many items on.
+/// Returns the position that is `many` items away.
 fn moved(toward: Direction, at: u64, many: u64) -> u64
     requires { CanMove toward at many }
     ensures { result ≡ spaced_to toward at many }
@@ -55,7 +55,7 @@ fn moved(toward: Direction, at: u64, many: u64) -> u64
     }
 }
 
-/// What is told where no item is left.
+/// Returns what ends spacing if no item is left.
 fn at_edge(toward: Direction, left: u32) -> Spaced
     ensures { result ≡ edge toward left }
 {
@@ -66,8 +66,8 @@ fn at_edge(toward: Direction, left: u32) -> Spaced
 }
 
 impl Index {
-    /// Spaces over so many records or filemarks from a position, or to where spacing ends before that, run by run
-    /// (SSC-4 "SPACE (6)").
+    /// Spaces over `count` records or filemarks from a position, or until spacing ends before that, run by run (SSC-4
+    /// "SPACE (6)").
     pub fn space(&self, toward: Direction, over: Over, from: u64, count: u32) -> Ended
         requires { from ≤ length self.now.sizes }
         ensures { HasEnded toward over count from self.now.sizes result }
@@ -78,7 +78,7 @@ impl Index {
         }
     }
 
-    /// Spaces over so many records.
+    /// Spaces over `count` records.
     fn space_records(&self, toward: Direction, from: u64, count: u32) -> Ended
         requires { from ≤ length self.now.sizes }
         ensures { HasEnded toward Over.Records count from self.now.sizes result }
@@ -107,7 +107,7 @@ impl Index {
         Ended { number: at, told }
     }
 
-    /// Spaces over so many filemarks, and passes all records up to the next one at once.
+    /// Spaces over `count` filemarks, and passes all records up to the next one at once.
     fn space_marks(&self, toward: Direction, from: u64, count: u32) -> Ended
         requires { from ≤ length self.now.sizes }
         ensures { HasEnded toward Over.Filemarks count from self.now.sizes result }
@@ -140,8 +140,8 @@ impl Index {
         Ended { number: at, told }
     }
 
-    /// What a read of so many blocks of a length from this number on gives, run by run, and what ends it
-    /// (SSC-4 "READ (6)").
+    /// Returns how many of `count` blocks of a length a read from this number on returns, and what ends it (SSC-4 "READ
+    /// (6)"). It goes from run to run.
     pub fn blocks(&self, from: u64, count: u32, block_length: u32) -> FixedRead
         requires { from ≤ length self.now.sizes }
         ensures read { result ≡ size_fixed count block_length (drop from self.now.sizes) }

@@ -17,7 +17,7 @@ use media_store::{Store, StoreFault};
 use std::alloc::Global;
 use std::marker::Model;
 
-/// Records and filemarks over a store, and a position among them. Lengths and sizes are in bytes.
+/// Records and filemarks in a store, and a position among them. Lengths and sizes are in bytes.
 #[derive(Drop)]
 pub struct Tape<S: Store> {
     pub(crate) store: S,
@@ -26,9 +26,9 @@ pub struct Tape<S: Store> {
     pub(crate) is_loaded: bool,
     /// The sizes of the items, and so their places.
     pub(crate) index: Index,
-    /// How many items stand before the position.
+    /// The number of items before the position.
     pub(crate) position: u64,
-    /// The last write or cut failed, so that something may stand behind the items.
+    /// Whether the last write or cut failed, so that something may stand after the items.
     pub(crate) is_torn: bool,
     pub(crate) alloc: Global,
 }
@@ -58,8 +58,8 @@ impl<S: Store> Model for Tape<S> {
 }
 
 impl<S: Store> Tape<S> {
-    /// Opens a store as a loaded tape with this capacity and early mark, its position before all items,
-    /// or gives it back.
+    /// Opens a store as a loaded tape with this capacity and early mark, and its position before all items. If that
+    /// fails, it returns the store.
     pub fn open(
         alloc: Global,
         mut store: S,
@@ -122,15 +122,15 @@ impl<S: Store> Tape<S> {
         })
     }
 
-    /// How many items stand before the position (SSC-4 "READ POSITION").
+    /// Returns the number of items before the position (SSC-4 "READ POSITION").
     pub fn position(&self) -> u64
         ensures { IsTrue self.now.honest → result ≡ length self.now.before }
     {
         self.position
     }
 
-    /// Sets the position behind so many items, or behind all where there are fewer (SSC-4 "LOCATE (10)").
-    /// Where it fails, the tape is as before.
+    /// Sets the position after `number` items, or after all if there are fewer (SSC-4 "LOCATE (10)"). If it fails, the
+    /// tape is as before.
     pub fn locate(&mut self, number: u64) -> Result<Located, StoreFault>
         ensures told { IfOk result (λ told. IsTrue self.new.honest → told ≡ located_told number self.old) }
         ensures tape { OnOk result (IsTrue self.new.honest → self.new ≡ located_at number self.old) }
@@ -155,8 +155,8 @@ impl<S: Store> Tape<S> {
         Ok(Located::There)
     }
 
-    /// Sets the position behind so many records or filemarks, from where it is, or where spacing ends
-    /// before that (SSC-4 "SPACE (6)"). Where it fails, the tape is as before.
+    /// Moves the position over `count` records or filemarks, or until spacing ends before that (SSC-4 "SPACE (6)"). If
+    /// it fails, the tape is as before.
     pub fn space(&mut self, toward: Direction, over: Over, count: u32) -> Result<Spaced, StoreFault>
         ensures told { IfOk result (λ told. IsTrue self.new.honest → told ≡ spaced_told toward over count self.old) }
         ensures shown { IfOk result (λ told. Ends toward over count told) }
@@ -176,7 +176,7 @@ impl<S: Store> Tape<S> {
         Ok(ended.told)
     }
 
-    /// Sets the position behind all items (SSC-4 "SPACE (6)", end of data).
+    /// Sets the position after all items (SSC-4 "SPACE (6)", end of data).
     pub fn space_to_end(&mut self)
         ensures tape { IsTrue self.old.honest → self.new ≡ tape_ended self.old }
         ensures rest { self.new ≡ record self.old { before = self.new.before; after = self.new.after } }
@@ -184,7 +184,7 @@ impl<S: Store> Tape<S> {
         self.position = self.index.count();
     }
 
-    /// Whether the items before the position exceed the early warning mark.
+    /// Returns whether the items before the position exceed the early warning mark.
     pub fn is_early(&self) -> bool
         ensures { IsTrue self.now.honest → result ≡ is_early self.now }
     {
@@ -198,7 +198,7 @@ impl<S: Store> Tape<S> {
         self.position = 0;
     }
 
-    /// Loads the tape, or unloads it, and rewinds it (SSC-4 "LOAD UNLOAD").
+    /// Loads or unloads the tape, and rewinds it (SSC-4 "LOAD UNLOAD").
     pub fn load(&mut self, is_loaded: bool)
         ensures { self.new ≡ record (located_at 0 self.old) { is_loaded = is_loaded } }
     {
@@ -206,7 +206,7 @@ impl<S: Store> Tape<S> {
         self.is_loaded = is_loaded;
     }
 
-    /// Whether the tape is loaded.
+    /// Returns whether the tape is loaded.
     pub fn is_loaded(&self) -> bool
         ensures { result ≡ self.now.is_loaded }
     {

@@ -13,7 +13,7 @@ use crate::window::Window;
 use media_store::Store;
 use std::alloc::Global;
 
-/// Goes over the items below an end, as far as whole ones stand there.
+/// Reads the sizes of the items below an end, up to the first that is not whole.
 pub(crate) fn walk<S: Store>(alloc: Global, store: &mut S, end: u64) -> Result<Index, TapeOpenFault>
     ensures sizes { IfOk result (λ index. IsTrue (S.Store.honest store.new) → end ≤ length (S.Store.content store.old)
         → index.sizes ≡ map size (items_of (take end (S.Store.content store.old)))) }

@@ -1,4 +1,4 @@
-//! Bytes of a store that were read ahead, so that the lengths of many small items come in one call.
+//! Bytes of a store that were read ahead, so that one call reads the lengths of many small items.
 
 ghost use Rattle.std.specs.Prelude.{◌≡◌, ℕ, ◌+◌, ◌≤◌, List, length, slice_range, IsTrue, IsOk, IfOk, OnOk};
 ghost use Rattle.byteorder.specs.Endian.{big_number};
@@ -22,7 +22,7 @@ pub(crate) struct Window {
 }
 
 impl Window {
-    /// Of no bytes.
+    /// Returns a window of no bytes, with room for `ROOM` bytes.
     pub fn new(alloc: Global) -> Result<Window, AllocError>
         ensures window { IfOk result (λ window. IsWindow window) }
         ensures shows { IfOk result (λ window. (content : List ℕ) → Shows content window) }
@@ -31,7 +31,7 @@ impl Window {
         Ok(Window { bytes, offset: 0 })
     }
 
-    /// Whether the four bytes at a place are in it.
+    /// Returns whether the four bytes at a place are in it.
     fn has(&self, at: u64) -> bool
         ensures { IsTrue result → Holds at self.now }
     {
@@ -39,8 +39,8 @@ impl Window {
         held >= 4 && self.offset <= at && at - self.offset <= held as u64 - 4
     }
 
-    /// Has the four bytes at a place in it: where they are not, so many bytes are read from there on, as far
-    /// as they stand below an end and there is room for them.
+    /// Brings the four bytes at a place into the window. If they are not there, it reads up to `ahead` bytes from there
+    /// on. It reads no byte at or past the end, and none without room.
     pub fn hold<S: Store>(
         &mut self,
         store: &mut S,
@@ -73,7 +73,7 @@ impl Window {
         read_behind(store, at, count as usize, &mut self.bytes)
     }
 
-    /// The number in the four bytes at a place, the highest first.
+    /// Returns the number in the four bytes at a place, most significant byte first.
     pub fn number(&self, at: u64) -> u32
         requires window { IsWindow self.now }
         requires holds { Holds at self.now }

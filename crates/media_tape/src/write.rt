@@ -1,4 +1,4 @@
-//! Items written to a store from a place on, and nothing behind them.
+//! Items written to a store from a place on, with nothing after them.
 
 ghost use Rattle.std.specs.Prelude.{◌≡◌, ◌+◌, ◌*◌, ◌≤◌, ◌<◌, ◌^◌, ◌++◌, true, false, length, take, IsTrue, IsOk, IfOk, OnOk, OnErr};
 ghost use Rattle.media_store.specs.Failures.{counted};
@@ -16,18 +16,18 @@ use std::alloc::{AllocError, Global};
 /// Logical objects (SSC-4) of one size that are written at once.
 #[derive(Drop)]
 pub(crate) enum Objects {
-    /// So many records as they stand in a store, each of this size.
+    /// `count` records as they stand in a store, each of this size.
     Records {
         spelled: Vec<u8>,
         count: u32,
         size: u32,
     },
-    /// So many filemarks.
+    /// This many filemarks.
     Filemarks(u32),
 }
 
 impl Objects {
-    /// How many bytes they take.
+    /// Returns the number of bytes that they take.
     pub fn size(&self) -> u64
         ensures { result ≡ length (bytes_of self.now) }
     {
@@ -37,7 +37,7 @@ impl Objects {
         }
     }
 
-    /// How many bytes each of them takes.
+    /// Returns the number of bytes that each of them takes.
     pub fn each_size(&self) -> u32
         ensures { result ≡ each_size self.now }
     {
@@ -47,7 +47,7 @@ impl Objects {
         }
     }
 
-    /// How many they are.
+    /// Returns the number of objects.
     pub fn many(&self) -> u64
         ensures { result ≡ count_of self.now }
     {
@@ -57,7 +57,8 @@ impl Objects {
     }
 }
 
-/// So many records of one length as they stand in a store: each with its length before it, and again behind it.
+/// Spells out `count` records of one length as they stand in a store: each with its length before it, and again after
+/// it.
 pub(crate) fn spelled(
     alloc: Global,
     bytes: &[u8],
@@ -102,9 +103,8 @@ pub(crate) fn cut_at<S: Store>(store: &mut S, place: u64, is_longer: bool) -> Re
     Ok(())
 }
 
-/// Writes objects from a place on: records in one call, and behind filemarks it waits until all is on the
-/// medium. Where something stands there it is cut off before, so that whenever the program ends the store
-/// has whole items.
+/// Writes objects from a place on. Records take one call; after filemarks it waits until everything is on the medium.
+/// If something stands there, it is cut off first, so that the store has whole items whenever the program ends.
 pub(crate) fn write_objects<S: Store>(
     store: &mut S,
     place: u64,

@@ -17,7 +17,7 @@ use media_store::{Store, StoreFault};
 use out_of_memory::Memory;
 use std::alloc::AllocError;
 
-/// What is told of items that were written up to this place.
+/// Returns `Early` if items that were written up to this place exceed the early mark, else `Whole`.
 fn told(early_mark: u64, end: u64) -> Written
     ensures { result ≡ (if nat_lt early_mark end then written.Early else written.Whole) }
 {
@@ -28,7 +28,7 @@ fn told(early_mark: u64, end: u64) -> Written
     }
 }
 
-/// What is told of so many blocks of all, where this is told of them.
+/// Returns the outcome of a write of `count` blocks, of which `fitting` were written with this outcome.
 fn blocks_written(told: Written, fitting: u32, count: u32) -> FixedWritten
     ensures { result ≡ part_told told fitting count }
 {
@@ -40,7 +40,7 @@ fn blocks_written(told: Written, fitting: u32, count: u32) -> FixedWritten
     }
 }
 
-/// Whether something may stand behind a position among so many items.
+/// Returns whether something may stand after a position among `count` items.
 fn is_longer(is_torn: bool, position: u64, count: u64) -> bool
     ensures { result ≡ (is_torn || nat_lt position count) }
 {
@@ -48,9 +48,8 @@ fn is_longer(is_torn: bool, position: u64, count: u64) -> bool
 }
 
 impl<S: Store> Tape<S> {
-    /// Writes a record in the place of all that stands behind the position (SSC-4 "WRITE (6)"). One of
-    /// no byte changes nothing. Where an allocation fails nothing changes; where the store fails the items
-    /// before the position are left.
+    /// Writes a record in place of everything after the position (SSC-4 "WRITE (6)"). A record of no bytes changes
+    /// nothing. If an allocation fails, nothing changes; if the store fails, the items before the position remain.
     pub fn write(&mut self, bytes: &[u8]) -> Result<Result<Written, StoreFault>, Memory>
         requires { length bytes.now ≤ most_bytes }
         ensures told { IfOk result (λ done. IfOk done (λ told. IsTrue self.old.honest → told ≡ write_told bytes.now self.old)) }
@@ -86,10 +85,10 @@ impl<S: Store> Tape<S> {
         Ok(done)
     }
 
-    /// Writes so many records of a length, here called blocks, in the place of all that stands behind the
-    /// position, as many as fit within the capacity, in one call of the store; where none fits nothing changes,
-    /// and so where there is no byte (SSC-4 "WRITE (6)", FIXED). Where an allocation fails nothing changes; where
-    /// the store fails the items before the position are left.
+    /// Writes `count` records of one length, here called blocks, in place of everything after the position (SSC-4
+    /// "WRITE (6)", FIXED). It writes as many as fit within the capacity, in one call of the store. If none fits, or
+    /// there are no bytes, nothing changes. If an allocation fails, nothing changes; if the store fails, the items
+    /// before the position remain.
     pub fn write_fixed(
         &mut self,
         count: u32,
@@ -141,9 +140,9 @@ impl<S: Store> Tape<S> {
         }
     }
 
-    /// Writes filemarks in the place of all that stands behind the position, and waits until all is on the
-    /// medium (SSC-4 "WRITE FILEMARKS (6)"). Where an allocation fails nothing changes; where the store
-    /// fails the items before the position are left.
+    /// Writes filemarks in place of everything after the position, and waits until everything is on the medium (SSC-4
+    /// "WRITE FILEMARKS (6)"). If an allocation fails, nothing changes; if the store fails, the items before the
+    /// position remain.
     pub fn marks(&mut self, count: u32) -> Result<Result<Written, StoreFault>, Memory>
         ensures told { IfOk result (λ done. IfOk done (λ told. IsTrue self.old.honest → told ≡ marks_told count self.old)) }
         ensures tape { IfOk result (λ done. OnOk done (IsTrue self.old.honest → self.new ≡ tape_marked count self.old)) }
@@ -174,9 +173,8 @@ impl<S: Store> Tape<S> {
         Ok(done)
     }
 
-    /// Puts objects in the place of all that stands behind the position, unless they would exceed the capacity.
-    /// Where an allocation fails nothing changes; where the store fails the items before the position are
-    /// left.
+    /// Puts objects in place of everything after the position, unless they would exceed the capacity. If an allocation
+    /// fails, nothing changes; if the store fails, the items before the position remain.
     fn put(&mut self, objects: &Objects) -> Result<Result<Written, StoreFault>, AllocError>
         requires { AreWhole objects.now }
         ensures told { IfOk result (λ done. IfOk done (λ told. IsTrue self.old.honest
@@ -207,7 +205,7 @@ impl<S: Store> Tape<S> {
         }
         self.index.reserve_one()?;
         let is_longer = is_longer(self.is_torn, self.position, self.index.count());
-        // What stands behind the position is lost, also where a call fails.
+        // What stands after the position is lost, even if a call fails.
         self.index.truncate(self.position);
         match write_objects(&mut self.store, place, is_longer, objects) {
             Ok(()) => {
@@ -224,7 +222,7 @@ impl<S: Store> Tape<S> {
         }
     }
 
-    /// Waits until all is on the medium.
+    /// Waits until everything is on the medium.
     fn sync(&mut self) -> Result<Written, StoreFault>
         ensures whole { IfOk result (λ told. (told ≡ written.Whole) × (self.new ≡ record self.old { synced = true })) }
         ensures failed { OnErr result (self.new ≡ record self.old { failures = risen self.old.failures }) }
@@ -234,8 +232,7 @@ impl<S: Store> Tape<S> {
         Ok(Written::Whole)
     }
 
-    /// Removes all that stands behind the position (SSC-4 "ERASE (6)"). Where it fails, the items before
-    /// the position are left.
+    /// Removes everything after the position (SSC-4 "ERASE (6)"). If it fails, the items before the position remain.
     pub fn erase(&mut self) -> Result<(), StoreFault>
         ensures tape { OnOk result (IsTrue self.old.honest → self.new ≡ erased self.old) }
         ensures failed { OnErr result (IsTrue self.old.honest → self.new ≡ lost self.new.tail false self.old) }

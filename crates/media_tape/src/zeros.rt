@@ -9,7 +9,7 @@ use media_store::{Store, StoreFault};
 /// The most bytes that one call of the store writes: whole filemarks.
 const PART: u64 = 4096;
 
-/// Writes so many zero bytes from a place on, and waits until all is on the medium.
+/// Writes `size` zero bytes from a place on, and waits until everything is on the medium.
 pub(crate) fn write_zeros<S: Store>(store: &mut S, place: u64, size: u64) -> Result<(), StoreFault>
     requires within { place + size < 2 ^ 64 }
     requires some { 0 < size }
