@@ -1,4 +1,4 @@
--- How a command came out, as its medium has it.
+-- How a command came out, depending on its medium.
 use Rattle.std.specs.Prelude.{ℕ, List, Bool, false, ◌||◌, is_some, if◌then◌else◌}
 use Rattle.media_store.specs.Failures.{risen}
 use Rattle.media_block.specs.Blocks.{DiskState}
@@ -29,7 +29,7 @@ on_tape (tape_way.Dishonest shown left) = OfTape (tape_way.Dishonest shown left)
 on_tape (tape_way.ReadFailed honest) = OfTape (tape_way.ReadFailed honest)
 on_tape (tape_way.WriteFailed left) = OfTape (tape_way.WriteFailed left)
 
--- own: on a disk one comes out in no way of tapes, and the reverse
+-- own: on a disk, a way of tapes counts as defined, and the reverse
 abbrev pub disk_came : CameOut → DiskCame
 disk_came AsDefined = disk_way.AsDefined
 disk_came (OfDisk came) = came
@@ -53,7 +53,7 @@ touches (OnDisk touch disk) = is_some touch.reads || (is_some touch.writes || to
 touches (OnTape command bytes tape) =
     let touch = tape_touch command tape in touch.goes_by || (touch.reads || (touch.writes || touch.syncs))
 
--- own: a way in which a command cannot come out counts as its definition's
+-- own: a way in which a command cannot come out counts as that of its definition
 abbrev pub way : CameOut → Touch → CameOut
 way came Nothing = AsDefined
 way came (OnDisk touch disk) = on_disk (if is_disk_possible (disk_came came) touch disk then disk_came came else disk_way.AsDefined)

@@ -1,4 +1,5 @@
--- What a unit checks before it does a command: an ordered list (own, after SPC-4), of which the first that refuses counts.
+-- What a unit checks before it carries out a command: an ordered list (own, after SPC-4), of which the first refusal
+-- counts.
 use Rattle.std.specs.Prelude.{ℕ, ◌+◌, nat_lt, List, [], ◌∷◌, length, Bool, true, false, ◌&&◌, not, Option, Some, None, Result, Ok, Err, slice_index}
 use Rattle.std.specs.Prelude.{if◌then◌else◌}
 use Rattle.std.specs.Option.{option_map}
@@ -42,14 +43,14 @@ write_protected = plain_sense WriteProtected
 abbrev pub refused_if : Bool → Sense → Option Refusal
 refused_if holds sense = if holds then Some (Refused sense) else None
 
--- ---- the checks, each of what it looks at; what an earlier one refuses a later one lets pass
+-- ---- the checks, each of what it looks at; what an earlier one refuses passes the later ones
 
 -- units of this kind have the operation
 abbrev pub operation_check : Option Row → Option Refusal
 operation_check None = Some (Refused invalid_operation_code)
 operation_check (Some row) = None
 
--- SAM-5 "Unit attention condition": the first that is still to be told, where the operation does not pass it
+-- SAM-5 "Unit attention condition": the first that is pending, unless the operation passes it
 abbrev pub attention_check : Option Row → Option Attention → Option Refusal
 attention_check None attention = None
 attention_check (Some row) attention = if row.passes_attention then None else option_map Told attention
@@ -65,8 +66,8 @@ needs_medium Nothing = false
 needs_medium Working = true
 needs_medium Ready = true
 
--- why a device does not do an operation with this need: a write of it has failed (own), or it is a tape that is not loaded
--- (SPC-4 "TEST UNIT READY command")
+-- why a device cannot do an operation with this need: a write of it failed (own), or its tape is not loaded (SPC-4
+-- "TEST UNIT READY command")
 abbrev pub unready : Need → DeviceState → Option Sense
 unready need (Disk disk) = if needs_medium need && not disk.is_ready then Some target_failure else None
 unready need (Tape tape) = not_ready need tape
@@ -76,7 +77,7 @@ abbrev pub ready_check : Option Row → DeviceState → Option Refusal
 ready_check None device = None
 ready_check (Some row) device = option_map Refused (unready row.needs device)
 
--- the fields are taken
+-- the fields are accepted
 abbrev pub fields_check : Result Command Sense → Option Refusal
 fields_check (Err sense) = Some (Refused sense)
 fields_check (Ok command) = None
@@ -97,7 +98,7 @@ abbrev pub range_check : Result Command Sense → DeviceState → Option Refusal
 range_check (Err sense) device = None
 range_check (Ok command) device = refused_if (not (has_range device (range_of command))) out_of_range
 
--- how many bytes of data a command needs
+-- the number of bytes of data that a command needs
 abbrev pub needed : Command → ℕ
 needed (to.Unit TestUnitReady) = 0
 needed (to.Unit (RequestSense allocation_length)) = 0
@@ -110,14 +111,14 @@ needed (to.Unit (ReportLuns fields)) = 0
 needed (to.Disk command) = bytes_needed command
 needed (to.Tape command) = tape_needed command
 
--- what a command is told whose data is too short: PARAMETER LIST LENGTH ERROR (SPC-4 "MODE SELECT (6) command",
--- "PERSISTENT RESERVE OUT command"), and of blocks that it names, or of a record, too long for its data (profile)
+-- the sense data of a command whose data is too short: PARAMETER LIST LENGTH ERROR (SPC-4 "MODE SELECT (6) command",
+-- "PERSISTENT RESERVE OUT command"). If its blocks or its record exceed the data, INVALID FIELD IN CDB (profile)
 abbrev pub data_sense : Command → Sense
 data_sense (to.Unit command) = fault_sense EndsEarly
 data_sense (to.Disk command) = invalid_field
 data_sense (to.Tape command) = invalid_field
 
--- so much data has come
+-- at least this much data has come
 abbrev pub data_check : Result Command Sense → List ℕ → Option Refusal
 data_check (Err sense) bytes = None
 data_check (Ok command) bytes = refused_if (nat_lt (length bytes) (needed command)) (data_sense command)
@@ -154,13 +155,13 @@ first_refusal [] = None
 first_refusal (None ∷ checks) = first_refusal checks
 first_refusal (Some refusal ∷ checks) = Some refusal
 
--- the command, where no check refuses it; a field that is refused is among the checks
+-- the command, if no check refuses it; a field that is refused is among the checks
 abbrev pub judged_by : Option Refusal → Result Command Sense → Result Command Refusal
 judged_by (Some refusal) command = Err refusal
 judged_by None (Ok command) = Ok command
 judged_by None (Err sense) = Err (Refused sense)
 
--- the command that the bytes spell for a unit, or the first refusal
+-- the command that the bytes encode for a unit, or the first refusal
 unfoldable pub judged : NexusName → List ℕ → List ℕ → UnitState → Result Command Refusal
 judged nexus cdb bytes unit =
     let command = command_of cdb (kind_of unit.device) (fixed_length unit.device) in

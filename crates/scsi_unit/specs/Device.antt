@@ -13,8 +13,8 @@ use Rattle.scsi_unit.specs.declared.device.Device.{Device}
 use Rattle.scsi_unit.specs.declared.device.Device.TheVariants as device
 use Rattle.scsi_unit.specs.declared.device.DiskDevice.{DiskDevice}
 
--- a disk: its blocks and its store; own: whether no write of it has failed since it was opened; whether writes to it are
--- refused (SWP, SPC-4 "Control mode page")
+-- a disk: its blocks and its store; own: whether no write of it has failed since it was opened. SWP says whether writes
+-- to it are refused (SPC-4 "Control mode page")
 pub record DiskUnit : Type 0 where
   pub disk : DiskState
   pub is_ready : Bool
@@ -25,7 +25,7 @@ pub data DeviceState : Type 0 where
   Disk : (disk : DiskUnit) → DeviceState
   Tape : (tape : TapeUnitState) → DeviceState
 
--- without where it lies in memory
+-- the disk without its place in memory
 abbrev pub disk_view : {S : Type 0} → DiskDevice S → DiskUnit
 disk_view disk = record { disk = disk.disk; is_ready = disk.is_ready; write_protect = disk.write_protect }
 
@@ -46,25 +46,25 @@ abbrev pub kind_of : DeviceState → Kind
 kind_of (Disk disk) = kind.Disk
 kind_of (Tape tape) = kind.Tape
 
--- what its mode parameters tell
+-- its mode parameters
 abbrev pub parameters_of : DeviceState → Parameters
 parameters_of (Disk disk) = parameters.Disk (length disk.disk.blocks) disk.write_protect
 parameters_of (Tape tape) = parameters.Tape tape.block_length
 
--- with these mode parameters, of which a disk's SWP can change, and the block length of a tape
+-- with these mode parameters: of a disk SWP can change, and of a tape the block length
 abbrev pub with_parameters : Parameters → DeviceState → DeviceState
 with_parameters given (Disk disk) = Disk (record disk { write_protect = write_protect given })
 with_parameters given (Tape tape) = Tape (record tape { block_length = block_length_of given })
 
--- the length of a tape's fixed blocks in bytes; 0 where it has none, and of a disk
+-- the length of a tape's fixed blocks in bytes: 0 if it has none, and for a disk
 abbrev pub fixed_length : DeviceState → ℕ
 fixed_length (Disk disk) = 0
 fixed_length (Tape tape) = tape.block_length
 
 -- ---- its store
 
--- own: how many calls of it have failed, whether every answer of it agreed with what was written, and whether calls of it
--- always succeed and agree, on a tape also those by which it grows
+-- own: the number of its calls that failed, and whether every answer agreed with what was written. Steady says whether
+-- its calls always succeed and agree, on a tape also those by which it grows
 pub record StoreState : Type 0 where
   pub failures : ℕ
   pub honest : Bool

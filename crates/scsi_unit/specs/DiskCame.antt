@@ -1,4 +1,4 @@
--- How a command to a disk came out, as its store has it.
+-- How a command to a disk came out, depending on its store.
 use Rattle.std.specs.Prelude.{ℕ, ◌+◌, ◌*◌, ◌==◌, nat_lt, List, [], ◌∷◌, length, take, drop}
 use Rattle.std.specs.Prelude.{Bool, true, false, ◌&&◌, ◌||◌, not, Option, Some, None, is_some, if◌then◌else◌}
 use Rattle.media_store.specs.Failures.{risen}
@@ -6,8 +6,8 @@ use Rattle.media_block.specs.Blocks.{DiskState, block_length}
 use Rattle.scsi_cdb.specs.Range.{Range}
 use Rattle.scsi_unit.specs.Device.{DiskUnit}
 
--- own: what a medium shows of the blocks that a command names: their data, and the least index at which it differs from
--- the bytes that they are compared with
+-- own: what a medium shows of the blocks that a command names. It is their data, and the least index at which it
+-- differs from the bytes to compare
 pub record Shown : Type 0 where
   pub given : List ℕ
   pub difference : Option ℕ
@@ -17,20 +17,20 @@ pub data DiskCame : Type 0 where
   AsDefined : DiskCame
   -- its store is not honest after it: it showed this, and these are the blocks after it
   Dishonest : (shown : Shown) (left : List (List ℕ)) → DiskCame
-  -- a read failed, and the store is honest after it or not
+  -- a read failed; the store may be honest after it or not
   ReadFailed : (honest : Bool) → DiskCame
-  -- a write or a sync failed, and these are the blocks after it; the store is honest after it or not
+  -- a write or a sync failed, and these are the blocks after it; the store may be honest after it or not
   WriteFailed : (left : List (List ℕ)) (honest : Bool) → DiskCame
 
--- own: what its store showed, where it should have shown this
+-- own: what its store showed, if the truth was this
 abbrev pub shown_by : DiskCame → Shown → Shown
 shown_by AsDefined truth = truth
 shown_by (Dishonest shown left) truth = shown
 shown_by (ReadFailed honest) truth = truth
 shown_by (WriteFailed left honest) truth = truth
 
--- own: what a command does with its medium: which blocks it reads and which it writes, one at least, and whether it waits
--- until all is on the medium and does no more
+-- own: what a command does with its medium: which blocks it reads and which it writes, at least one. Or it only waits
+-- until everything is on the medium
 pub record DiskTouch : Type 0 where
   pub reads : Option Range
   pub writes : Option Range
@@ -39,7 +39,7 @@ pub record DiskTouch : Type 0 where
 abbrev pub no_touch : DiskTouch
 no_touch = record { reads = None; writes = None; syncs = false }
 
--- own: the disk after it, where by its definition what was shown leaves this one; behind a write that failed it is not synced
+-- own: the disk after it, if its definition with what was shown leaves this one; after a failed write it is not synced
 abbrev pub disk_after : DiskCame → DiskTouch → DiskState → DiskUnit → DiskUnit
 disk_after AsDefined touch defined disk = record disk { disk = defined }
 disk_after (Dishonest shown left) touch defined disk = record disk { disk = record defined { blocks = left; honest = false } }
@@ -70,8 +70,8 @@ is_byte a b = a == b
 abbrev pub is_block : List ℕ → List ℕ → Bool
 is_block a b = are_same is_byte a b
 
--- own: where a command writes, as many blocks as before are left, and of an honest store those outside its range are as
--- before; else all are
+-- own: if a command writes, the number of blocks stays. Of an honest store those outside its range are as before; if it
+-- does not write, all are
 abbrev pub are_left : Option Range → Bool → List (List ℕ) → List (List ℕ) → Bool
 are_left None honest old left = are_same is_block left old
 are_left (Some range) honest old left =
@@ -83,13 +83,13 @@ abbrev pub is_below : Option ℕ → ℕ → Bool
 is_below None count = true
 is_below (Some at) count = nat_lt at count
 
--- own: of the blocks that it reads there are so many bytes, and a difference is among them
+-- own: the blocks that it reads have this many bytes, and a difference is among them
 abbrev pub are_shown : Option Range → Shown → Bool
 are_shown None shown = true
 are_shown (Some range) shown =
     length shown.given == block_length * range.count && is_below shown.difference (block_length * range.count)
 
--- own: a store becomes honest by no command, and ceases to be so only by one that reads
+-- own: no command makes a store honest, and only one that reads makes it cease to be so
 abbrev pub can_be : DiskTouch → Bool → Bool → Bool
 can_be touch old new = if new then old else (is_some touch.reads || not old)
 
@@ -97,8 +97,8 @@ can_be touch old new = if new then old else (is_some touch.reads || not old)
 abbrev pub can_fail : DiskState → Bool
 can_fail disk = not (disk.honest && disk.steady)
 
--- own: how a command to a disk can come out: it fails, or is shown what is not there, only by what it does with its
--- medium, and never where no call on the disk can fail
+-- own: whether a command to a disk can come out so. It fails or is misled only by what it does with its medium, and
+-- never if no call on the disk can fail
 abbrev pub is_disk_possible : DiskCame → DiskTouch → DiskState → Bool
 is_disk_possible AsDefined touch disk = true
 is_disk_possible (Dishonest shown left) touch disk =

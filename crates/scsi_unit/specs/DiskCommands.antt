@@ -23,7 +23,8 @@ unrecovered_read = plain_sense UnrecoveredReadError
 abbrev pub write_error : Sense
 write_error = plain_sense WriteError
 
--- SBC-3 "READ CAPACITY (10) command": the last logical block address, FFFFFFFFh where it is above that, and the length of a block
+-- SBC-3 "READ CAPACITY (10) command": the last logical block address, FFFFFFFFh if it is above that, and the length of
+-- a block
 abbrev pub capacity_10 : ℕ → List ℕ
 capacity_10 block_count = to_be_bytes w32 (min (block_count - 1) (2 ^ 32 - 1)) ++ to_be_bytes w32 block_length
 
@@ -47,7 +48,7 @@ range_named (SynchronizeCache range) = Some range
 range_named (WriteSame range) = Some range
 range_named (CompareAndWrite range force_unit_access) = Some range
 
--- SBC-3: how many bytes of data a command needs; a longer payload is used in front (profile)
+-- SBC-3: the number of bytes of data that a command needs; of a longer payload the first are used (profile)
 abbrev pub bytes_needed : DiskCommand → ℕ
 bytes_needed (Read range) = 0
 bytes_needed ReadCapacity10 = 0
@@ -71,7 +72,7 @@ is_write (SynchronizeCache range) = false
 is_write (WriteSame range) = true
 is_write (CompareAndWrite range force_unit_access) = true
 
--- ---- what is told
+-- ---- what is returned
 
 abbrev pub shown_in : List (List ℕ) → List ℕ → Option Range → Shown
 shown_in blocks bytes None = record { given = []; difference = None }
@@ -84,12 +85,12 @@ shown_in blocks bytes (Some range) = record {
 abbrev pub shown : List (List ℕ) → List ℕ → DiskCommand → Shown
 shown blocks bytes command = shown_in blocks bytes (range_named command)
 
--- SBC-3 "VERIFY (10) command": GOOD where so many bytes are equal, or the first difference
+-- SBC-3 "VERIFY (10) command": GOOD if this many bytes are equal, or the first difference
 abbrev pub compared : ℕ → Option ℕ → Outcome
 compared count None = good_taking count
 compared count (Some at) = check_condition (miscompare at)
 
--- SBC-3, each command in "Commands for direct access block devices": what is told of these blocks by what was shown of
+-- SBC-3, each command in "Commands for direct access block devices": the outcome on these blocks, by what was shown of
 -- them
 abbrev pub told_of : Shown → List (List ℕ) → DiskCommand → Outcome
 told_of shown blocks (Read range) = good_with shown.given
@@ -102,11 +103,11 @@ told_of shown blocks (SynchronizeCache range) = good
 told_of shown blocks (WriteSame range) = good_taking block_length
 told_of shown blocks (CompareAndWrite range force_unit_access) = compared (2 * (block_length * range.count)) shown.difference
 
--- what is told of a command with this data to a disk of these blocks
+-- the outcome of a command with this data on a disk of these blocks
 abbrev pub disk_outcome : List (List ℕ) → List ℕ → DiskCommand → Outcome
 disk_outcome blocks bytes command = told_of (shown blocks bytes command) blocks command
 
--- own: what is told of a command, by how it came out, where its medium should have shown this
+-- own: the outcome of a command, by how it came out, if the truth was this
 abbrev pub disk_told : DiskCame → Shown → List (List ℕ) → DiskCommand → Outcome
 disk_told AsDefined truth blocks command = told_of truth blocks command
 disk_told (Dishonest shown left) truth blocks command = told_of shown blocks command
@@ -115,19 +116,19 @@ disk_told (WriteFailed left honest) truth blocks command = check_condition write
 
 -- ---- what is changed
 
--- SBC-3 "WRITE (10) command": other blocks in the place of these, on the medium or not yet; of no block nothing changes
+-- SBC-3 "WRITE (10) command": other blocks in place of these, on the medium or not yet; of no block nothing changes
 abbrev pub written : Range → Bool → List (List ℕ) → DiskState → DiskState
 written range synced others disk =
     if nat_lt 0 range.count then record disk { blocks = replaced range.first others disk.blocks; synced = synced } else disk
 
--- SBC-3 "COMPARE AND WRITE command": the second half of the data, where the first half does not differ
+-- SBC-3 "COMPARE AND WRITE command": the second half of the data, if the first half does not differ
 abbrev pub written_where : Option ℕ → Range → Bool → List ℕ → DiskState → DiskState
 written_where (Some at) range synced bytes disk = disk
 written_where None range synced bytes disk =
     written range synced (blocks_of range.count (take (block_length * range.count) (drop (block_length * range.count) bytes))) disk
 
--- SBC-3, each command in "Commands for direct access block devices": the disk as a command with this data leaves it, by
--- what was shown of it; with FUA what it wrote is on the medium
+-- SBC-3, each command in "Commands for direct access block devices": the disk after a command with this data, by what
+-- was shown of it. With FUA what it wrote is on the medium
 abbrev pub disk_defined : Shown → List ℕ → DiskCommand → DiskState → DiskState
 disk_defined shown bytes (Read range) disk = disk
 disk_defined shown bytes ReadCapacity10 disk = disk
@@ -141,7 +142,7 @@ disk_defined shown bytes (WriteSame range) disk = written range false (replicate
 disk_defined shown bytes (CompareAndWrite range force_unit_access) disk =
     written_where shown.difference range force_unit_access bytes disk
 
--- ---- what may come of it
+-- ---- possible outcomes
 
 -- own: a range of one block or more
 abbrev pub some_blocks : Range → Option Range
@@ -159,7 +160,7 @@ touch_of (SynchronizeCache range) = record no_touch { syncs = true }
 touch_of (WriteSame range) = record no_touch { writes = some_blocks range }
 touch_of (CompareAndWrite range force_unit_access) = record no_touch { reads = some_blocks range; writes = some_blocks range }
 
--- own: a command with this data to a disk came out in one of the ways in which it can, and the disk and what is told are so
+-- own: a command with this data to a disk came out in one of its possible ways, which gives the disk and the outcome
 pub record IsDiskDone (command : DiskCommand) (bytes : List ℕ) (old new : DiskUnit) (done : Outcome) : Type 0 where
   pub came : DiskCame
   pub possible : IsTrue (is_disk_possible came (touch_of command) old.disk)
@@ -168,6 +169,6 @@ pub record IsDiskDone (command : DiskCommand) (bytes : List ℕ) (old new : Disk
       new ≡ disk_after came (touch_of command) (disk_defined shown bytes command old.disk) old
   pub told : done ≡ disk_told came (shown old.disk.blocks bytes command) old.disk.blocks command
 
--- profile: a command gives no more data than the longest READ, in bytes
+-- profile: a command returns no more data than the longest READ, in bytes
 abbrev pub most_given : ℕ
 most_given = most_blocks * block_length

@@ -28,7 +28,7 @@ use Rattle.scsi_unit.specs.Unit.{mode_sense_outcome, unit_done, performed_as, pe
 use Rattle.scsi_unit.specs.Units.{perform}
 use Rattle.scsi_unit.specs.declared.joined.Joined.{Joined}
 
--- the last logical block address is 0fffh; one that four bytes don't hold is FFFFFFFFh
+-- the last logical block address is 0fffh; one that four bytes do not hold is FFFFFFFFh
 capacity_10_data : (capacity_10 4096 ≡ 0 ∷ 0 ∷ 0x0f ∷ 0xff ∷ 0 ∷ 0 ∷ 0x02 ∷ 0 ∷ []) × (capacity_10
     (2 ^ 33) ≡ 0xff ∷ 0xff ∷ 0xff ∷ 0xff ∷ 0 ∷ 0 ∷ 0x02 ∷ 0 ∷ [])
 capacity_10_data = (refl, refl)
@@ -64,18 +64,19 @@ a_was_told = record { nexus = a; attentions = [] }
 abbrev test_unit_ready : List ℕ
 test_unit_ready = replicate 16 0
 
--- the power-on attention is told once, and to each nexus
+-- the power-on attention is reported once, and to each nexus
 told_once : (perform_at a test_unit_ready [] (unit_with disk (newly_joined a ∷ newly_joined b ∷ []))
     ≡ (unit_with disk (a_was_told ∷ newly_joined b ∷ []), check_condition (plain_sense (UnitAttention PowerOnOrReset))))
     × (perform_at a test_unit_ready [] (unit_with disk (a_was_told ∷ newly_joined b ∷ [])) ≡ (unit_with disk (a_was_told ∷ newly_joined b ∷ []), good))
 unfolding performed_as judged told unit_done
 told_once = (refl, refl)
 
--- READ (10) from a logical block address of so many blocks
+-- READ (10) of blocks from a logical block address on
 abbrev read_10 : ℕ → ℕ → ℕ → ℕ → List ℕ
 read_10 address_high address_low blocks_high blocks_low = 0x28 ∷ 0 ∷ 0 ∷ 0 ∷ address_high ∷ address_low ∷ 0 ∷ blocks_high ∷ blocks_low ∷ replicate 7 0
 
--- 4095 of 2 blocks is past the end, of 2049 too long, which counts first; 4096 of 0 is none; 4095 of 1 is the last
+-- 4095 of 2 blocks is past the end. Of 2049 it is too long, which counts first. 4096 of 0 is none; 4095 of 1 is the
+-- last
 reads : ((perform_at a (read_10 0x0f 0xff 0 2) [] (unit_with disk (a_was_told ∷ []))).1 ≡ check_condition out_of_range)
     × ((perform_at a (read_10 0x0f 0xff 0x08 0x01) [] (unit_with disk (a_was_told ∷ []))).1 ≡ check_condition invalid_field)
     × ((perform_at a (read_10 0x10 0 0 0) [] (unit_with disk (a_was_told ∷ []))).1 ≡ good_with [])
@@ -84,8 +85,8 @@ reads : ((perform_at a (read_10 0x0f 0xff 0 2) [] (unit_with disk (a_was_told �
 unfolding performed_as judged told unit_done
 reads = (refl, refl, refl, refl, refl)
 
--- a READ of the last block reads, and one of 0 blocks, one past the end, one that is refused, one in whose place an
--- attention is told, and a TEST UNIT READY do not
+-- a READ of the last block reads. These do not: one of 0 blocks, one past the end, one that is refused, one that
+-- reports an attention instead, and TEST UNIT READY
 reads_blocks : (touches (touch_at a (read_10 0x0f 0xff 0 1) [] (unit_with disk (a_was_told ∷ []))) ≡ true)
     × (touches (touch_at a (read_10 0x10 0 0 0) [] (unit_with disk (a_was_told ∷ []))) ≡ false)
     × (touches (touch_at a (read_10 0x0f 0xff 0 2) [] (unit_with disk (a_was_told ∷ []))) ≡ false)
@@ -98,14 +99,14 @@ reads_blocks = (refl, refl, refl, refl, refl, refl)
 abbrev inquiry : List ℕ
 inquiry = 0x12 ∷ 0 ∷ 0 ∷ 0 ∷ 36 ∷ replicate 11 0
 
--- a read fails: 03/1100, and the store has one failure more
+-- a read fails: 03/1100, and the store has one more failure
 read_fails : performed_as (on_disk (ReadFailed true)) a (read_10 0 0 0 1) [] (unit_with disk (a_was_told ∷ []))
     ≡ (unit_with (Disk (record the_disk { disk = record the_disk.disk { failures = 1 } })) (a_was_told ∷ []), check_condition unrecovered_read)
 unfolding performed_as judged told
 read_fails = refl
 
--- behind a write that failed the unit is not ready: TEST UNIT READY and READ are 04/4400, also where a field would be
--- refused; an attention is told first, and INQUIRY and READ CAPACITY (10) go on
+-- after a failed write the unit is not ready: TEST UNIT READY and READ are 04/4400, even if a field would be refused.
+-- An attention is reported first, and INQUIRY and READ CAPACITY (10) still work
 abbrev failed : DeviceState
 failed = Disk (record the_disk { is_ready = false })
 
@@ -136,7 +137,7 @@ empty = record {
 abbrev pub empty_tape : DeviceState
 empty_tape = opened_tape empty
 
--- a tape is ready; it has no READ (10) of disks, which is told before the attention is
+-- a tape is ready; it has no READ (10) of disks, which is reported before the attention
 tapes : ((perform_at a test_unit_ready [] (unit_with empty_tape (a_was_told ∷ []))).1 ≡ good)
     × (perform_at a (read_10 0 0 0 1) [] (unit_with empty_tape (newly_joined a ∷ [])) ≡ (
       unit_with empty_tape (newly_joined a ∷
@@ -146,7 +147,7 @@ tapes : ((perform_at a test_unit_ready [] (unit_with empty_tape (a_was_told ∷ 
 unfolding performed_as judged told unit_done
 tapes = (refl, refl)
 
--- LUN 1 where there is unit 0 alone: 05/2500
+-- LUN 1 if there is unit 0 alone: 05/2500
 no_unit : perform (unit_with disk [] ∷ []) a (0 ∷ 1 ∷ replicate 6 0) test_unit_ready [] ≡ (
   unit_with disk [] ∷
       [],
@@ -155,7 +156,7 @@ no_unit : perform (unit_with disk [] ∷ []) a (0 ∷ 1 ∷ replicate 6 0) test_
 unfolding perform lun_number without_unit
 no_unit = refl
 
--- INQUIRY of 36 bytes, to a unit and where there is none; the attention stays to be told
+-- INQUIRY of 36 bytes, to a unit and to none; the attention stays pending
 inquired : (perform_at a inquiry [] (unit_with disk (newly_joined a ∷ [])) ≡ (
   unit_with disk (newly_joined a ∷
       []),
@@ -165,14 +166,14 @@ inquired : (perform_at a inquiry [] (unit_with disk (newly_joined a ∷ [])) ≡
 unfolding perform performed_as judged told unit_done inquiry_outcome lun_number without_unit
 inquired = (refl, refl)
 
--- cut to an allocation length of 5; page B0h of a tape, and a page where there is no unit, are no pages
+-- cut to an allocation length of 5. Page B0h of a tape, and a page without a unit, are refused
 inquired_in_part : ((perform_at a (0x12 ∷ 0 ∷ 0 ∷ 0 ∷ 5 ∷ replicate 11 0) [] (unit_with disk [])).1 ≡ good_with (0 ∷ 0 ∷ 6 ∷ 2 ∷ 0x1f ∷ []))
     × ((perform_at a (0x12 ∷ 1 ∷ 0xb0 ∷ 0 ∷ 64 ∷ replicate 11 0) [] (unit_with empty_tape [])).1 ≡ check_condition invalid_field)
     × ((perform (unit_with disk [] ∷ []) a (0 ∷ 1 ∷ replicate 6 0) (0x12 ∷ 1 ∷ 0 ∷ 0 ∷ 64 ∷ replicate 11 0) []).1 ≡ check_condition invalid_field)
 unfolding perform performed_as judged told unit_done inquiry_outcome lun_number without_unit
 inquired_in_part = (refl, refl, refl)
 
--- REQUEST SENSE gives the attention and takes it away; then there is nothing to tell; where there is no unit it gives 05/2500
+-- REQUEST SENSE returns the attention and clears it; then no sense is left; without a unit it returns 05/2500
 abbrev request_sense : List ℕ
 request_sense = 0x03 ∷ 0 ∷ 0 ∷ 0 ∷ 18 ∷ replicate 11 0
 
@@ -194,12 +195,12 @@ requested : (perform_at a request_sense [] (unit_with disk (newly_joined a ∷ [
 unfolding perform performed_as judged told unit_done sense_outcome lun_number without_unit
 requested = (refl, refl, refl)
 
--- of allocation length 0 it still takes the attention away
+-- with allocation length 0 it still clears the attention
 requested_none : perform_at a (0x03 ∷ replicate 15 0) [] (unit_with disk (newly_joined a ∷ [])) ≡ (unit_with disk (a_was_told ∷ []), good_with [])
 unfolding performed_as judged told unit_done sense_outcome
 requested_none = refl
 
--- REPORT LUNS of LUN 1 and LUN 0, in rising order, sent to either, and where there is no unit
+-- REPORT LUNS of LUN 1 and LUN 0, in rising order, sent to either, and to a LUN without a unit
 abbrev two_units : List UnitState
 two_units = record (unit_with empty_tape (newly_joined a ∷ [])) { lun = 1 } ∷ unit_with disk [] ∷ []
 
@@ -212,7 +213,8 @@ reported : (perform two_units a (0 ∷ 1 ∷ replicate 6 0) report_luns [] ≡ (
 unfolding perform lun_number luns_outcome rising reported_luns without_unit
 reported = (refl, refl, refl)
 
--- MODE SELECT (6) of 16 bytes that sets SWP: the other nexus is to be told, the one that set it is not; the same list again tells nobody
+-- MODE SELECT (6) of 16 bytes that sets SWP: an attention is pending for the other nexus, not for the one that set it.
+-- The same list again raises none
 abbrev sets_swp : List ℕ
 sets_swp = 0 ∷ 0 ∷ 0 ∷ 0 ∷ 0x0a ∷ 0x0a ∷ 0 ∷ 0 ∷ 0x08 ∷ replicate 7 0
 
@@ -239,7 +241,8 @@ mode_select_refused : perform_at a mode_select (0 ∷ 0 ∷ 0 ∷ 0 ∷ []) (uni
 unfolding performed_as judged told unit_done selected
 mode_select_refused = refl
 
--- MODE SENSE (6) of page 0Ah without descriptor, of which 5 bytes are wanted; and of a page that a tape does not have
+-- MODE SENSE (6) of page 0Ah without descriptor, of which 5 bytes are requested; and of a page that a tape does not
+-- have
 mode_senses : ((perform_at a (0x1a ∷ 0x08 ∷ 0x0a ∷ 0 ∷ 5 ∷ replicate 11 0) [] (unit_with disk (a_was_told ∷
     []))).1 ≡ good_with (0x0f ∷ 0 ∷ 0x10 ∷ 0 ∷ 0x0a ∷ []))
     × ((perform_at a (0x1a ∷ 0x08 ∷ 0x08 ∷ 0 ∷ 5 ∷ replicate 11 0) [] (unit_with empty_tape (a_was_told ∷ []))).1 ≡ check_condition invalid_field)
@@ -250,11 +253,12 @@ mode_senses = (refl, refl)
 abbrev tape_of_blocks : ℕ → DeviceState
 tape_of_blocks block_length = Tape (record (opened_unit empty) { block_length = block_length })
 
--- READ (6) with these flags in byte 1, of so many blocks
+-- READ (6) of `count` blocks, with these flags in byte 1
 abbrev read_6 : ℕ → ℕ → List ℕ
 read_6 flags count = 0x08 ∷ flags ∷ 0 ∷ 0 ∷ count ∷ replicate 11 0
 
--- a READ with FIXED is refused where the tape has no block length, of no blocks too, and with SILI; else it meets the end of data
+-- a READ with FIXED is refused if the tape has no block length, even of no blocks, and with SILI. Else it meets the end
+-- of data
 reads_blocks_of_a_tape : ((perform_at a (read_6 1 1) [] (unit_with empty_tape (a_was_told ∷ []))).1 ≡ check_condition invalid_field)
     × ((perform_at a (read_6 1 0) [] (unit_with empty_tape (a_was_told ∷ []))).1 ≡ check_condition invalid_field)
     × ((perform_at a (read_6 3 1) [] (unit_with (tape_of_blocks 20) (a_was_told ∷ []))).1 ≡ check_condition invalid_field)
@@ -262,7 +266,8 @@ reads_blocks_of_a_tape : ((perform_at a (read_6 1 1) [] (unit_with empty_tape (a
 unfolding performed_as judged told
 reads_blocks_of_a_tape = (refl, refl, refl, refl)
 
--- MODE SELECT (6) of 12 bytes that sets the block length to 20: the other nexus is to be told; the same list again tells nobody
+-- MODE SELECT (6) of 12 bytes that sets the block length to 20: an attention is pending for the other nexus. The same
+-- list again raises none
 abbrev sets_block_length : List ℕ
 sets_block_length = 0 ∷ 0 ∷ 0 ∷ 8 ∷ 0 ∷ 0 ∷ 0 ∷ 0 ∷ 0 ∷ 0 ∷ 0 ∷ 20 ∷ []
 

@@ -41,7 +41,7 @@ held_by_a kind = record {
   generation = 1;
 }
 
--- both have had their attention told
+-- the attention of both has been reported
 abbrev pub both_told : List Joined
 both_told = record { nexus = a; attentions = [] } ∷ record { nexus = b; attentions = [] } ∷ []
 
@@ -58,7 +58,7 @@ read_10 = 0x28 ∷ replicate 7 0 ++ 1 ∷ replicate 7 0
 abbrev write_10 : List ℕ
 write_10 = 0x2a ∷ replicate 7 0 ++ 1 ∷ replicate 7 0
 
--- a holds type 5: b reads and does not write; type 3: b does not read either, and TEST UNIT READY goes on
+-- a holds type 5: b reads and does not write; type 3: b does not read either, and TEST UNIT READY still works
 conflicts : ((perform_at b read_10 [] (unit_with (held_by_a WriteExclusiveRegistrantsOnly))).1 ≡ good_with (replicate 2 0x61))
     × (perform_at b write_10 [] (unit_with (held_by_a WriteExclusiveRegistrantsOnly))
     ≡ (unit_with (held_by_a WriteExclusiveRegistrantsOnly), reservation_conflict))
@@ -74,7 +74,7 @@ failed = record (unit_with (held_by_a ExclusiveAccess)) { device = Disk (record 
 abbrev new_to_b : UnitState
 new_to_b = record (unit_with (held_by_a ExclusiveAccess)) { joined = newly_joined b ∷ [] }
 
--- an attention is told before a conflict, and a conflict before the unit is not ready and before a field is refused
+-- an attention is reported before a conflict, and a conflict before an unready unit and before a field that is refused
 in_order : ((perform_at b read_10 [] new_to_b).1 ≡ check_condition (plain_sense (UnitAttention PowerOnOrReset)))
     × ((perform_at b read_10 [] failed).1 ≡ reservation_conflict)
     × ((perform_at a read_10 [] failed).1 ≡ check_condition target_failure)
@@ -91,7 +91,7 @@ reserve_out action kind = 0x5f ∷ action ∷ kind ∷ replicate 5 0 ++ 24 ∷ r
 abbrev keys : ℕ → ℕ → List ℕ
 keys key action_key = replicate 7 0 ++ key ∷ replicate 7 0 ++ action_key ∷ replicate 8 0
 
--- a registers with a unit that nobody is registered with
+-- a registers with a unit without registrations
 registers : perform_at a (reserve_out 0 0) (keys 0 0xa1) (unit_with empty_table) ≡ (
   unit_with (record { rows = record { nexus = a; key = 0xa1 } ∷ []; reservation = None; generation = 1 }),
   good_taking 24,
@@ -99,8 +99,8 @@ registers : perform_at a (reserve_out 0 0) (keys 0 0xa1) (unit_with empty_table)
 unfolding performed_as judged told unit_done reserved_out out_of registered
 registers = refl
 
--- b, which is not registered, may not reserve: RESERVATION CONFLICT; a list of 23 bytes, data that is shorter than its
--- list, and a type that is none, which is told before the length
+-- b, which is not registered, may not reserve: RESERVATION CONFLICT. Refused are a list of 23 bytes, data shorter than
+-- its list, and a type that does not exist. The type is reported before the length
 refused : (perform_at b (reserve_out 1 1) (keys 0 0) (unit_with empty_table) ≡ (unit_with empty_table, reservation_conflict))
     × (perform_at b (0x5f ∷ replicate 7 0 ++ 23 ∷ replicate 7 0) (replicate 23 0) (unit_with empty_table)
     ≡ (unit_with empty_table, check_condition (plain_sense ParameterListLengthError)))
@@ -117,7 +117,7 @@ with_b = record {
   generation = 2;
 }
 
--- b preempts a, which is then to be told; a may do no more than commands that are always allowed
+-- b preempts a, for which an attention is then pending; a may only use commands that are always allowed
 abbrev preempted_by_b : UnitState
 preempted_by_b = record (unit_with (record {
   rows = record { nexus = b; key = 0xb2 } ∷ [];

@@ -1,4 +1,4 @@
--- Commands that write to a disk of 5 blocks of zeros, or ask what stands on it, computed.
+-- Commands that write to a disk of 5 blocks of zeros, or read what stands on it, computed.
 use Rattle.std.specs.Prelude.{◌≡◌, List, ℕ, [], ◌∷◌, ◌++◌, None, Bool, true, false, replicate, refl}
 use Rattle.scsi_sense.specs.Sense.{sense_bytes}
 use Rattle.scsi_sense.specs.Done.{good, good_taking, check_condition}
@@ -46,14 +46,14 @@ with_blocks blocks synced = unit_of (record the_disk { disk = record the_disk.di
 abbrev the_unit : UnitState
 the_unit = unit_of the_disk
 
--- a command of 10 bytes with this byte 1, of so many blocks from this one on
+-- a command of 10 bytes with this byte 1, of `count` blocks from this one on
 abbrev command_10 : ℕ → ℕ → ℕ → ℕ → List ℕ
 command_10 code byte_1 first count = code ∷ byte_1 ∷ 0 ∷ 0 ∷ 0 ∷ first ∷ 0 ∷ 0 ∷ count ∷ replicate 7 0
 
 abbrev compare_and_write : ℕ → ℕ → List ℕ
 compare_and_write first count = 0x89 ∷ replicate 8 0 ++ first ∷ 0 ∷ 0 ∷ 0 ∷ count ∷ 0 ∷ 0 ∷ []
 
--- WRITE (10) of block 3 with a payload of a block and more: its front counts, and with FUA it is on the medium
+-- WRITE (10) of block 3 with a payload of a block and more: its first bytes count, and with FUA they are on the medium
 writes : (perform_at a (command_10 0x2a 0 3 1) (fives ++ 1 ∷ []) the_unit
     ≡ (with_blocks (zeros ∷ zeros ∷ zeros ∷ fives ∷ zeros ∷ []) false, good_taking 512))
     × (perform_at a (command_10 0x2a 0x08 3 1) fives the_unit ≡ (with_blocks (zeros ∷ zeros ∷ zeros ∷ fives ∷ zeros ∷ []) true, good_taking 512))
@@ -68,8 +68,8 @@ writes_refused : (perform_at a (command_10 0x2a 0 5 1) fives the_unit ≡ (the_u
 unfolding performed_as judged told unit_done
 writes_refused = (refl, refl, refl)
 
--- SWP: WRITE of one block and of none, WRITE SAME and COMPARE AND WRITE are refused, behind a payload that is too short;
--- SYNCHRONIZE CACHE and VERIFY are not
+-- SWP: WRITE of one block and of none, WRITE SAME and COMPARE AND WRITE are refused, after a payload that is too short
+-- is. SYNCHRONIZE CACHE and VERIFY are not
 abbrev protected : UnitState
 protected = unit_of (record the_disk { write_protect = true })
 
@@ -83,7 +83,8 @@ is_protected : (perform_at a (command_10 0x2a 0 3 1) fives protected ≡ (protec
 unfolding performed_as judged told unit_done
 is_protected = (refl, refl, refl, refl, refl, refl, refl)
 
--- VERIFY (10) of a block that differs at byte 7, and of one that does not; of 5 blocks without data, and of one past the end
+-- VERIFY (10) of a block that differs at byte 7, and of one that does not. VERIFY (10) of 5 blocks without data, and of
+-- one past the end
 verifies : (perform_at a (command_10 0x2f 0x02 3 1) (replicate 7 0 ++ 0x01 ∷ replicate 504 0) the_unit ≡ (the_unit, check_condition (miscompare 7)))
     × (perform_at a (command_10 0x2f 0x02 3 1) zeros the_unit ≡ (the_unit, good_taking 512))
     × (perform_at a (command_10 0x2f 0 0 5) [] the_unit ≡ (the_unit, good))
@@ -112,14 +113,14 @@ same : (perform_at a (command_10 0x41 0 2 2) fives the_unit ≡ (with_blocks (ze
 unfolding performed_as judged told unit_done
 same = (refl, refl)
 
--- SYNCHRONIZE CACHE (10) of no block syncs all; past the end it does not
+-- SYNCHRONIZE CACHE (10) of no block syncs everything; past the end it does not
 synchronizes : (perform_at a (command_10 0x35 0 5 0) [] the_unit ≡ (with_blocks (replicate 5 zeros) true, good))
     × (perform_at a (command_10 0x35 0 5 1) [] the_unit ≡ (the_unit, check_condition out_of_range))
 unfolding performed_as judged told unit_done
 synchronizes = (refl, refl)
 
--- a write fails half way: 03/0C00, the block is open, and the unit is not ready: 04/4400 to READ, WRITE, VERIFY and TEST
--- UNIT READY
+-- a write fails half way: 03/0C00, and the content of the block is not defined. The unit is not ready: 04/4400 to READ,
+-- WRITE, VERIFY, SYNCHRONIZE CACHE and TEST UNIT READY
 abbrev torn : List (List ℕ)
 torn = zeros ∷ zeros ∷ zeros ∷ (replicate 100 0x55 ++ replicate 412 0) ∷ zeros ∷ []
 
@@ -141,14 +142,14 @@ compare_fails : performed_as (on_disk (ReadFailed true)) a (compare_and_write 3 
 unfolding performed_as judged told unit_done
 compare_fails = refl
 
--- a store that shows what is not there, to a COMPARE AND WRITE with FUA: it may find no difference, and write
+-- an inconsistent store, with a COMPARE AND WRITE with FUA: it may find no difference, and write
 compare_is_misled : performed_as (on_disk (Dishonest (record { given = []; difference = None }) torn)) a
     (0x89 ∷ 0x08 ∷ replicate 7 0 ++ 3 ∷ 0 ∷ 0 ∷ 0 ∷ 1 ∷ 0 ∷ 0 ∷ []) (fives ++ fives) the_unit
     ≡ (unit_of (record the_disk { disk = record the_disk.disk { blocks = torn; synced = true; honest = false } }), good_taking 1024)
 unfolding performed_as judged told unit_done blocks_of
 compare_is_misled = refl
 
--- SYNCHRONIZE CACHE touches the medium, a WRITE and a VERIFY of no block and a VERIFY without data do not
+-- SYNCHRONIZE CACHE touches the medium; a WRITE and a VERIFY of no block, and a VERIFY without data, do not
 touched : (touches (touch_at a (command_10 0x35 0 0 0) [] the_unit) ≡ true)
     × (touches (touch_at a (command_10 0x2a 0x08 3 0) [] the_unit) ≡ false)
     × (touches (touch_at a (command_10 0x2f 0x02 3 0) [] the_unit) ≡ false)

@@ -1,4 +1,4 @@
--- What tells of a unit whatever its medium: INQUIRY, REPORT LUNS and REQUEST SENSE, also where there is no unit.
+-- What identifies a unit whatever its medium: INQUIRY, REPORT LUNS and REQUEST SENSE, even if there is no unit.
 use Rattle.std.specs.Prelude.{ℕ, List, take, Bool, false, Option, Some, None, Result, Ok, Err, if◌then◌else◌, slice_index}
 use Rattle.scsi_sense.specs.Sense.{plain_sense, sense_bytes}
 use Rattle.scsi_sense.specs.Done.{Outcome, good_with, check_condition}
@@ -22,7 +22,7 @@ use Rattle.scsi_inquiry.specs.Luns.{lun_data}
 use Rattle.scsi_inquiry.specs.declared.peripheral.Peripheral.TheVariants as peripheral
 use Rattle.scsi_inquiry.specs.declared.vpd_page.VpdPage.{VpdPage}
 
--- SPC-4 "INQUIRY command": a page that the unit has; another is a field that is refused
+-- SPC-4 "INQUIRY command": a page that the unit has; any other is a refused field
 abbrev pub page_outcome : Kind → List ℕ → ℕ → Option VpdPage → Outcome
 page_outcome kind serial allocation_length None = check_condition invalid_field
 page_outcome kind serial allocation_length (Some page) = good_with (take allocation_length (page_data kind serial page))
@@ -36,11 +36,11 @@ inquiry_outcome kind serial (Some code) allocation_length = page_outcome kind se
 unfoldable pub luns_outcome : List ℕ → ReportLunsFields → Outcome
 luns_outcome numbers fields = good_with (take fields.allocation_length (lun_data fields.select numbers))
 
--- SPC-4 "REQUEST SENSE command": sense data is given as data, with GOOD
+-- SPC-4 "REQUEST SENSE command": sense data is returned as data, with GOOD
 unfoldable pub sense_outcome : Sense → ℕ → Outcome
 sense_outcome sense allocation_length = good_with (take allocation_length (sense_bytes sense))
 
--- SPC-4 "REQUEST SENSE command": the attention that is still to be told, or that there is nothing to tell
+-- SPC-4 "REQUEST SENSE command": the attention that is pending, or that there is no sense
 abbrev pub pending_sense : Option Attention → Sense
 pending_sense None = plain_sense NoAdditionalSenseInformation
 pending_sense (Some code) = plain_sense (UnitAttention code)
@@ -49,7 +49,7 @@ pending_sense (Some code) = plain_sense (UnitAttention code)
 abbrev pub unsupported : Sense
 unsupported = plain_sense LogicalUnitNotSupported
 
--- SPC-4 "INQUIRY command", "REQUEST SENSE command": what a command is answered where there is no unit, which has no page
+-- SPC-4 "INQUIRY command", "REQUEST SENSE command": the answer to a command if there is no unit, which has no pages
 abbrev pub outcome_without_unit : Result Command FieldFault → Outcome
 outcome_without_unit (Err fault) = check_condition (field_sense fault)
 outcome_without_unit (Ok (to.Unit (Inquiry None allocation_length))) = good_with (take allocation_length (standard_data peripheral.NoUnit))
@@ -69,7 +69,7 @@ row_without_unit None cdb = check_condition unsupported
 row_without_unit (Some row) cdb =
     if row.passes_missing_unit then outcome_without_unit (fields_of row.operation cdb 0) else check_condition unsupported
 
--- what goes on where there is no unit, by the table of operations; any other command is 05/2500
+-- the commands that work if there is no unit, by the table of operations; any other command is 05/2500
 unfoldable pub without_unit : List ℕ → Outcome
 without_unit cdb = row_without_unit (row_of (slice_index cdb 0)) cdb
 
@@ -85,6 +85,6 @@ abbrev pub report_outcome : List ℕ → Result ReportLunsFields FieldFault → 
 report_outcome numbers (Err fault) = check_condition (field_sense fault)
 report_outcome numbers (Ok fields) = luns_outcome numbers fields
 
--- SPC-4 "REPORT LUNS command": what it is answered by a target whose units have these numbers
+-- SPC-4 "REPORT LUNS command": the answer of a target whose units have these numbers
 unfoldable pub reported_luns : List ℕ → List ℕ → Outcome
 reported_luns numbers cdb = report_outcome numbers (report_luns_of cdb)

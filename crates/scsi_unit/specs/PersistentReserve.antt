@@ -14,24 +14,24 @@ use Rattle.scsi_reserve.specs.declared.outcome.Ended.TheVariants.{Good, Reservat
 use Rattle.scsi_unit.specs.Joined.{raised_due}
 use Rattle.scsi_unit.specs.State.{UnitState}
 
--- SPC-4 "PERSISTENT RESERVE IN command": what it gives of a table
+-- SPC-4 "PERSISTENT RESERVE IN command": what it returns of a table
 unfoldable pub reserve_in_outcome : ReserveInFields → TableState → Outcome
 reserve_in_outcome fields table = good_with (take fields.allocation_length (data_of fields.action table))
 
--- what is told of how PERSISTENT RESERVE OUT ended; with GOOD it took its parameter list
+-- the outcome of PERSISTENT RESERVE OUT by how it ended; with GOOD it took its parameter list
 abbrev pub ended_outcome : ℕ → Ended → Outcome
 ended_outcome list_length Good = good_taking list_length
 ended_outcome list_length ReservationConflict = reservation_conflict
 ended_outcome list_length (CheckCondition condition) = check_condition (plain_sense condition)
 
--- the unit with this table, whose change these are told of
+-- the unit with this table, with the attentions that its change establishes
 abbrev pub reserved_as : ℕ → UnitState → TableState × Ending → UnitState × Outcome
 reserved_as list_length unit p = (
   record unit { reservations = p.0; joined = raised_due p.1.due unit.joined },
   ended_outcome list_length p.1.ended,
 )
 
--- SPC-4 "PERSISTENT RESERVE OUT command", with this data, which has the parameter list in front
+-- SPC-4 "PERSISTENT RESERVE OUT command", with this data, which begins with the parameter list
 unfoldable pub reserved_out : NexusName → List ℕ → UnitState → ReserveOutFields → UnitState × Outcome
 reserved_out nexus bytes unit fields =
     reserved_as fields.list_length unit

@@ -4,9 +4,9 @@ use Rattle.scsi_reserve.specs.Table.{TableState}
 use Rattle.scsi_unit.specs.Device.{DeviceState}
 use Rattle.scsi_unit.specs.declared.joined.Joined.{Joined}
 
--- a unit: its number, its serial number, its device, who is registered with it and what is reserved (SPC-4 "Persistent
--- reservations"), and each nexus that is joined to it with the unit attentions that it has still to be told, in order
--- (SAM-5 "Unit attention condition")
+-- a unit: its number, its serial number, its device, its registrations and its reservation (SPC-4 "Persistent
+-- reservations"). Each nexus that is joined has the unit attentions pending for it, in order (SAM-5 "Unit attention
+-- condition")
 pub record UnitState : Type 0 where
   pub lun : ℕ
   pub serial : List ℕ

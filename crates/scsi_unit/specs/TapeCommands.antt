@@ -30,14 +30,14 @@ loads (LoadUnload load) is_loaded = if load then not is_loaded else false
 loads (Locate number) is_loaded = false
 loads ReadPosition is_loaded = false
 
--- own: the room of a buffer for all that READ (6) asks for, in bytes, with what is sent in front of it and behind it
+-- own: the room of a buffer for all that READ (6) requests, in bytes, with what is sent before it and after it
 abbrev pub likely_room : TapeCommand → ℕ
 likely_room (Read asked incorrect) = headroom + asked + tailroom
 likely_room (ReadFixed blocks) = headroom + bytes_of blocks + tailroom
 likely_room other = 0
 
--- a command with this data to the tape of a unit, by how it came out; where it loads the tape the others are to be told (NOT
--- READY TO READY CHANGE, MEDIUM MAY HAVE CHANGED)
+-- a command with this data to the tape of a unit, by how it came out. If it loads the tape, an attention is established
+-- for the others (NOT READY TO READY CHANGE, MEDIUM MAY HAVE CHANGED)
 abbrev pub tape_performed : TapeCame → NexusName → List ℕ → UnitState → DeviceState → TapeCommand → UnitState × Outcome
 tape_performed came nexus bytes unit (Disk disk) command = (unit, check_condition invalid_operation_code)
 tape_performed came nexus bytes unit (Tape on) command = (

@@ -33,9 +33,9 @@ use Rattle.scsi_unit.specs.Checks.{judged}
 use Rattle.scsi_unit.specs.declared.refusal.Refusal.{Refusal}
 use Rattle.scsi_unit.specs.declared.refusal.Refusal.TheVariants.{Refused, Told, Conflict}
 
--- ---- who is joined
+-- ---- the nexuses that are joined
 
--- a unit that no nexus is joined to, and none is registered with
+-- a unit without joined nexuses and registrations
 abbrev pub free_unit : ℕ → List ℕ → DeviceState → UnitState
 free_unit lun serial device = record { lun = lun; serial = serial; device = device; reservations = empty_table; joined = [] }
 
@@ -58,8 +58,8 @@ unfoldable pub mode_sense_outcome : ℕ → Option (List ℕ) → Outcome
 mode_sense_outcome allocation_length None = check_condition invalid_field
 mode_sense_outcome allocation_length (Some bytes) = good_with (take allocation_length bytes)
 
--- SPC-4 "MODE SELECT (6) command": the parameters are as the list sets them, and where they changed the others are to be
--- told (MODE PARAMETERS CHANGED)
+-- SPC-4 "MODE SELECT (6) command": the parameters are as the list sets them. If they changed, an attention is
+-- established for the others (MODE PARAMETERS CHANGED)
 abbrev pub with_modes : NexusName → Parameters → UnitState → UnitState
 with_modes nexus parameters unit =
     record unit {
@@ -74,8 +74,8 @@ abbrev pub mode_selected : NexusName → UnitState → ℕ → Result Parameters
 mode_selected nexus unit list_length (Err fault) = (unit, check_condition (fault_sense fault))
 mode_selected nexus unit list_length (Ok parameters) = (with_modes nexus parameters unit, good_taking list_length)
 
--- SPC-4 "Commands for all device types": what a command with this data does to a unit. REQUEST SENSE takes the attention
--- away that it gives; a unit that is asked itself reports its own LUN
+-- SPC-4 "Commands for all device types": what a command with this data does to a unit. REQUEST SENSE clears the
+-- attention that it returns; a unit by itself reports its own LUN
 unfoldable pub unit_done : NexusName → List ℕ → UnitState → UnitCommand → UnitState × Outcome
 unit_done nexus bytes unit TestUnitReady = (unit, good)
 unit_done nexus bytes unit (RequestSense allocation_length) =
@@ -109,7 +109,7 @@ carried_out came nexus bytes unit (to.Unit command) = unit_done nexus bytes unit
 carried_out came nexus bytes unit (to.Disk command) = disk_done (disk_came came) bytes unit unit.device command
 carried_out came nexus bytes unit (to.Tape command) = tape_performed (tape_came came) nexus bytes unit unit.device command
 
--- SAM-5 "Unit attention condition": one that is told in place of a command is then taken away
+-- SAM-5 "Unit attention condition": one that is reported in place of a command is then cleared
 abbrev pub refused_with : NexusName → UnitState → Refusal → UnitState × Outcome
 refused_with nexus unit (Refused sense) = (unit, check_condition sense)
 refused_with nexus unit Conflict = (unit, reservation_conflict)
@@ -127,7 +127,7 @@ performed_as came nexus cdb bytes unit = done_by came nexus bytes unit (judged n
 abbrev pub perform_at : NexusName → List ℕ → List ℕ → UnitState → UnitState × Outcome
 perform_at nexus cdb bytes unit = performed_as AsDefined nexus cdb bytes unit
 
--- ---- what may come of it
+-- ---- possible outcomes
 
 -- own: what a command with this data does with the medium of a device
 abbrev pub touch_by : List ℕ → DeviceState → Command → Touch
@@ -141,18 +141,18 @@ abbrev pub touch_where : List ℕ → DeviceState → Result Command Refusal →
 touch_where bytes device (Err refusal) = Nothing
 touch_where bytes device (Ok command) = touch_by bytes device command
 
--- own: .. with that of a unit: nothing where a check refuses it
+-- own: the same for the medium of a unit: nothing if a check refuses it
 unfoldable pub touch_at : NexusName → List ℕ → List ℕ → UnitState → Touch
 touch_at nexus cdb bytes unit = touch_where bytes unit.device (judged nexus cdb bytes unit)
 
--- own: a command came out in one of the ways in which it can, and the unit and what is told are so
+-- own: a command came out in one of its possible ways, which gives the unit and the outcome
 pub record IsPerformed (touch : Touch) (should : CameOut → UnitState × Outcome) (old new : UnitState) (done : Outcome) : Type 0 where
   pub came : CameOut
   pub possible : way came touch ≡ came
   pub store : store_of new.device ≡ store_after came old.device
   pub answer : (new, done) ≡ should came
 
--- a command with this data to a unit, by how it came out, as far as it can
+-- a command with this data to a unit, by how it came out, if that is possible
 abbrev pub came_out_at : CameOut → NexusName → List ℕ → List ℕ → UnitState → UnitState × Outcome
 came_out_at came nexus cdb bytes unit = performed_as (way came (touch_at nexus cdb bytes unit)) nexus cdb bytes unit
 
@@ -166,7 +166,7 @@ is_number lun (Some number) = number == lun
 abbrev pub names_unit : List ℕ → UnitState → Bool
 names_unit lun unit = is_number unit.lun (lun_number lun)
 
--- f of this unit, where a LUN field names it
+-- f of this unit, if a LUN field names it
 abbrev pub where_named : List ℕ → (UnitState → UnitState) → UnitState → UnitState
 where_named lun f unit = if names_unit lun unit then f unit else unit
 
@@ -175,6 +175,6 @@ unfoldable pub perform_as : CameOut → NexusName → List ℕ → List ℕ → 
 perform_as came nexus lun cdb bytes unit =
     if names_unit lun unit then performed_as came nexus cdb bytes unit else (unit, without_unit cdb)
 
--- and what it does to the medium
+-- and what it does with the medium
 unfoldable pub touch_with : NexusName → List ℕ → List ℕ → List ℕ → UnitState → Touch
 touch_with nexus lun cdb bytes unit = if names_unit lun unit then touch_at nexus cdb bytes unit else Nothing

@@ -1,4 +1,4 @@
-//! Buffers for the data that commands give, which are used again.
+//! Buffers for the data that commands return, which are used again.
 
 ghost use Rattle.std.specs.Prelude.{◌≡◌, ◌<◌, ◌≤◌, ◌++◌, ◌∷◌, ◌+◌, [], true, false, length, nat_lt, nat_le, ◌==◌, if◌then◌else◌, vec_len, vec_capacity, IfOk, IfSome, IfNone};
 ghost use Rattle.scsi_unit.specs.Buffers.{most_short, rooms, no_places, all_places, kept_with, Takes, TakesAny, TakesLeast, IsLeast, GivesBack};
@@ -11,27 +11,28 @@ use scsi_sense::{HEADROOM, TAILROOM};
 use std::alloc::{AllocError, Global};
 use std::marker::Model;
 
-/// A buffer with more room than this is long: with more than a connection keeps for its answers. The buffer of a short
-/// READ may become that of the answers, and a long one is then given back to the system, to be made, and filled, anew.
+/// The most room of a short buffer; a connection keeps no more than this for its answers. The buffer of a short READ
+/// may become that of the answers. A long one would then be given back to the system, and have to be made and filled
+/// anew.
 const SHORT: usize = 65_536;
 
-/// How many short buffers are kept at most.
+/// The most short buffers that are kept.
 const MOST_SHORT: usize = 256;
 
-/// How many long buffers are kept at most: as many as there may be room for.
+/// The most long buffers that are kept: as many as there may be room for.
 const MOST_LONG: usize = MOST_ROOM / SHORT;
 
-/// How many bytes of room they have together at most: that of four of the longest READs.
+/// The most bytes of room that they have together: that of four of the longest READs.
 const MOST_ROOM: usize = 4 * (HEADROOM + BLOCK_LENGTH * MOST_BLOCKS as usize + TAILROOM);
 
-/// Buffers in which commands gave their data, whose bytes are used no more, each with its room in bytes. Their bytes
-/// never leave the target. Of the long ones a READ takes the smallest that has its room, so that none is made anew
-/// where one would do, and a larger one is left for a longer READ. Clauses see the room of each.
+/// Buffers in which commands returned their data, and whose bytes are no longer used, each with its room in bytes.
+/// Their bytes never leave the target. Of the long ones, a READ takes the smallest that has its room. So none is made
+/// anew if one would do, and a larger one is left for a longer READ. Clauses see the room of each.
 #[derive(Drop)]
 pub(crate) struct Buffers {
     short: Vec<(BytesMut, usize)>,
     long: Vec<(BytesMut, usize)>,
-    /// Of all, in bytes.
+    /// The room of all, in bytes.
     room: usize,
 }
 
@@ -51,7 +52,7 @@ impl Model for Buffers {
     ghost invariant = { λ buffers. IsWithin buffers.room (rooms buffers.short.items) (rooms buffers.long.items) };
 }
 
-/// Keeps a buffer, where there is a place for it: whether there was.
+/// Keeps a buffer if there is a place for it, and returns whether there was.
 fn put(kept: &mut Vec<(BytesMut, usize)>, buffer: BytesMut, room: usize) -> bool
     ensures place { result ≡ nat_lt (vec_len kept.old) (vec_capacity kept.old) }
     ensures put { result ≡ true → rooms kept.new.items ≡ rooms kept.old.items ++ room ∷ [] }
@@ -65,8 +66,8 @@ fn put(kept: &mut Vec<(BytesMut, usize)>, buffer: BytesMut, room: usize) -> bool
     true
 }
 
-/// Tells whether a buffer that has so much room suits better than one that was found: it has what is wanted, and no
-/// more than the other, or the other has too little.
+/// Returns whether a buffer with `has` bytes of room suits better than the one found. It does if it has the room
+/// wanted, and no more than the other, or if the other has too little.
 fn suits_better(has: usize, found: usize, wanted: usize) -> bool
     ensures enough { result ≡ true → wanted ≤ has }
     ensures smaller { result ≡ true → wanted ≤ found → has ≤ found }
@@ -75,8 +76,7 @@ fn suits_better(has: usize, found: usize, wanted: usize) -> bool
     has >= wanted && (has <= found || found < wanted)
 }
 
-/// Finds the smallest of these buffers that has this room, the last of several. Where none has it, finds the last of
-/// all.
+/// Finds the smallest of these buffers that has this room, the last of several. If none has it, finds the last of all.
 fn least(kept: &[(BytesMut, usize)], room: usize) -> usize
     requires { 0 < length kept.now }
     ensures within { result < length kept.now }
@@ -91,7 +91,7 @@ fn least(kept: &[(BytesMut, usize)], room: usize) -> usize
     found
 }
 
-/// Takes the smallest of these buffers that has this room. Where none has it, takes the last, which will grow.
+/// Takes the smallest of these buffers that has this room. If none has it, takes the last, which will grow.
 fn take_least(kept: &mut Vec<(BytesMut, usize)>, room: usize) -> Option<(BytesMut, usize)>
     ensures taken { IfSome result (λ taken. TakesLeast room (rooms kept.old.items) taken.1 (rooms kept.new.items)) }
     ensures none { IfNone result ((rooms kept.old.items ≡ []) × (rooms kept.new.items ≡ [])) }
@@ -104,8 +104,8 @@ fn take_least(kept: &mut Vec<(BytesMut, usize)>, room: usize) -> Option<(BytesMu
     Some(kept.remove(at))
 }
 
-/// Tells whether a short buffer is taken for this room, of so many short and long ones: where the room is short and
-/// there is one, or where there is no long one.
+/// Returns whether a short buffer is taken for this room, given the numbers of short and long ones. It is if the room
+/// is short and there is a short one, or if there is no long one.
 fn is_from_short(room: usize, short: usize, long: usize) -> bool
     ensures { result ≡ (if nat_le room most_short then nat_lt 0 short else long == 0) }
 {
@@ -113,7 +113,7 @@ fn is_from_short(room: usize, short: usize, long: usize) -> bool
 }
 
 impl Buffers {
-    /// None, and no place for any. It takes no memory.
+    /// Returns no buffers and no places for any. It allocates nothing.
     pub fn new(alloc: Global) -> Buffers
         ensures { result ≡ no_places }
     {
@@ -124,7 +124,7 @@ impl Buffers {
         }
     }
 
-    /// None, with their places, so that keeping one takes no memory.
+    /// Returns no buffers, but places for them, so that keeping one allocates nothing.
     pub fn with_places(alloc: Global) -> Result<Buffers, AllocError>
         ensures { IfOk result (λ made. made ≡ all_places) }
     {
@@ -135,7 +135,7 @@ impl Buffers {
         })
     }
 
-    /// Keeps a buffer with this room among those of its kind, where there are a place and room for it.
+    /// Keeps a buffer with this room among those of its kind, if there are a place and room for it.
     fn keep(&mut self, buffer: BytesMut, room: usize)
         ensures { self.new ≡ kept_with room self.old }
     {
@@ -152,8 +152,7 @@ impl Buffers {
         }
     }
 
-    /// Takes a buffer for this room: of the short ones the one that was kept last, of the long ones the smallest that
-    /// has the room.
+    /// Takes a buffer for this room: the short one that was kept last, or the smallest long one that has the room.
     fn take(&mut self, room: usize) -> Option<BytesMut>
         ensures taken { IfSome result (λ _. Takes room self.old self.new) }
         ensures none { IfNone result ((self.old.short ≡ []) × (self.old.long ≡ []) × (self.new ≡ self.old)) }
@@ -168,8 +167,7 @@ impl Buffers {
     }
 }
 
-/// Takes an empty buffer, of those that are kept the one that is taken for this room, or a new one with none. It takes
-/// no memory.
+/// Takes an empty buffer: the kept one that suits this room, or a new one without room. It allocates nothing.
 pub(crate) fn take_like(alloc: Global, used: &mut Buffers, room: usize) -> BytesMut
     ensures items { result.items ≡ [] }
     ensures taken { TakesAny room used.old used.new }
@@ -194,8 +192,8 @@ pub(crate) fn take(alloc: Global, used: &mut Buffers, room: usize) -> Result<Byt
     Ok(buffer)
 }
 
-/// Keeps a buffer whose bytes are used no more, where it holds a block at least: a smaller one saves no READ an
-/// allocation.
+/// Keeps a buffer whose bytes are no longer used, if it has room for at least a block. A smaller one would save no READ
+/// an allocation.
 pub(crate) fn give_back(used: &mut Buffers, mut buffer: BytesMut)
     ensures { GivesBack (length buffer.items + buffer.spare) used.old used.new }
 {

@@ -16,13 +16,13 @@ use scsi_tape::TapeUnit;
 #[derive(Drop)]
 pub(crate) struct DiskDevice<S: Store> {
     pub disk: Disk<S>,
-    /// No write of it has failed since it was opened.
+    /// Whether no write of it has failed since it was opened.
     pub is_ready: bool,
     /// SWP: writes are refused (SPC-4 "Control mode page").
     pub write_protect: bool,
 }
 
-/// The blocks that a command names.
+/// Returns the blocks that a command names.
 fn range_named(command: &DiskCommand) -> Option<AnyRange>
     ensures { result ≡ range_named command.now }
 {
@@ -40,7 +40,7 @@ fn range_named(command: &DiskCommand) -> Option<AnyRange>
     Some(AnyRange::new(first, count))
 }
 
-/// Whether an operation with this need needs the medium.
+/// Returns whether an operation with this need needs the medium.
 fn needs_medium(need: Need) -> bool
     ensures { result ≡ needs_medium need }
 {
@@ -50,7 +50,7 @@ fn needs_medium(need: Need) -> bool
     }
 }
 
-/// What a logical unit is.
+/// The device of a logical unit.
 #[derive(Drop)]
 pub(crate) enum Device<S: Store> {
     Disk(DiskDevice<S>),
@@ -58,7 +58,7 @@ pub(crate) enum Device<S: Store> {
 }
 
 impl<S: Store> Device<S> {
-    /// The kind of unit.
+    /// Returns the kind of unit.
     pub fn kind(&self) -> Kind
         ensures { result ≡ kind_of (device_view self.now) }
     {
@@ -68,7 +68,7 @@ impl<S: Store> Device<S> {
         }
     }
 
-    /// Why it does not do an operation with this need now, where it is so.
+    /// Returns why it cannot do an operation with this need now, or `None`.
     pub fn unready(&self, need: Need) -> Option<Sense>
         ensures { result ≡ unready need (device_view self.now) }
     {
@@ -81,7 +81,7 @@ impl<S: Store> Device<S> {
         }
     }
 
-    /// What its mode parameters tell.
+    /// Returns its mode parameters.
     pub fn parameters(&self) -> Parameters
         ensures { result ≡ parameters_of (device_view self.now) }
     {
@@ -106,7 +106,7 @@ impl<S: Store> Device<S> {
         }
     }
 
-    /// The length of a tape's fixed blocks in bytes; 0 where it has none, and of a disk.
+    /// Returns the length of a tape's fixed blocks in bytes: 0 if it has none, and for a disk.
     pub fn fixed_length(&self) -> u32
         ensures { result ≡ fixed_length (device_view self.now) }
     {
@@ -116,7 +116,7 @@ impl<S: Store> Device<S> {
         }
     }
 
-    /// Whether writes to it are refused.
+    /// Returns whether writes to it are refused.
     pub fn is_protected(&self) -> bool
         ensures { result ≡ is_protected (device_view self.now) }
     {
@@ -126,7 +126,7 @@ impl<S: Store> Device<S> {
         }
     }
 
-    /// Whether it has the blocks that a command names.
+    /// Returns whether it has the blocks that a command names.
     pub fn has_range(&self, command: &Command) -> bool
         ensures { result ≡ has_range (device_view self.now) (range_of command.now) }
     {
@@ -139,7 +139,7 @@ impl<S: Store> Device<S> {
         }
     }
 
-    /// Whether it has these blocks. A tape is asked for none.
+    /// Returns whether it has these blocks. For a tape this always holds.
     fn has_blocks(&self, range: AnyRange) -> bool
         ensures { result ≡ has_range (device_view self.now) (Some range) }
     {

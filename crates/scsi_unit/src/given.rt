@@ -1,4 +1,4 @@
-//! The data that commands give.
+//! The data that commands return.
 
 ghost use Rattle.std.specs.Prelude.{◌≡◌, ◌≤◌, length, take, IfOk};
 ghost use Rattle.scsi_sense.specs.Done.{good_with};
@@ -7,7 +7,7 @@ use out_of_memory::Memory;
 use scsi_sense::{Done, Given};
 use std::alloc::Global;
 
-/// The bytes in front, so many at most.
+/// Returns the first bytes, at most `most`.
 pub(crate) fn front(bytes: &[u8], most: usize) -> &[u8]
     ensures value { result.now ≡ take most bytes.now }
     ensures short { length result.now ≤ most }
@@ -19,7 +19,7 @@ pub(crate) fn front(bytes: &[u8], most: usize) -> &[u8]
     }
 }
 
-/// GOOD with these bytes, of which no more are given than the allocation length.
+/// Returns GOOD with these bytes, truncated to the allocation length.
 pub(crate) fn done_with_front(
     alloc: Global,
     bytes: &[u8],

@@ -1,4 +1,4 @@
-//! INQUIRY, REPORT LUNS and the data of REQUEST SENSE, also where there is no unit.
+//! INQUIRY, REPORT LUNS and the data of REQUEST SENSE, even if there is no unit.
 
 ghost use Rattle.std.specs.Prelude.{◌≡◌, ◌≤◌, length, take, IfOk};
 ghost use Rattle.scsi_sense.specs.Done.{good_with, check_condition};
@@ -15,14 +15,14 @@ use scsi_inquiry::{Peripheral, VpdPage, luns, page, standard};
 use scsi_sense::{Condition, Done, Sense};
 use std::alloc::Global;
 
-/// INVALID FIELD IN CDB.
+/// Returns CHECK CONDITION with INVALID FIELD IN CDB.
 pub(crate) fn field_refused(alloc: Global) -> Done
     ensures { result ≡ check_condition invalid_field }
 {
     Done::check_condition(alloc, FieldFault::InvalidField.sense())
 }
 
-/// Standard INQUIRY data.
+/// Returns standard INQUIRY data.
 fn standard_inquiry(
     alloc: Global,
     peripheral: Peripheral,
@@ -34,7 +34,7 @@ fn standard_inquiry(
     done_with_front(alloc, &standard(peripheral), allocation_length)
 }
 
-/// A vital product data page.
+/// Returns a vital product data page, or refuses the field if the unit has no such page.
 fn page_inquiry(
     alloc: Global,
     kind: Kind,
@@ -53,7 +53,7 @@ fn page_inquiry(
     done_with_front(alloc, bytes.as_slice(), allocation_length)
 }
 
-/// INQUIRY of a unit.
+/// Carries out INQUIRY of a unit.
 #[tactic(auto, unfolding(crate::specs::Identity::inquiry_outcome))]
 pub(crate) fn inquiry(
     alloc: Global,
@@ -72,7 +72,7 @@ pub(crate) fn inquiry(
     }
 }
 
-/// REPORT LUNS of units with these numbers.
+/// Carries out REPORT LUNS for units with these numbers.
 #[tactic(auto, unfolding(crate::specs::Identity::luns_outcome))]
 pub(crate) fn report_luns(
     alloc: Global,
@@ -89,7 +89,7 @@ pub(crate) fn report_luns(
     done_with_front(alloc, &bytes, fields.allocation_length)
 }
 
-/// Sense data, given as data with GOOD.
+/// Returns sense data as data with GOOD.
 #[tactic(auto, unfolding(crate::specs::Identity::sense_outcome))]
 pub(crate) fn sense_data(
     alloc: Global,
@@ -102,14 +102,15 @@ pub(crate) fn sense_data(
     done_with_front(alloc, &sense.bytes(), allocation_length)
 }
 
-/// LOGICAL UNIT NOT SUPPORTED.
+/// Returns the sense data LOGICAL UNIT NOT SUPPORTED.
 fn not_supported() -> Sense
     ensures { result ≡ unsupported }
 {
     Sense::new(Condition::LogicalUnitNotSupported)
 }
 
-/// What is answered where there is no unit: what passes a missing unit goes on. There is no page then.
+/// Answers a command if there is no unit: an operation that passes a missing unit is carried out. There are no pages
+/// then.
 #[tactic(auto, unfolding(crate::specs::Identity::without_unit))]
 pub(crate) fn without_unit(alloc: Global, cdb: [u8; 16]) -> Result<Done, Memory>
     ensures done { IfOk result (λ done. done ≡ without_unit cdb) }

@@ -1,4 +1,4 @@
-//! Who is joined to a unit.
+//! The nexuses that are joined to a unit.
 
 ghost use Rattle.std.specs.Prelude.{◌≡◌, ◌<◌, [], length, map, IfSome, OnOk};
 ghost use Rattle.scsi_unit.specs.Joined.{place_of, newly_joined, with_nexus, without_nexus, told, raised_where, raised_for, raised_for_others, raised_in, raised_for_all, raised_due};
@@ -8,8 +8,8 @@ use scsi_sense::{Attention, Attentions, Nexus};
 use std::alloc::{AllocError, Global};
 use std::marker::Model;
 
-/// A nexus that is joined to a unit, and the unit attentions that it has still to be told, in order
-/// (SAM-5 "Unit attention condition").
+/// A nexus that is joined to a unit, and the unit attentions pending for it, in order (SAM-5 "Unit attention
+/// condition").
 #[derive(Debug, Drop)]
 pub(crate) struct Joined {
     pub nexus: Nexus,
@@ -20,7 +20,7 @@ pub(crate) struct Joined {
 #[derive(Drop)]
 pub(crate) struct JoinedList {
     list: Vec<Joined>,
-    /// Where the nexus stands that was looked for last, so that it is compared with no other.
+    /// The place of the nexus that was looked for last, so that it is compared with no other.
     found: Option<usize>,
 }
 
@@ -36,7 +36,7 @@ impl Model for JoinedList {
 }
 
 impl JoinedList {
-    /// None are joined.
+    /// Returns the list of no nexus.
     pub fn new(alloc: Global) -> JoinedList
         ensures { result.items ≡ [] }
     {
@@ -46,7 +46,7 @@ impl JoinedList {
         }
     }
 
-    /// Makes room for one more.
+    /// Reserves room for one more.
     pub fn reserve_one(&mut self) -> Result<(), AllocError>
         ensures items { self.new.items ≡ self.old.items }
         ensures room { OnOk result (length self.new.items < self.new.room) }
@@ -54,7 +54,7 @@ impl JoinedList {
         self.list.reserve(1)
     }
 
-    /// Where a nexus stands: at the place where one was found last, or at that of a search.
+    /// Returns the place of a nexus: that of the one found last, if it is the same, else that of a search.
     fn place(&self, nexus: &Nexus) -> Option<usize>
         ensures value { result ≡ place_of nexus.now self.now.items }
         ensures bound { IfSome result (λ at. at < length self.now.items) }
@@ -74,7 +74,7 @@ impl JoinedList {
         self.found = self.place(nexus);
     }
 
-    /// The nexus has an attention to be told. It takes no memory.
+    /// Establishes a unit attention for the nexus. It allocates nothing.
     pub fn raise(&mut self, nexus: &Nexus, attention: Attention)
         ensures { self.new.items ≡ raised_for nexus.now attention self.old.items }
     {
@@ -82,7 +82,7 @@ impl JoinedList {
         raise(self.list.as_mut_slice(), nexus, attention);
     }
 
-    /// All but this nexus have the attention to be told. It takes no memory.
+    /// Establishes the unit attention for all but this nexus. It allocates nothing.
     pub fn raise_for_others(&mut self, nexus: &Nexus, attention: Attention)
         ensures { self.new.items ≡ raised_for_others nexus.now attention self.old.items }
     {
@@ -90,7 +90,7 @@ impl JoinedList {
         raise_for_others(self.list.as_mut_slice(), nexus, attention);
     }
 
-    /// Every nexus has the attention to be told. It takes no memory.
+    /// Establishes the unit attention for every nexus. It allocates nothing.
     pub fn raise_for_all(&mut self, attention: Attention)
         ensures { self.new.items ≡ raised_for_all attention self.old.items }
     {
@@ -98,7 +98,7 @@ impl JoinedList {
         raise_for_all(self.list.as_mut_slice(), attention);
     }
 
-    /// Each of these has its attention to be told, where it is joined. It takes no memory.
+    /// Establishes for each of these its unit attention, if it is joined. It allocates nothing.
     pub fn raise_due(&mut self, due: &[Due])
         ensures { self.new.items ≡ raised_due due.now self.old.items }
     {
@@ -107,7 +107,7 @@ impl JoinedList {
     }
 }
 
-/// Where a nexus stands among those that are joined.
+/// Returns the place of a nexus among those that are joined.
 fn position(joined: &[Joined], nexus: &Nexus) -> Option<usize>
     ensures value { result ≡ place_of nexus.now joined.now }
     ensures bound { IfSome result (λ at. at < length joined.now) }
@@ -115,7 +115,7 @@ fn position(joined: &[Joined], nexus: &Nexus) -> Option<usize>
     joined.iter().position(|j| j.nexus.is_same(nexus))
 }
 
-/// A nexus with the power-on attention, and no other.
+/// Returns an entry of a nexus for which the power-on attention is pending, and no other.
 fn entry(nexus: Nexus) -> Joined
     ensures { result ≡ newly_joined nexus }
 {
@@ -124,7 +124,7 @@ fn entry(nexus: Nexus) -> Joined
     Joined { nexus, attentions }
 }
 
-/// The nexus joins, with the power-on attention and no other. There is room for one more.
+/// Joins the nexus, with the power-on attention and no other. There is room for one more.
 pub(crate) fn join(joined: &mut JoinedList, nexus: Nexus)
     requires { length joined.old.items < joined.old.room }
     ensures { joined.new.items ≡ with_nexus nexus joined.old.items }
@@ -136,7 +136,7 @@ pub(crate) fn join(joined: &mut JoinedList, nexus: Nexus)
     }
 }
 
-/// The nexus leaves, with its attentions.
+/// Removes the nexus, with its attentions.
 pub(crate) fn leave(joined: &mut JoinedList, nexus: &Nexus)
     ensures { joined.new.items ≡ without_nexus nexus.now joined.old.items }
 {
@@ -146,7 +146,7 @@ pub(crate) fn leave(joined: &mut JoinedList, nexus: &Nexus)
     }
 }
 
-/// The first attention that the nexus has still to be told, which is then taken away.
+/// Returns the first attention that is pending for the nexus, and clears it.
 #[tactic(auto, unfolding(crate::specs::Joined::told))]
 pub(crate) fn tell(joined: &mut JoinedList, nexus: &Nexus) -> Option<Attention>
     ensures joined { joined.new.items ≡ (told nexus.now joined.old.items).0 }
@@ -160,7 +160,7 @@ pub(crate) fn tell(joined: &mut JoinedList, nexus: &Nexus) -> Option<Attention>
     Some(code)
 }
 
-/// The first attention that the nexus has still to be told, which stays.
+/// Returns the first attention that is pending for the nexus, which stays pending.
 #[tactic(auto, unfolding(crate::specs::Joined::told))]
 pub(crate) fn pending(joined: &JoinedList, nexus: &Nexus) -> Option<Attention>
     ensures { result ≡ (told nexus.now joined.now.items).1 }
@@ -170,7 +170,7 @@ pub(crate) fn pending(joined: &JoinedList, nexus: &Nexus) -> Option<Attention>
 }
 
 impl Joined {
-    /// The attention is to be told, where this is the nexus, or another, as asked.
+    /// Establishes the attention if this is the nexus, or if it is another, as `is_same` says.
     fn raise_where(&mut self, nexus: &Nexus, is_same: bool, attention: Attention)
         ensures { self.new ≡ raised_where nexus.now is_same attention self.old }
     {
@@ -180,7 +180,7 @@ impl Joined {
         }
     }
 
-    /// The attention is to be told.
+    /// Establishes the attention.
     fn raise(&mut self, attention: Attention)
         ensures { self.new ≡ raised_in attention self.old }
     {
@@ -188,7 +188,7 @@ impl Joined {
     }
 }
 
-/// The nexus has an attention to be told, or all others have.
+/// Establishes an attention for the nexus, or for all others.
 fn raise_each(joined: &mut [Joined], nexus: &Nexus, is_same: bool, attention: Attention)
     ensures { joined.new ≡ map (raised_where nexus.now is_same attention) joined.old }
 {
@@ -198,7 +198,7 @@ fn raise_each(joined: &mut [Joined], nexus: &Nexus, is_same: bool, attention: At
     }
 }
 
-/// The nexus has an attention to be told.
+/// Establishes an attention for the nexus.
 #[tactic(auto, unfolding(crate::specs::Joined::raised_for))]
 fn raise(joined: &mut [Joined], nexus: &Nexus, attention: Attention)
     ensures { joined.new ≡ raised_for nexus.now attention joined.old }
@@ -206,7 +206,7 @@ fn raise(joined: &mut [Joined], nexus: &Nexus, attention: Attention)
     raise_each(joined, nexus, true, attention);
 }
 
-/// All but this nexus have the attention to be told.
+/// Establishes the attention for all but this nexus.
 #[tactic(auto, unfolding(crate::specs::Joined::raised_for_others))]
 fn raise_for_others(joined: &mut [Joined], nexus: &Nexus, attention: Attention)
     ensures { joined.new ≡ raised_for_others nexus.now attention joined.old }
@@ -214,7 +214,7 @@ fn raise_for_others(joined: &mut [Joined], nexus: &Nexus, attention: Attention)
     raise_each(joined, nexus, false, attention);
 }
 
-/// Every nexus has the attention to be told.
+/// Establishes the attention for every nexus.
 #[tactic(auto, unfolding(crate::specs::Joined::raised_for_all))]
 fn raise_for_all(joined: &mut [Joined], attention: Attention)
     ensures { joined.new ≡ raised_for_all attention joined.old }
@@ -225,7 +225,7 @@ fn raise_for_all(joined: &mut [Joined], attention: Attention)
     }
 }
 
-/// Each of these has its attention to be told, where it is joined.
+/// Establishes for each of these its attention, if it is joined.
 fn raise_due(joined: &mut [Joined], due: &[Due])
     ensures { joined.new ≡ raised_due due.now joined.old }
 {

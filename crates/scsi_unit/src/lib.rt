@@ -1,28 +1,41 @@
-//! Logical units: what a SCSI command does to a disk or a tape, and what its initiator is told.
+//! Logical units: what a SCSI command does to a disk or a tape, and what it returns to its initiator.
 //!
 //! ```text
 //! command --> Units --> Unit --> medium --> Done: status, sense, data
 //!             by LUN    checks
 //! ```
 //!
-//! The first check that fails answers, in this order: the LUN names a unit, the unit has the
-//! operation, the nexus has no unit attention that it is still to be told, no reservation forbids it, the medium is
-//! ready, the fields of the command descriptor block, the range of blocks, the length of the data, write protection,
-//! the medium.
-//! INQUIRY, REPORT LUNS and REQUEST SENSE pass the attentions by, and INQUIRY and REQUEST SENSE the first check
-//! too.
+//! The checks are made in this order, and the first that fails determines the answer:
 //!
-//! Promised: a command does exactly what the definition `perform` says, to the unit and in its answer, as
-//! long as the store of that unit is honest after it and no call of it failed; where it does nothing to the
-//! medium, or the store is steady, whatever else holds. What may come of any other is one of four ways
-//! (`CameOut`): as defined; the store is not honest, and the command did what follows from what it showed; a
-//! read failed, which is told as UNRECOVERED READ ERROR and changes nothing; a write or a sync failed, which is
-//! told as WRITE ERROR, leaves the blocks of its range open, or the items before the position of a tape, and the
-//! unit is not ready until it is opened again. A fault is told only where the store's count of failures rose. The
-//! other units are as before. Behind SYNCHRONIZE CACHE with GOOD, and WRITE or COMPARE AND WRITE with GOOD that wrote
-//! a block with FUA, the store is synced.
+//! 1. the LUN names a unit;
+//! 2. the unit has the operation;
+//! 3. no unit attention is pending for the nexus;
+//! 4. no reservation forbids the operation;
+//! 5. the medium is ready;
+//! 6. the fields of the command descriptor block are valid;
+//! 7. the unit has the range of blocks;
+//! 8. the data is long enough;
+//! 9. the unit is not write protected;
+//! 10. the medium does not fail.
 //!
-//! Where an allocation fails nothing changes. The data of a write goes to the store from where it lies.
+//! INQUIRY, REPORT LUNS and REQUEST SENSE skip check 3, and INQUIRY and REQUEST SENSE also check 1.
+//!
+//! A command does exactly what `perform` defines, to the unit and in its answer. This holds provided that the unit's
+//! store is honest after it and did not fail in it. It also holds for any command that does not touch the medium, and
+//! for any command over a store that is honest and steady. Otherwise there are four outcomes (`CameOut`):
+//!
+//! - The command came out as defined.
+//! - The store is not honest, and the command did what follows from what the store showed.
+//! - A read failed. The command reports UNRECOVERED READ ERROR and changes nothing.
+//! - A write or a sync failed. The command reports WRITE ERROR. The content of the blocks of its range is not defined;
+//!   of a tape the items before the position remain. The unit is not ready until it is opened again.
+//!
+//! A fault is reported only if the store's count of failures rose. The other units are as before.
+//!
+//! The store is synced after SYNCHRONIZE CACHE with GOOD, and after WRITE or COMPARE AND WRITE with GOOD that wrote a
+//! block with FUA.
+//!
+//! If an allocation fails, nothing changes. The data of a write is passed to the store from where it lies.
 #![tactic(auto)]
 
 mod buffers;

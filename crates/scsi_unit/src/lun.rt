@@ -36,7 +36,7 @@ impl Lun {
         self.number
     }
 
-    /// What a LUN field names: byte 1, where all other bytes are zero (SAM-5 "Single level LUN structure").
+    /// Returns the number in a LUN field: byte 1, if all other bytes are zero (SAM-5 "Single level LUN structure").
     #[tactic(auto, unfolding(crate::specs::Lun::lun_number))]
     pub fn read(field: [u8; 8]) -> Option<Lun>
         ensures { result ≡ lun_number field }

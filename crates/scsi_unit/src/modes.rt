@@ -13,7 +13,7 @@ use scsi_mode::{Parameters, sense};
 use scsi_sense::Done;
 use std::alloc::Global;
 
-/// MODE SENSE of a unit with these parameters.
+/// Carries out MODE SENSE of a unit with these parameters.
 #[tactic(auto, unfolding(crate::specs::Unit::mode_sense_outcome))]
 pub(crate) fn mode_sense(
     alloc: Global,

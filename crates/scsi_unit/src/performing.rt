@@ -1,4 +1,4 @@
-//! What a unit does with a command: the checks, and then the command.
+//! How a unit performs a command: the checks, and then the command.
 
 ghost use Rattle.std.specs.Prelude.{◌≡◌, ◌≤◌, [], length, take, IsTrue, IfOk, OnOk, OnErr};
 ghost use Rattle.scsi_mode.specs.ParameterList.{selected};
@@ -26,7 +26,7 @@ use scsi_cdb::{Cdb, Command, DiskCommand, FieldFault, ModeSelectFields, Row, Uni
 use scsi_mode::{ListFault, select};
 use scsi_sense::{Attention, Condition, Done, Nexus, Sense};
 
-/// How many bytes of data a command to a disk needs.
+/// Returns the number of bytes of data that a command to a disk needs.
 fn bytes_needed(command: &DiskCommand) -> usize
     ensures { result ≡ bytes_needed command.now }
 {
@@ -44,7 +44,7 @@ fn bytes_needed(command: &DiskCommand) -> usize
     }
 }
 
-/// How many bytes of data a command needs.
+/// Returns the number of bytes of data that a command needs.
 fn needed(command: &Command) -> usize
     ensures { result ≡ needed command.now }
 {
@@ -57,7 +57,7 @@ fn needed(command: &Command) -> usize
     }
 }
 
-/// What a command is told whose data is too short.
+/// Returns the sense data of a command whose data is too short.
 fn short_data(command: &Command) -> Sense
     ensures { result ≡ data_sense command.now }
 {
@@ -67,7 +67,7 @@ fn short_data(command: &Command) -> Sense
     }
 }
 
-/// Whether it is a command that writes blocks.
+/// Returns whether a command writes blocks.
 fn writes(command: &Command) -> bool
     ensures { result ≡ writes command.now }
 {
@@ -82,8 +82,8 @@ fn writes(command: &Command) -> bool
 }
 
 impl<S: Store> Unit<S> {
-    /// REQUEST SENSE: the first attention is given as data, and is then taken away. The room for the data
-    /// is made first, so that where an allocation fails nothing changes.
+    /// Carries out REQUEST SENSE: returns the first pending attention as data, and clears it. The room for the data is
+    /// made first, so that nothing changes if an allocation fails.
     fn request_sense(&mut self, nexus: &Nexus, allocation_length: u32) -> Result<Done, Memory>
         ensures ok { OnOk result (self.new ≡ record self.old { joined = (told nexus.now self.old.joined).0 }) }
         ensures done { IfOk result (λ done. done ≡ sense_outcome (pending_sense (told nexus.now self.old.joined).1) allocation_length) }
@@ -99,8 +99,8 @@ impl<S: Store> Unit<S> {
         Ok(done)
     }
 
-    /// MODE SELECT with this data, which has the parameter list. Where a parameter changes, all but this
-    /// nexus are to be told. It takes no memory.
+    /// Carries out MODE SELECT with this data, which has the parameter list. If a parameter changes, a unit attention
+    /// is established for all other nexuses. It allocates nothing.
     fn mode_select(&mut self, nexus: &Nexus, fields: ModeSelectFields, data: &[u8]) -> Done
         requires { fields.list_length ≤ length «data».now }
         ensures selected { (self.new, result) ≡ mode_selected nexus.now self.old fields.list_length
@@ -123,7 +123,7 @@ impl<S: Store> Unit<S> {
         }
     }
 
-    /// A command to units of every kind. Where an allocation fails nothing changes.
+    /// Carries out a command that units of every kind have. If an allocation fails, nothing changes.
     #[tactic(auto, unfolding(crate::specs::Unit::unit_done))]
     fn carry_out_of_any(
         &mut self,
@@ -171,7 +171,7 @@ impl<S: Store> Unit<S> {
         }
     }
 
-    /// The same with data as it lies, which is joined first.
+    /// Carries out such a command with data in pieces, which are joined first.
     fn carry_out_joined(
         &mut self,
         nexus: &Nexus,
@@ -189,7 +189,7 @@ impl<S: Store> Unit<S> {
         self.carry_out_of_any(nexus, command, joined)
     }
 
-    /// A command that no check refuses. Where an allocation fails nothing changes.
+    /// Carries out a command that no check refuses. If an allocation fails, nothing changes.
     fn carry_out(
         &mut self,
         used: &mut Buffers,
@@ -214,7 +214,7 @@ impl<S: Store> Unit<S> {
         }
     }
 
-    /// The command that the bytes spell, or the first check that refuses it (own, after SPC-4).
+    /// Returns the command that the bytes encode, or the first check that refuses it (own, after SPC-4).
     #[tactic(auto, unfolding(crate::specs::Checks::judged))]
     fn judge(&self, nexus: &Nexus, cdb: [u8; 16], data: &Data) -> Result<Command, Refusal>
         ensures judged { result ≡ judged nexus.now cdb «data».now self.now }
@@ -253,7 +253,7 @@ impl<S: Store> Unit<S> {
         Ok(command)
     }
 
-    /// Tells why a command is refused.
+    /// Answers a command that is refused.
     fn refuse(&mut self, nexus: &Nexus, refusal: Refusal) -> Done
         ensures refused { (self.new, result) ≡ refused_with nexus.now self.old refusal }
         ensures store { store_of self.new.device ≡ store_of self.old.device }
@@ -270,8 +270,8 @@ impl<S: Store> Unit<S> {
         }
     }
 
-    /// A command to the unit with this data; what it gives is in a buffer of these, where there is one.
-    /// Where an allocation fails nothing changes.
+    /// Performs a command to the unit with this data. The data that it returns lies in a buffer of `used`, if there is
+    /// one. If an allocation fails, nothing changes.
     #[tactic(auto, unfolding(crate::specs::Unit::performed_as, crate::specs::Unit::touch_at))]
     pub(crate) fn perform_with(
         &mut self,

@@ -14,7 +14,7 @@ use scsi_reserve::{Ended, Table};
 use scsi_sense::{Done, Nexus, Sense};
 use std::alloc::Global;
 
-/// PERSISTENT RESERVE IN of a table.
+/// Carries out PERSISTENT RESERVE IN of a table.
 #[tactic(auto, unfolding(crate::specs::PersistentReserve::reserve_in_outcome))]
 pub(crate) fn reserve_in(
     alloc: Global,
@@ -31,7 +31,7 @@ pub(crate) fn reserve_in(
     done_with_front(alloc, data.as_slice(), u32::from(fields.allocation_length))
 }
 
-/// What is told of how PERSISTENT RESERVE OUT ended. It takes no memory.
+/// Reports how PERSISTENT RESERVE OUT ended. It allocates nothing.
 fn ended(alloc: Global, list_length: u32, ended: Ended) -> Done
     ensures { result ≡ ended_outcome list_length ended }
 {
@@ -43,8 +43,8 @@ fn ended(alloc: Global, list_length: u32, ended: Ended) -> Done
 }
 
 impl<S: Store> Unit<S> {
-    /// PERSISTENT RESERVE OUT with this data, which has the parameter list. The others that it concerns are to be told.
-    /// Where an allocation fails nothing changes.
+    /// Carries out PERSISTENT RESERVE OUT with this data, which has the parameter list. Unit attentions are established
+    /// for the others that it concerns. If an allocation fails, nothing changes.
     #[tactic(auto, unfolding(crate::specs::PersistentReserve::reserved_out))]
     pub(crate) fn reserve_out(
         &mut self,

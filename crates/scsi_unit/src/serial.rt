@@ -5,7 +5,7 @@ ghost use Rattle.scsi_inquiry.specs.VpdPages.{most_serial};
 
 use std::marker::Model;
 
-/// The serial number of a logical unit, as its vital product data tells it: at most 32 bytes.
+/// The serial number of a logical unit, as its vital product data reports it: at most 32 bytes.
 #[derive(Debug, Drop)]
 pub struct Serial {
     text: String,

@@ -23,8 +23,8 @@ use scsi_sense::{Attention, Done, HEADROOM, Nexus, TAILROOM};
 use scsi_tape::TapeUnit;
 use std::alloc::Global;
 
-/// Tells how much room the data takes that a command asks for, with that in front of it and behind it. How much it gives
-/// is known once it was read.
+/// Returns the room for the data that a command requests, with that before it and after it. How much it returns is
+/// known only once it was read.
 fn likely_room(command: &TapeCommand) -> usize
     ensures { result ≡ likely_room command.now }
 {
@@ -36,8 +36,8 @@ fn likely_room(command: &TapeCommand) -> usize
     HEADROOM + data + TAILROOM
 }
 
-/// A command to a tape with the data that it needs, and a buffer that was used before, where there is one, for the
-/// data that it gives. Where an allocation fails nothing changes.
+/// Carries out a command to a tape with the data that it needs. A buffer that was used before, if there is one, takes
+/// the data that it returns. If an allocation fails, nothing changes.
 fn carry_out<S: Store>(
     alloc: Global,
     used: &mut Buffers,
@@ -57,7 +57,7 @@ fn carry_out<S: Store>(
     done
 }
 
-/// Whether a command loads a tape that is not.
+/// Returns whether a command loads a tape that is not loaded.
 fn loads(command: &TapeCommand, is_loaded: bool) -> bool
     ensures { result ≡ loads_tape command.now is_loaded }
 {
@@ -65,7 +65,7 @@ fn loads(command: &TapeCommand, is_loaded: bool) -> bool
 }
 
 impl<S: Store> Unit<S> {
-    /// All but this nexus are to be told that the medium may have changed. It takes no memory.
+    /// Establishes for all other nexuses that the medium may have changed. It allocates nothing.
     fn medium_changed(&mut self, nexus: &Nexus)
         ensures { self.new ≡ record self.old { joined = raised_for_others nexus.now NotReadyToReadyChange self.old.joined } }
     {
@@ -73,7 +73,8 @@ impl<S: Store> Unit<S> {
         self.joined.raise_for_others(nexus, attention);
     }
 
-    /// A command to the unit as a tape. Where it loads the tape all but this nexus are to be told.
+    /// Carries out a command to the unit as a tape. If it loads the tape, a unit attention is established for all other
+    /// nexuses.
     pub(crate) fn carry_out_on_tape(
         &mut self,
         used: &mut Buffers,
@@ -98,7 +99,7 @@ impl<S: Store> Unit<S> {
         Ok(done)
     }
 
-    /// The same with data as it lies, which is joined first.
+    /// Carries out such a command with data in pieces, which are joined first.
     pub(crate) fn carry_out_joined_on_tape(
         &mut self,
         used: &mut Buffers,

@@ -22,8 +22,7 @@ use scsi_tape::TapeUnit;
 use std::alloc::Global;
 use std::marker::Model;
 
-/// A logical unit: a disk or a tape, who is registered with it and what is reserved, and the unit attentions that each
-/// nexus has still to be told.
+/// A logical unit: a disk or a tape, its registrations and reservation, and the unit attentions pending for each nexus.
 #[derive(Drop)]
 pub struct Unit<S: Store> {
     pub(crate) lun: Lun,
@@ -44,7 +43,7 @@ impl<S: Store> Model for Unit<S> {
 }
 
 impl<S: Store> Unit<S> {
-    /// A disk.
+    /// Returns a unit with a disk.
     pub fn disk(alloc: Global, lun: u8, serial: Serial, disk: Disk<S>) -> Unit<S>
         ensures { result ≡ free_unit lun serial (opened disk) }
     {
@@ -62,7 +61,7 @@ impl<S: Store> Unit<S> {
         }
     }
 
-    /// A tape.
+    /// Returns a unit with a tape.
     pub fn tape(alloc: Global, lun: u8, serial: Serial, tape: Tape<S>) -> Unit<S>
         ensures { result ≡ free_unit lun serial (opened_tape tape) }
     {
@@ -76,7 +75,7 @@ impl<S: Store> Unit<S> {
         }
     }
 
-    /// Whether a LUN field names this unit.
+    /// Returns whether a LUN field names this unit.
     pub(crate) fn is_named(&self, field: [u8; 8]) -> bool
         ensures { result ≡ names_unit field self.now }
     {
@@ -86,8 +85,8 @@ impl<S: Store> Unit<S> {
         }
     }
 
-    /// A nexus joins: it has the power-on attention, and no other, also where it was joined before.
-    /// Where an allocation fails nothing changes.
+    /// Joins a nexus: the power-on attention is pending for it, and no other, even if it was joined before. If an
+    /// allocation fails, nothing changes.
     pub fn join(&mut self, nexus: Nexus) -> Result<(), Memory>
         ensures ok { OnOk result (self.new ≡ joined_unit nexus self.old) }
         ensures err { OnErr result (self.new ≡ self.old) }
@@ -97,28 +96,28 @@ impl<S: Store> Unit<S> {
         Ok(())
     }
 
-    /// A nexus leaves, with its attentions.
+    /// Removes a nexus, with its attentions.
     pub fn leave(&mut self, nexus: &Nexus)
         ensures { self.new ≡ left_unit nexus.now self.old }
     {
         leave(&mut self.joined, nexus);
     }
 
-    /// A nexus that is joined has an attention to be told, unless it has it already. It takes no memory.
+    /// Establishes a unit attention for a nexus that is joined, unless it is already pending. It allocates nothing.
     pub fn raise(&mut self, nexus: &Nexus, attention: Attention)
         ensures { self.new ≡ raised_unit nexus.now attention self.old }
     {
         self.joined.raise(nexus, attention);
     }
 
-    /// Every nexus that is joined has an attention to be told, unless it has it already. It takes no memory.
+    /// Establishes a unit attention for every nexus that is joined, unless it is already pending. It allocates nothing.
     pub fn raise_for_all(&mut self, attention: Attention)
         ensures { self.new ≡ raised_unit_for_all attention self.old }
     {
         self.joined.raise_for_all(attention);
     }
 
-    /// The same of one nexus, where the LUN field names this unit.
+    /// Establishes a unit attention for one nexus, if the LUN field names this unit.
     pub(crate) fn raise_at(&mut self, nexus: &Nexus, lun: [u8; 8], attention: Attention)
         ensures { self.new ≡ where_named lun (raised_unit nexus.now attention) self.old }
     {
@@ -127,7 +126,7 @@ impl<S: Store> Unit<S> {
         }
     }
 
-    /// The same of every nexus.
+    /// Establishes a unit attention for every nexus, if the LUN field names this unit.
     pub(crate) fn raise_for_all_at(&mut self, lun: [u8; 8], attention: Attention)
         ensures { self.new ≡ where_named lun (raised_unit_for_all attention) self.old }
     {
@@ -136,12 +135,22 @@ impl<S: Store> Unit<S> {
         }
     }
 
-    /// A command with this data that a LUN sends to the unit. The first check that fails answers, in this
-    /// order: the LUN names this unit, it has the operation, the nexus has no attention to be told, no reservation
-    /// forbids it, the medium is ready, the fields of the command descriptor block, the range, the length of the data,
-    /// write protection. A store that fails is told: UNRECOVERED READ ERROR, and nothing else changes; WRITE ERROR,
-    /// and the unit is not ready until it is opened again. REPORT LUNS reports this unit alone. Where an
-    /// allocation fails nothing changes.
+    /// Performs a command that is sent to a LUN, with this data. The checks are made in this order, and the first that
+    /// fails determines the answer:
+    ///
+    /// 1. the LUN names this unit;
+    /// 2. the unit has the operation;
+    /// 3. no unit attention is pending for the nexus;
+    /// 4. no reservation forbids the operation;
+    /// 5. the medium is ready;
+    /// 6. the fields of the command descriptor block are valid;
+    /// 7. the unit has the range of blocks;
+    /// 8. the data is long enough;
+    /// 9. the unit is not write protected.
+    ///
+    /// If a read of the store fails, it reports UNRECOVERED READ ERROR, and nothing else changes. If a write fails, it
+    /// reports WRITE ERROR, and the unit is not ready until it is opened again. REPORT LUNS reports this unit alone. If
+    /// an allocation fails, nothing changes.
     #[tactic(auto, unfolding(crate::specs::Unit::perform_as, crate::specs::Unit::touch_with))]
     pub fn perform(
         &mut self,

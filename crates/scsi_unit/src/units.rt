@@ -30,9 +30,9 @@ pub struct Units<S: Store> {
     units: Vec<Unit<S>>,
     /// The numbers of the units, in their order.
     luns: Vec<u8>,
-    /// Buffers in which commands gave their data.
+    /// Buffers in which commands returned their data.
     used: Buffers,
-    /// Buffers in which the data of commands came.
+    /// Buffers in which the data of commands arrived.
     spares: SpareBuffers,
     alloc: Global,
 }
@@ -49,7 +49,7 @@ impl<S: Store> Model for Units<S> {
     ghost invariant = { λ u. u.luns.items ≡ numbers_of u.units.items };
 }
 
-/// A nexus joins each of these units. What that takes is there for all of them before the first is joined.
+/// Joins a nexus to each of these units. All the memory that this takes is there before it joins the first.
 fn join_each<S: Store>(units: &mut [Unit<S>], nexus: &Nexus) -> Result<(), Memory>
     ensures ok { OnOk result (units.new ≡ map (joined_unit nexus.now) units.old) }
     ensures err { OnErr result (units.new ≡ units.old) }
@@ -64,7 +64,7 @@ fn join_each<S: Store>(units: &mut [Unit<S>], nexus: &Nexus) -> Result<(), Memor
     Ok(())
 }
 
-/// The numbers of units.
+/// Returns the numbers of units.
 fn numbers<S: Store>(alloc: Global, units: &[Unit<S>]) -> Result<Vec<u8>, Memory>
     ensures { IfOk result (λ numbers. numbers.items ≡ numbers_of units.now) }
 {
@@ -75,7 +75,7 @@ fn numbers<S: Store>(alloc: Global, units: &[Unit<S>]) -> Result<Vec<u8>, Memory
     Ok(numbers)
 }
 
-/// REPORT LUNS with these bytes, to units with these numbers.
+/// Carries out the REPORT LUNS in these bytes, for units with these numbers.
 #[tactic(auto, unfolding(crate::specs::Identity::reported_luns, crate::specs::Identity::luns_outcome))]
 fn reported_luns(alloc: Global, luns: &[u8], cdb: [u8; 16]) -> Result<Done, Memory>
     ensures done { IfOk result (λ done. done ≡ reported_luns luns.now cdb) }
@@ -92,7 +92,7 @@ fn reported_luns(alloc: Global, luns: &[u8], cdb: [u8; 16]) -> Result<Done, Memo
     }
 }
 
-/// Whether the target answers a command for all its units.
+/// Returns whether the target answers a command for all its units.
 fn is_for_target(code: u8) -> bool
     ensures { result ≡ is_row_of_target (row_of code) }
 {
@@ -103,7 +103,7 @@ fn is_for_target(code: u8) -> bool
 }
 
 impl<S: Store + Drop> Units<S> {
-    /// These units.
+    /// Returns a target's units.
     pub fn new(alloc: Global, units: Vec<Unit<S>>) -> Result<Units<S>, Memory>
         ensures { IfOk result (λ made. made ≡ units.items) }
     {
@@ -120,8 +120,8 @@ impl<S: Store + Drop> Units<S> {
 }
 
 impl<S: Store> Units<S> {
-    /// A nexus joins: it has the power-on attention on each unit, and no other, also where it was
-    /// joined before. Where an allocation fails nothing changes.
+    /// Joins a nexus: the power-on attention is pending for it on each unit, and no other, even if it was joined
+    /// before. If an allocation fails, nothing changes.
     #[tactic(auto, unfolding(crate::specs::Units::join))]
     pub fn join(&mut self, nexus: &Nexus) -> Result<(), Memory>
         ensures ok { OnOk result (self.new ≡ join nexus.now self.old) }
@@ -130,7 +130,7 @@ impl<S: Store> Units<S> {
         join_each(self.units.as_mut_slice(), nexus)
     }
 
-    /// A nexus leaves, with its attentions.
+    /// Removes a nexus, with its attentions.
     #[tactic(auto, unfolding(crate::specs::Units::leave))]
     pub fn leave(&mut self, nexus: &Nexus)
         ensures { self.new ≡ leave nexus.now self.old }
@@ -140,15 +140,15 @@ impl<S: Store> Units<S> {
         }
     }
 
-    /// The numbers of the units, in their order.
+    /// Returns the numbers of the units, in their order.
     pub fn luns(&self) -> &[u8]
         ensures { result.now ≡ numbers_of self.now }
     {
         self.luns.as_slice()
     }
 
-    /// A nexus has an attention to be told by the unit that the LUN field names, where it is joined. It takes no
-    /// memory.
+    /// Establishes a unit attention for a nexus on the unit that the LUN field names, if it is joined. It allocates
+    /// nothing.
     #[tactic(auto, unfolding(crate::specs::Units::raised_at))]
     pub fn raise(&mut self, nexus: &Nexus, lun: [u8; 8], attention: Attention)
         ensures { self.new ≡ raised_at nexus.now lun attention self.old }
@@ -158,7 +158,8 @@ impl<S: Store> Units<S> {
         }
     }
 
-    /// Every nexus that is joined to the unit that the LUN field names has an attention to be told. It takes no memory.
+    /// Establishes a unit attention for every nexus that is joined to the unit that the LUN field names. It allocates
+    /// nothing.
     #[tactic(auto, unfolding(crate::specs::Units::raised_for_all_at))]
     pub fn raise_for_all(&mut self, lun: [u8; 8], attention: Attention)
         ensures { self.new ≡ raised_for_all_at lun attention self.old }
@@ -168,7 +169,7 @@ impl<S: Store> Units<S> {
         }
     }
 
-    /// Every nexus has an attention to be told by every unit. It takes no memory.
+    /// Establishes a unit attention for every nexus on every unit. It allocates nothing.
     #[tactic(auto, unfolding(crate::specs::Units::raised_everywhere))]
     pub fn raise_everywhere(&mut self, attention: Attention)
         ensures { self.new ≡ raised_everywhere attention self.old }
@@ -178,36 +179,36 @@ impl<S: Store> Units<S> {
         }
     }
 
-    /// A buffer that a command gave its data in, and that has been sent, is used for the data of another. So
-    /// room that was filled once is not filled again. It takes no memory.
+    /// Keeps a buffer in which a command returned its data, and which has been sent, for the data of another. So room
+    /// that was filled once is not filled again. It allocates nothing.
     pub fn give_back(&mut self, buffer: BytesMut)
         ensures { self.new ≡ self.old }
     {
         give_back(&mut self.used, buffer);
     }
 
-    /// A buffer in which the data of a command came is kept for that of another.
+    /// Keeps a buffer in which the data of a command arrived, for that of another.
     pub fn keep_buffer(&mut self, buffer: Vec<u8>)
         ensures { self.new ≡ self.old }
     {
         self.spares.keep(buffer);
     }
 
-    /// The buffers that were kept, until they are given back by [`Units::return_buffers`]. It takes no memory.
+    /// Lends the buffers that were kept, until [`Units::return_buffers`] gives them back. It allocates nothing.
     pub fn lend_buffers(&mut self) -> SpareBuffers
         ensures { self.new ≡ self.old }
     {
         mem::replace(&mut self.spares, SpareBuffers::new(self.alloc))
     }
 
-    /// Buffers that were lent come back.
+    /// Takes back buffers that were lent.
     pub fn return_buffers(&mut self, spares: SpareBuffers)
         ensures { self.new ≡ self.old }
     {
         self.spares = spares;
     }
 
-    /// Where the unit stands that a LUN names.
+    /// Returns the place of the unit that a LUN names.
     #[tactic(auto, unfolding(crate::specs::Lun::lun_number))]
     fn position(&self, lun: [u8; 8]) -> Option<usize>
         ensures value { result ≡ unit_of self.now (number_of_lun lun) }
@@ -220,8 +221,8 @@ impl<S: Store> Units<S> {
             .position(|unit| unit.lun.number() == number)
     }
 
-    /// A command with this data to the unit that the LUN names. REPORT LUNS reports all units. It gives
-    /// 1,048,576 bytes at most. Where an allocation fails nothing changes.
+    /// Performs a command with this data on the unit that the LUN names. REPORT LUNS reports all units. It returns at
+    /// most 1,048,576 bytes. If an allocation fails, nothing changes.
     #[tactic(auto, unfolding(crate::specs::Units::perform))]
     pub fn perform(
         &mut self,
