@@ -1,4 +1,4 @@
--- The unit attention conditions that an initiator has not been told of yet (SAM-5 "Unit attention condition").
+-- The unit attention conditions that have not yet been reported to an initiator (SAM-5 "Unit attention condition").
 use Rattle.std.specs.Prelude.{ℕ, List, [], ◌∷◌, ◌++◌, length, Bool, ◌==◌, nat_lt, if◌then◌else◌, Option, Some, None}
 use Rattle.std.specs.List.{list_any}
 use Rattle.scsi_sense.specs.Codes.{attention_number}
@@ -12,7 +12,7 @@ most_attentions = 8
 abbrev pub is_raised : Attention → List Attention → Bool
 is_raised attention pending = list_any (λ other. attention_number other == attention_number attention) pending
 
--- profile: a condition goes behind the others, unless it is established already or there is no room for it
+-- profile: a condition is appended to the others, unless it is established already or there is no room for it
 abbrev pub raised : Attention → List Attention → List Attention
 raised attention pending =
     if is_raised attention pending then pending

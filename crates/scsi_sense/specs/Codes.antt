@@ -1,4 +1,4 @@
--- The numbers behind the names of conditions and statuses.
+-- The numbers of conditions and statuses.
 use Rattle.std.specs.Prelude.{ℕ}
 use Rattle.scsi_sense.specs.declared.condition.Attention.{Attention}
 use Rattle.scsi_sense.specs.declared.condition.Attention.TheVariants.{NotReadyToReadyChange, PowerOnOrReset, BusDeviceResetFunctionOccurred, ModeParametersChanged, ReservationsPreempted, ReservationsReleased, RegistrationsPreempted, CommandsClearedByAnotherInitiator}

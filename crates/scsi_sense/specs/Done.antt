@@ -1,4 +1,4 @@
--- What a command ended with.
+-- The outcome of a command.
 use Rattle.std.specs.Prelude.{ℕ, List, [], length, Option, Some, None}
 use Rattle.scsi_sense.specs.declared.sense.Sense.{Sense}
 use Rattle.scsi_sense.specs.declared.done.Status.{Status}
@@ -8,9 +8,9 @@ use Rattle.scsi_sense.specs.declared.done.Status.TheVariants.{Good, CheckConditi
 pub record Outcome : Type 0 where
   pub status : Status
   pub sense : Option Sense
-  -- the data given, before it is cut to the expected length
+  -- the data returned, before it is truncated to the expected length
   pub given : List ℕ
-  -- the bytes that the residual counts from
+  -- the number of bytes from which the residual is computed
   pub moved : ℕ
 
 -- GOOD, with nothing moved
@@ -21,11 +21,11 @@ good = record { status = Good; sense = None; given = []; moved = 0 }
 abbrev pub good_with : List ℕ → Outcome
 good_with bytes = record { status = Good; sense = None; given = bytes; moved = length bytes }
 
--- GOOD, and so many bytes were needed of what came with the command
+-- GOOD for a command that needed `count` bytes of what came with it
 abbrev pub good_taking : ℕ → Outcome
 good_taking count = record { status = Good; sense = None; given = []; moved = count }
 
--- CHECK CONDITION with this sense, with nothing moved
+-- CHECK CONDITION with this sense data, and nothing moved
 abbrev pub check_condition : Sense → Outcome
 check_condition sense = record { status = CheckCondition; sense = Some sense; given = []; moved = 0 }
 

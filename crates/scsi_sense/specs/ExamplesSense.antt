@@ -32,7 +32,7 @@ difference_found : sense_bytes (record {
 }) ≡ 0xf0 ∷ 0 ∷ 0x0e ∷ 0 ∷ 0 ∷ 0x01 ∷ 0xff ∷ 0x0a ∷ 0 ∷ 0 ∷ 0 ∷ 0 ∷ 0x1d ∷ 0x00 ∷ 0 ∷ 0 ∷ 0 ∷ 0 ∷ []
 difference_found = refl
 
--- the end of the medium and another length than asked for: EOM 40h, ILI 20h
+-- the end of the medium, and a length that differs from the length requested: EOM 40h, ILI 20h
 flags_read : sense_bytes (record {
   condition = FilemarkDetected;
   filemark = false;
@@ -55,7 +55,7 @@ no_room = refl
 conflict_number : status_number ReservationConflict ≡ 0x18
 conflict_number = refl
 
--- a code that is there already is not added, and does not move
+-- a condition that is pending already is not added, and does not move
 raised_twice : raised PowerOnOrReset (PowerOnOrReset ∷ ModeParametersChanged ∷ []) ≡ PowerOnOrReset ∷ ModeParametersChanged ∷ []
 raised_twice = refl
 

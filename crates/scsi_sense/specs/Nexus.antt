@@ -1,4 +1,4 @@
--- Who sends a command: an I_T nexus (RFC 7143 §4.4.2).
+-- The nexus that sends a command: an I_T nexus (RFC 7143 §4.4.2).
 use Rattle.std.specs.Prelude.{ℕ, List, Bool, ◌&&◌, bytes_eq}
 
 -- the name of the initiator port: an initiator's name and an ISID

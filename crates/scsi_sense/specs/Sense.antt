@@ -9,7 +9,7 @@ use Rattle.scsi_sense.specs.declared.sense.Sense.{Sense}
 abbrev pub plain_sense : Condition → Sense
 plain_sense condition = record { condition = condition; filemark = false; end_of_medium = false; incorrect_length = false; information = None }
 
--- SPC-4 "Fixed format sense data": byte 0, VALID where there is information, and 70h
+-- SPC-4 "Fixed format sense data": byte 0, VALID if there is information, and 70h
 abbrev pub response_code : Sense → ℕ
 response_code sense = if is_some sense.information then 0xf0 else 0x70
 

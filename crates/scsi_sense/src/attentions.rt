@@ -10,8 +10,8 @@ use std::marker::Model;
 /// The most conditions that are kept: each of them once.
 const MOST: usize = 8;
 
-/// The unit attention conditions that an initiator has not been told of yet, in the order in which
-/// they were established (SAM-5 "Unit attention condition"): a list without doubles. It takes no memory.
+/// The unit attention conditions that have not yet been reported to an initiator, in the order in which they were
+/// established (SAM-5 "Unit attention condition"). No condition is in the list twice. It allocates nothing.
 #[derive(Debug, Drop)]
 pub struct Attentions {
     pending: ArrayVec<Attention, MOST>,
@@ -27,7 +27,7 @@ impl Model for Attentions {
 }
 
 impl Attentions {
-    /// No condition.
+    /// Returns no condition.
     pub fn new() -> Attentions
         ensures { result ≡ [] }
     {
@@ -36,7 +36,7 @@ impl Attentions {
         }
     }
 
-    /// Establishes a condition: it goes to the end, unless it is there already.
+    /// Establishes a condition, after the others, unless it is pending already.
     pub fn raise(&mut self, attention: Attention)
         ensures { self.new ≡ raised attention self.old }
     {
@@ -45,14 +45,14 @@ impl Attentions {
         }
     }
 
-    /// The oldest condition, which is told next.
+    /// Returns the oldest condition, which is reported next.
     pub fn first(&self) -> Option<Attention>
         ensures { result ≡ first self.now }
     {
         self.pending.first().copied()
     }
 
-    /// Clears the oldest condition, where there is one.
+    /// Clears the oldest condition, if there is one.
     pub fn clear_first(&mut self)
         ensures { self.new ≡ drop 1 self.old }
     {
@@ -70,7 +70,7 @@ impl Default for Attentions {
     }
 }
 
-/// Whether the condition is one of these.
+/// Returns whether the condition is one of these.
 fn is_raised(pending: &[Attention], attention: Attention) -> bool
     ensures { result ≡ is_raised attention pending.now }
 {

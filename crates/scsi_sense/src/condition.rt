@@ -19,7 +19,7 @@ pub enum Attention {
 }
 
 impl Attention {
-    /// The additional sense code in the high byte, its qualifier in the low one: `2900h` is 29h/00h.
+    /// Returns the additional sense code in the high byte and its qualifier in the low one: `2900h` is 29h/00h.
     pub fn number(self) -> u16
         ensures { result ≡ attention_number self }
     {
@@ -27,8 +27,8 @@ impl Attention {
     }
 }
 
-/// What happened: an additional sense code, which stands under one sense key, by SPC-4's names ("Sense key
-/// and additional sense code definitions").
+/// What happened: an additional sense code, under its one sense key, by SPC-4's names ("Sense key and additional sense
+/// code definitions").
 #[derive(Clone, Copy, Debug, PartialEq, Eq)]
 pub enum Condition {
     NoAdditionalSenseInformation,
@@ -58,21 +58,21 @@ pub enum Condition {
 }
 
 impl Condition {
-    /// Its sense key, the low four bits of byte 2.
+    /// Returns its sense key, the low four bits of byte 2.
     pub fn key(self) -> u8
         ensures { result ≡ key_of self }
     {
         self.numbers().0
     }
 
-    /// Its additional sense code in the high byte, the qualifier in the low one.
+    /// Returns its additional sense code in the high byte, and the qualifier in the low one.
     pub fn code(self) -> u16
         ensures { result ≡ code_of self }
     {
         self.numbers().1
     }
 
-    /// Sense key and code.
+    /// Returns its sense key and code.
     fn numbers(self) -> (u8, u16)
         ensures key { result.0 ≡ key_of self }
         ensures code { result.1 ≡ code_of self }

@@ -1,4 +1,4 @@
-//! What a command ended with.
+//! The outcome of a command.
 
 ghost use Rattle.std.specs.Prelude.{◌≡◌, ◌<◌, ◌^◌, length};
 ghost use Rattle.scsi_sense.specs.Codes.{status_number};
@@ -17,7 +17,7 @@ pub enum Status {
 }
 
 impl Status {
-    /// Its byte: 00h, 02h or 18h.
+    /// Returns its byte: 00h, 02h or 18h.
     pub fn number(self) -> u8
         ensures { result ≡ status_number self }
     {
@@ -25,15 +25,16 @@ impl Status {
     }
 }
 
-/// A command that was done: what the initiator is told of it.
+/// The outcome of a command: what is reported to its initiator.
 #[derive(Debug, Drop)]
 pub struct Done {
     pub status: Status,
-    /// There is sense where the status is CHECK CONDITION.
+    /// Present if the status is CHECK CONDITION.
     pub sense: Option<Sense>,
-    /// The data given, before it is cut to the expected length.
+    /// The data returned, before it is truncated to the expected length.
     pub given: Given,
-    /// The bytes that the command gave, or needed of what it was sent: the residual counts from it.
+    /// The number of bytes that the command returned, or needed of what it was sent, from which the residual is
+    /// computed.
     pub moved: u32,
 }
 
@@ -49,7 +50,7 @@ impl Done {
     ghost use Rattle.scsi_sense.specs.Done.{good as good_outcome, good_with as good_outcome_with, good_taking as good_outcome_taking, check_condition as check_outcome};
     ghost use Rattle.scsi_sense.specs.Done.{reservation_conflict as conflict_outcome};
 
-    /// GOOD, with nothing moved. It takes no memory.
+    /// Returns GOOD, with nothing moved. It allocates nothing.
     pub fn good(alloc: Global) -> Done
         ensures { result ≡ good_outcome }
     {
@@ -61,7 +62,7 @@ impl Done {
         }
     }
 
-    /// GOOD with data.
+    /// Returns GOOD with data.
     pub fn good_with(given: Given) -> Done
         requires { length given < 2 ^ 32 }
         ensures { result ≡ good_outcome_with given }
@@ -75,7 +76,7 @@ impl Done {
         }
     }
 
-    /// GOOD, where so many bytes were needed of what came with the command. It takes no memory.
+    /// Returns GOOD for a command that needed `count` bytes of what came with it. It allocates nothing.
     pub fn good_taking(alloc: Global, count: u32) -> Done
         ensures { result ≡ good_outcome_taking count }
     {
@@ -87,7 +88,7 @@ impl Done {
         }
     }
 
-    /// CHECK CONDITION with this sense, with nothing moved. It takes no memory.
+    /// Returns CHECK CONDITION with this sense data, and nothing moved. It allocates nothing.
     pub fn check_condition(alloc: Global, sense: Sense) -> Done
         ensures { result ≡ check_outcome sense }
     {
@@ -99,7 +100,7 @@ impl Done {
         }
     }
 
-    /// RESERVATION CONFLICT, with nothing moved. It takes no memory.
+    /// Returns RESERVATION CONFLICT, with nothing moved. It allocates nothing.
     pub fn reservation_conflict(alloc: Global) -> Done
         ensures { result ≡ conflict_outcome }
     {

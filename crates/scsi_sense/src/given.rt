@@ -1,4 +1,4 @@
-//! The data that a command gives.
+//! The data that a command returns.
 
 ghost use Rattle.std.specs.Prelude.{◌≡◌, ◌<◌, ◌≤◌, ◌^◌, ◌==◌, [], length, drop, IsOk, IfOk};
 ghost use Rattle.scsi_sense.specs.Given.{headroom, tailroom};
@@ -7,18 +7,16 @@ use bytes::BytesMut;
 use std::alloc::{AllocError, Global};
 use std::marker::Model;
 
-/// How many bytes are kept free in front of the data, for the header of the PDU that carries it: what a
-/// basic header segment takes (RFC 7143 §11.2.1). The header is written there by the layer that sends the
-/// data, which shows that it fits.
+/// The number of bytes kept free before the data, for the header of the PDU that carries it: a basic header segment
+/// (RFC 7143 §11.2.1). The layer that sends the data writes the header there, and shows that it fits.
 pub const HEADROOM: usize = 48;
 
-/// How many bytes more a buffer takes behind the data, so that it is sent from there with the PDUs that end
-/// the command: the padding of the data, 3 at most (RFC 7143 §11.1), and a SCSI Response with sense data,
-/// 68 (§11.4).
+/// The additional room that a buffer has after the data, so that the PDUs that end the command are sent from there too.
+/// That is the padding of the data, at most 3 (RFC 7143 §11.1), and a SCSI Response with sense data, 68 (§11.4).
 pub const TAILROOM: usize = 71;
 
-/// The data that a command gives, as it lies in a buffer: behind [`HEADROOM`] bytes, and before room for
-/// [`TAILROOM`] more, so that it is sent from where it was read. Clauses see the data.
+/// The data that a command returns, as it lies in a buffer: after [`HEADROOM`] bytes, and before room for [`TAILROOM`]
+/// more. So it is sent from where it was read. Clauses see the data.
 #[derive(Debug, Drop)]
 pub struct Given {
     buffer: BytesMut,
@@ -36,7 +34,7 @@ impl Model for Given {
 }
 
 impl Given {
-    /// No data. It takes no memory.
+    /// Returns no data. It allocates nothing.
     pub fn nothing(alloc: Global) -> Given
         ensures { result ≡ [] }
     {
@@ -45,7 +43,7 @@ impl Given {
         }
     }
 
-    /// What lies behind the room for a header in this buffer, which has room for what is sent behind it.
+    /// Returns the data after the room for a header in this buffer, which has room for what is sent after it.
     pub fn in_place(buffer: BytesMut) -> Given
         requires { tailroom ≤ buffer.spare }
         ensures { result ≡ drop headroom buffer.items }
@@ -53,7 +51,7 @@ impl Given {
         Given { buffer }
     }
 
-    /// A copy of this data. It takes no memory where there is none.
+    /// Copies this data. It allocates nothing if there is none.
     pub fn copied(alloc: Global, data: &[u8]) -> Result<Given, AllocError>
         ensures data { IfOk result (λ given. given ≡ «data».now) }
         ensures nothing { «data».now ≡ [] → IsOk result }
@@ -90,8 +88,8 @@ impl Given {
         &self.buffer.as_slice()[HEADROOM..]
     }
 
-    /// The buffer, in which the data lies behind [`HEADROOM`] bytes, with room for [`TAILROOM`] more behind
-    /// it. Where there is no data it may be shorter than that, and have no room.
+    /// Returns the buffer, in which the data lies after [`HEADROOM`] bytes, and before room for [`TAILROOM`] more. If
+    /// there is no data, it may be shorter than that, and have no room.
     pub fn into_buffer(self) -> BytesMut
         ensures data { drop headroom result.items ≡ self }
         ensures roomy { 0 < length self → tailroom ≤ result.spare }

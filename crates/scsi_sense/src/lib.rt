@@ -1,5 +1,5 @@
-//! What a SCSI command ends with: its status, its sense data, and the data that it gave. And what a
-//! unit has to tell each initiator: its unit attention conditions.
+//! The outcome of a SCSI command: its status, its sense data, and the data that it returned. Also the unit attention
+//! conditions that a unit has pending for each initiator.
 //!
 //! Sense data is in the fixed format (SPC-4 "Fixed format sense data"), 18 bytes:
 //!
@@ -11,11 +11,11 @@
 //! byte 12-13   additional sense code and its qualifier
 //! ```
 //!
-//! Promised: [`Sense::bytes`] is exactly that layout, and each number is that of SPC-4's tables. A
-//! [`Condition`] has its sense key, so no code stands under another.
-//! [`Attentions`] keeps the codes in the order in which they were raised, and none twice. The data that a
-//! command gives lies in its buffer behind room for a header, and before room for what ends the command
-//! ([`Given`]); clauses see the data alone.
+//! - [`Sense::bytes`] is exactly that layout, and each number is that of SPC-4's tables.
+//! - A [`Condition`] has its sense key, so no code stands under another.
+//! - [`Attentions`] keeps the conditions in the order in which they were established, and none twice.
+//! - The data that a command returns lies in its buffer after room for a header, and before room for what ends the
+//!   command ([`Given`]). Clauses see the data alone.
 #![tactic(auto)]
 
 mod attentions;

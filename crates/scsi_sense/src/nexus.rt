@@ -1,13 +1,12 @@
-//! Who sends a command.
+//! The nexus that sends a command.
 
 ghost use Rattle.std.specs.Prelude.{◌≡◌};
 
 use std::alloc::AllocError;
 use std::marker::Model;
 
-/// An I_T nexus: a session of an initiator with a target (RFC 7143 §4.4.2), which unit attentions
-/// and reservations are kept for. It is told by the initiator's name, and the ISID that tells its
-/// sessions apart.
+/// An I_T nexus: a session of an initiator with a target (RFC 7143 §4.4.2), for which unit attentions and reservations
+/// are kept. It is identified by the initiator's name, and by the ISID, which distinguishes its sessions.
 #[derive(Debug, Drop)]
 pub struct Nexus {
     pub initiator_name: String,
@@ -26,7 +25,8 @@ impl Model for Nexus {
 impl Nexus {
     ghost use Rattle.scsi_sense.specs.Nexus.{same_nexus};
 
-    /// Whether both are the same nexus: names and ISIDs are compared byte by byte. The ISIDs, six bytes, come first.
+    /// Returns whether both are the same nexus. Names and ISIDs are compared byte by byte; the ISIDs, six bytes, come
+    /// first.
     pub fn is_same(&self, other: &Nexus) -> bool
         ensures { result ≡ same_nexus self.now other.now }
     {

@@ -13,14 +13,14 @@ pub struct Sense {
     pub filemark: bool,
     /// EOM: the end of the medium, or its early mark, was reached.
     pub end_of_medium: bool,
-    /// ILI: the logical block had another length than was asked for.
+    /// ILI: the length of the logical block differs from the length requested.
     pub incorrect_length: bool,
-    /// A number whose meaning the condition gives, and VALID where there is one.
+    /// A number whose meaning the condition gives; VALID is set if there is one.
     pub information: Option<u32>,
 }
 
 impl Sense {
-    /// Sense of a condition, with no bit set and no information.
+    /// Returns the sense data of a condition, with no bit set and no information.
     pub fn new(condition: Condition) -> Sense
         ensures { result ≡ plain_sense condition }
     {
@@ -33,7 +33,7 @@ impl Sense {
         }
     }
 
-    /// The 18 bytes of the fixed format (SPC-4 "Fixed format sense data").
+    /// Returns the 18 bytes of the fixed format (SPC-4 "Fixed format sense data").
     pub fn bytes(&self) -> [u8; 18]
         ensures { result ≡ sense_bytes self.now }
     {
@@ -70,7 +70,7 @@ impl Sense {
     }
 }
 
-/// `mask` where the bit is set.
+/// Returns `mask` if the bit is set, else 0.
 fn flag(is_set: bool, mask: u8) -> u8
     ensures { result ≡ (if is_set then mask else 0) }
 {
