@@ -53,7 +53,7 @@ limits = refl
 characteristics : page_data Disk (codes "D0") BlockDeviceCharacteristics ≡ 0x00 ∷ 0xb1 ∷ 0x00 ∷ 0x3c ∷ replicate 60 0x00
 characteristics = refl
 
--- LUN 0 and LUN 1, in whichever order they are kept: 00000010 00000000 0000000000000000 0001000000000000
+-- LUN 0 and LUN 1, in either order: 00000010 00000000 0000000000000000 0001000000000000
 two_units : (lun_data LogicalUnits (0 ∷ 1 ∷ []) ≡ 0x00 ∷ 0x00 ∷ 0x00 ∷ 0x10 ∷ replicate 4 0 ++ replicate 8 0 ++ 0x00 ∷ 0x01 ∷ replicate 6 0)
     × (lun_data All (1 ∷ 0 ∷ []) ≡ 0x00 ∷ 0x00 ∷ 0x00 ∷ 0x10 ∷ replicate 4 0 ++ replicate 8 0 ++ 0x00 ∷ 0x01 ∷ replicate 6 0)
 unfolding rising

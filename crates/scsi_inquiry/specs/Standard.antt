@@ -10,7 +10,7 @@ peripheral_byte (Unit Disk) = 0x00
 peripheral_byte (Unit Tape) = 0x01
 peripheral_byte NoUnit = 0x7f
 
--- SPC-4 "Standard INQUIRY data": byte 1, RMB in bit 7: the medium can be taken out
+-- SPC-4 "Standard INQUIRY data": byte 1, RMB in bit 7: the medium is removable
 abbrev pub removable_byte : Peripheral → ℕ
 removable_byte (Unit Tape) = 0x80
 removable_byte peripheral = 0

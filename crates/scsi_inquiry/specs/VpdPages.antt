@@ -69,7 +69,7 @@ abbrev pub block_limits : List ℕ
 block_limits =
     0x01 ∷ most_compared ∷ replicate 2 0 ++ to_be_bytes w32 most_blocks ++ replicate 24 0 ++ to_be_bytes w64 most_same ++ replicate 20 0
 
--- what stands behind the first four bytes of a page
+-- what comes after the first four bytes of a page
 abbrev pub page_parameters : Kind → List ℕ → VpdPage → List ℕ
 page_parameters kind serial SupportedPages = supported_pages kind
 page_parameters kind serial UnitSerialNumber = serial

@@ -1,5 +1,5 @@
-//! The data of INQUIRY and REPORT LUNS (SPC-4 "INQUIRY command", "Vital product data parameters",
-//! "REPORT LUNS command").
+//! The data of INQUIRY and REPORT LUNS (SPC-4 "INQUIRY command", "Vital product data parameters", "REPORT LUNS
+//! command").
 //!
 //! ```text
 //! standard INQUIRY data                          VPD pages
@@ -13,8 +13,8 @@
 //!                                                            B1h  disk        nothing is told
 //! ```
 //!
-//! Promised: [`standard`], [`page`] and [`luns`] give exactly these bytes, and [`VpdPage::of`] knows
-//! exactly these pages. No data is cut to an allocation length here.
+//! [`standard`], [`page`] and [`luns`] return exactly these bytes, and [`VpdPage::of`] knows exactly these pages. No
+//! data is truncated to an allocation length here.
 #![tactic(auto)]
 
 mod peripheral;

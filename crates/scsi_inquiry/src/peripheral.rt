@@ -5,17 +5,17 @@ ghost use Rattle.scsi_inquiry.specs.Standard.{peripheral_byte};
 
 use scsi_cdb::Kind;
 
-/// What a LUN names, which byte 0 of INQUIRY data tells (SPC-4 "Standard INQUIRY data").
+/// What a LUN names, which byte 0 of INQUIRY data reports (SPC-4 "Standard INQUIRY data").
 #[derive(Clone, Copy, Debug, PartialEq, Eq)]
 pub enum Peripheral {
     /// A logical unit of this kind.
     Unit(Kind),
-    /// None, and there can be none.
+    /// No logical unit, and there can be none.
     NoUnit,
 }
 
 impl Peripheral {
-    /// Peripheral qualifier and peripheral device type.
+    /// Returns the peripheral qualifier and the peripheral device type.
     pub fn byte(self) -> u8
         ensures { result ≡ peripheral_byte self }
     {

@@ -20,8 +20,8 @@ const VENDOR: [u8; 8] = *b"ISCSIPRJ";
 /// WSNZ: a WRITE SAME of no block is refused.
 const WRITE_SAME_NONZERO: u8 = 0x01;
 
-/// A designator of vendor and serial number, in ASCII (2h), of the logical unit, of the type T10
-/// vendor ID based (1h) (SPC-4 "Device Identification VPD page").
+/// Returns a designator of the logical unit from vendor and serial number, in ASCII (2h), of the type T10 vendor ID
+/// based (1h) (SPC-4 "Device Identification VPD page").
 fn identification(serial: &[u8]) -> ArrayVec<u8, 64>
     requires { length serial.now ≤ most_serial }
     ensures value { result.items ≡ designator serial.now }
@@ -36,7 +36,7 @@ fn identification(serial: &[u8]) -> ArrayVec<u8, 64>
     data
 }
 
-/// The limits of commands (SBC-3 "Block Limits VPD page").
+/// Returns the limits of commands (SBC-3 "Block Limits VPD page").
 fn block_limits() -> ArrayVec<u8, 64>
     ensures { result.items ≡ Rattle.scsi_inquiry.specs.VpdPages.block_limits }
 {
@@ -49,7 +49,7 @@ fn block_limits() -> ArrayVec<u8, 64>
     data
 }
 
-/// These bytes alone.
+/// Returns these bytes alone.
 fn alone(bytes: &[u8]) -> ArrayVec<u8, 64>
     requires { length bytes.now ≤ 64 }
     ensures { result.items ≡ bytes.now }
@@ -59,7 +59,7 @@ fn alone(bytes: &[u8]) -> ArrayVec<u8, 64>
     data
 }
 
-/// What stands behind the first four bytes of a page.
+/// Returns what comes after the first four bytes of a page.
 fn parameters(kind: Kind, serial: &[u8], page: VpdPage) -> ArrayVec<u8, 64>
     requires { length serial.now ≤ most_serial }
     ensures data { result.items ≡ page_parameters kind serial.now page }
@@ -75,8 +75,8 @@ fn parameters(kind: Kind, serial: &[u8], page: VpdPage) -> ArrayVec<u8, 64>
     }
 }
 
-/// A vital product data page of a unit of this kind and with this serial number (SPC-4 "Vital product
-/// data page format"). It takes no memory.
+/// Returns a vital product data page of a unit of this kind and with this serial number (SPC-4 "Vital product data page
+/// format"). It allocates nothing.
 pub fn page(kind: Kind, serial: &[u8], page: VpdPage) -> ArrayVec<u8, 68>
     requires { length serial.now ≤ most_serial }
     ensures page { result.items ≡ page_data kind serial.now page }

@@ -7,10 +7,10 @@ ghost use Rattle.scsi_inquiry.specs.Luns.{rising, reported, lun_field, lun_data}
 use scsi_cdb::SelectReport;
 use std::alloc::{AllocError, Global};
 
-/// How many numbers a unit can have.
+/// The number of different numbers that a unit can have.
 const NUMBERS: u16 = 256;
 
-/// The numbers of all units, rising.
+/// Returns the numbers of all units, rising.
 fn rising(alloc: Global, numbers: &[u8]) -> Result<Vec<u8>, AllocError>
     ensures numbers { IfOk result (λ list. list.items ≡ rising numbers.now) }
     ensures few { IfOk result (λ list. length list.items ≤ 256) }
@@ -25,7 +25,7 @@ fn rising(alloc: Global, numbers: &[u8]) -> Result<Vec<u8>, AllocError>
     Ok(list)
 }
 
-/// The numbers of the units to be reported, rising.
+/// Returns the numbers of the units to be reported, rising.
 fn reported(alloc: Global, select: SelectReport, numbers: &[u8]) -> Result<Vec<u8>, AllocError>
     ensures numbers { IfOk result (λ list. list.items ≡ reported select numbers.now) }
     ensures few { IfOk result (λ list. length list.items ≤ 256) }
@@ -36,7 +36,7 @@ fn reported(alloc: Global, select: SelectReport, numbers: &[u8]) -> Result<Vec<u
     }
 }
 
-/// Puts the LUNs of these numbers behind other bytes.
+/// Appends the LUNs of these numbers to other bytes.
 fn write_luns(list: &mut Vec<u8>, numbers: &[u8]) -> Result<(), AllocError>
     ensures luns { OnOk result (list.new.items ≡ list.old.items ++ flat_map lun_field numbers.now) }
     ensures length { OnOk result (length list.new.items ≡ length list.old.items + 8 * length numbers.now) }
@@ -47,8 +47,8 @@ fn write_luns(list: &mut Vec<u8>, numbers: &[u8]) -> Result<(), AllocError>
     Ok(())
 }
 
-/// The LUNs of units with these numbers, rising (SPC-4 "REPORT LUNS parameter data"). It fails only
-/// where an allocation fails.
+/// Returns the LUNs of units with these numbers, rising (SPC-4 "REPORT LUNS parameter data"). It fails only if an
+/// allocation fails.
 pub fn luns(alloc: Global, select: SelectReport, numbers: &[u8]) -> Result<Vec<u8>, AllocError>
     ensures luns { IfOk result (λ list. list.items ≡ lun_data select numbers.now) }
     ensures short { IfOk result (λ list. length list.items ≤ 2056) }

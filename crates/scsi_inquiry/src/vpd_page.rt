@@ -1,4 +1,4 @@
-//! Which vital product data pages there are.
+//! The vital product data pages that exist.
 
 ghost use Rattle.std.specs.Prelude.{◌≡◌};
 ghost use Rattle.scsi_inquiry.specs.VpdPages.{page_of, page_code};
@@ -21,7 +21,7 @@ pub enum VpdPage {
 }
 
 impl VpdPage {
-    /// The page of this code that a unit of this kind has.
+    /// Returns the page of this code, if a unit of this kind has it.
     pub fn of(code: u8, kind: Kind) -> Option<VpdPage>
         ensures { result ≡ page_of code kind }
     {
@@ -35,7 +35,7 @@ impl VpdPage {
         }
     }
 
-    /// Its page code.
+    /// Returns its page code.
     pub fn code(self) -> u8
         ensures { result ≡ page_code self }
     {
