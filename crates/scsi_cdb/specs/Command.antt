@@ -1,4 +1,4 @@
--- What a command descriptor block spells: the fields of each operation.
+-- What a command descriptor block encodes: the fields of each operation.
 use Rattle.std.specs.Prelude.{ℕ, List, Bool, not, ◌&&◌, ◌||◌, ◌==◌, Option, Some, None, if◌then◌else◌, Result, Ok, Err, slice_index, bit_and}
 use Rattle.byteorder.specs.Endian.{big_from}
 use Rattle.scsi_sense.specs.declared.sense.Sense.{Sense}
@@ -37,7 +37,7 @@ use Rattle.scsi_cdb.specs.declared.operation.UnitOperation.TheVariants as unit
 use Rattle.scsi_cdb.specs.declared.operation.DiskOperation.{DiskOperation}
 use Rattle.scsi_cdb.specs.declared.operation.DiskOperation.TheVariants as disk
 
--- SPC-4 "INQUIRY command": the page where EVPD, bit 0 of byte 1, is set; without it the page code is to be 0
+-- SPC-4 "INQUIRY command": the page if EVPD, bit 0 of byte 1, is set; without it the page code must be 0
 abbrev pub inquiry_of : List ℕ → Result UnitCommand FieldFault
 inquiry_of cdb =
     if bit_and (slice_index cdb 1) 0x01 == 0
@@ -49,13 +49,13 @@ abbrev pub mode_select_of : ℕ → ParameterHeader → ℕ → Result UnitComma
 mode_select_of byte_1 header list_length =
     command_if (bit_and byte_1 0x01 == 0) (ModeSelect (record { header = header; list_length = list_length }))
 
--- SPC-4 "MODE SENSE (6) command": PC, bits 7 and 6 of byte 2; 11b asks for saved values
+-- SPC-4 "MODE SENSE (6) command": PC, bits 7 and 6 of byte 2; 11b requests saved values
 abbrev pub control_of : ℕ → Option PageControl
 control_of byte_2 =
     if bit_and byte_2 0xc0 == 0x00 then Some Current else if bit_and byte_2 0xc0 == 0x40 then Some Changeable
     else if bit_and byte_2 0xc0 == 0x80 then Some Default else None
 
--- profile: a subpage code is taken where it is 0, or asks for all subpages of all pages
+-- profile: a subpage code is accepted if it is 0, or if it requests all subpages of all pages
 abbrev pub is_subpage : ℕ → ℕ → Bool
 is_subpage page subpage = subpage == 0 || (page == 0x3f && subpage == 0xff)
 
@@ -110,7 +110,7 @@ range_16 cdb = record { first = big_from 2 8 cdb; count = big_from 10 4 cdb }
 abbrev pub range_compared : List ℕ → Range
 range_compared cdb = record { first = big_from 2 8 cdb; count = slice_index cdb 13 }
 
--- a command of blocks, where it takes so many and its other fields are taken
+-- a command of blocks, if it accepts this number and its other fields are accepted
 abbrev pub command_of_blocks : (Range → DiskCommand) → Bool → Option Range → Result DiskCommand FieldFault
 command_of_blocks command is_taken None = Err InvalidField
 command_of_blocks command is_taken (Some range) = command_if is_taken (command range)
@@ -191,7 +191,7 @@ abbrev pub to_tape : Result TapeCommand FieldFault → Result Command FieldFault
 to_tape (Ok command) = Ok (to.Tape command)
 to_tape (Err fault) = Err fault
 
--- the command that the bytes spell for an operation, and a tape's block length
+-- the command that the bytes encode for an operation, and a tape's block length
 abbrev pub fields_of : Operation → List ℕ → ℕ → Result Command FieldFault
 fields_of (Unit operation) cdb block_length = to_unit (unit_fields operation cdb)
 fields_of (Disk operation) cdb block_length = to_disk (disk_fields operation cdb)
@@ -201,11 +201,11 @@ abbrev pub with_sense : Result Command FieldFault → Result Command Sense
 with_sense (Ok command) = Ok command
 with_sense (Err fault) = Err (field_sense fault)
 
--- own: what a command descriptor block is refused with: first where units of this kind do not have its operation
+-- own: what refuses a command descriptor block: first, that units of this kind do not have its operation
 abbrev pub command_from : Option Row → List ℕ → ℕ → Result Command Sense
 command_from None cdb block_length = Err invalid_operation_code
 command_from (Some row) cdb block_length = with_sense (fields_of row.operation cdb block_length)
 
--- the command that the bytes spell for a unit of this kind, a tape with this block length
+-- the command that the bytes encode for a unit of this kind, a tape with this block length
 abbrev pub command_of : List ℕ → Kind → ℕ → Result Command Sense
 command_of cdb kind block_length = command_from (row_for kind (slice_index cdb 0)) cdb block_length

@@ -1,4 +1,5 @@
--- Command descriptor blocks read for a disk and a tape, computed. The number behind them is the block length that a tape has.
+-- Command descriptor blocks read for a disk and a tape, computed. The number after them is the block length that a tape
+-- has.
 use Rattle.std.specs.Prelude.{◌≡◌, [], ◌∷◌, ◌++◌, true, false, Some, None, Ok, Err, replicate, refl}
 use Rattle.scsi_cdb.specs.declared.command.Command.TheVariants as to
 use Rattle.scsi_cdb.specs.declared.command.UnitCommand.TheVariants.{TestUnitReady, RequestSense, Inquiry, ModeSelect, ModeSense, ReportLuns}
@@ -11,16 +12,16 @@ use Rattle.scsi_cdb.specs.declared.mode.ParameterHeader.TheVariants.{Six, Ten}
 use Rattle.scsi_cdb.specs.declared.mode.PageControl.TheVariants.{Current, Changeable, Default}
 use Rattle.scsi_cdb.specs.declared.report_luns.SelectReport.TheVariants.{LogicalUnits, WellKnown, All}
 
--- the control byte and what is behind it are not looked at
+-- the control byte and what comes after it are ignored
 test_unit_ready : (command_of (0x00 ∷ replicate 15 0xff) Disk 0 ≡ Ok (to.Unit TestUnitReady)) × (command_of (replicate 16 0x00) Tape 0 ≡ Ok (to.Unit TestUnitReady))
 test_unit_ready = (refl, refl)
 
--- no code of that kind
+-- no operation of that kind has the code
 unknown_code : (command_of (0x02 ∷ replicate 15 0) Tape 0 ≡ Err invalid_operation_code)
     × (command_of (0xff ∷ replicate 15 0) Disk 0 ≡ Err invalid_operation_code) × (command_of (0x28 ∷ replicate 15 0) Tape 0 ≡ Err invalid_operation_code)
 unknown_code = (refl, refl, refl)
 
--- READ (10) of logical block address 01020304h, 0800h blocks; FUA, DPO and the group number are not looked at
+-- READ (10) of logical block address 01020304h, 0800h blocks; FUA, DPO and the group number are ignored
 read_10 : command_of (0x28 ∷ 0x18 ∷ 0x01 ∷ 0x02 ∷ 0x03 ∷ 0x04 ∷ 0x1f ∷ 0x08 ∷ 0x00 ∷ 0x00 ∷ replicate 6 0) Disk 0
     ≡ Ok (to.Disk (Read (record { first = 0x01020304; count = 2048 })))
 read_10 = refl
@@ -55,7 +56,7 @@ verify : (command_of (0x2f ∷ replicate 6 0 ++ 0xff ∷ 0xff ∷ replicate 7 0)
     × (command_of (0x2f ∷ 0x06 ∷ replicate 14 0) Disk 0 ≡ Err invalid_field)
 verify = (refl, refl, refl, refl, refl)
 
--- SYNCHRONIZE CACHE (10) from logical block address 01020304h on; (16) of 01000000h blocks; IMMED is not looked at
+-- SYNCHRONIZE CACHE (10) from logical block address 01020304h on; (16) of 01000000h blocks; IMMED is ignored
 synchronize_cache : (command_of (0x35 ∷ 0x02 ∷ 0x01 ∷ 0x02 ∷ 0x03 ∷ 0x04 ∷ replicate 10 0) Disk 0
     ≡ Ok (to.Disk (SynchronizeCache (record { first = 0x01020304; count = 0 }))))
     × (command_of (0x91 ∷ replicate 9 0 ++ 0x01 ∷ replicate 5 0) Disk 0 ≡ Ok (to.Disk (SynchronizeCache (record { first = 0; count = 0x01000000 }))))
@@ -95,7 +96,7 @@ inquiry : (command_of (0x12 ∷ 0 ∷ 0 ∷ 0 ∷ 0x24 ∷ replicate 11 0) Disk 
     × (command_of (0x12 ∷ 0 ∷ 0x83 ∷ 0 ∷ 0x24 ∷ replicate 11 0) Disk 0 ≡ Err invalid_field)
 inquiry = (refl, refl, refl)
 
--- MODE SELECT (6) of 16 bytes with PF; (10) of 0102h bytes; one that is to be saved (SP)
+-- MODE SELECT (6) of 16 bytes with PF; (10) of 0102h bytes; one to be saved (SP)
 mode_select : (command_of (0x15 ∷ 0x10 ∷ 0 ∷ 0 ∷ 0x10 ∷ replicate 11 0) Disk 0 ≡ Ok (to.Unit (ModeSelect (record { header = Six; list_length = 16 }))))
     × (command_of (0x55 ∷ 0x10 ∷ replicate 5 0 ++ 0x01 ∷ 0x02 ∷ replicate 7 0) Tape 0 ≡ Ok (to.Unit (ModeSelect (record { header = Ten; list_length = 0x0102 }))))
     × (command_of (0x15 ∷ 0x11 ∷ 0 ∷ 0 ∷ 0x10 ∷ replicate 11 0) Disk 0 ≡ Err invalid_field)
@@ -110,7 +111,7 @@ mode_sense : (command_of (0x1a ∷ 0 ∷ 0x3f ∷ 0 ∷ 0xff ∷ replicate 11 0)
     ≡ Ok (to.Unit (ModeSense (record { header = Six; block_descriptor = true; control = Changeable; page = 0x3f; allocation_length = 255 }))))
 mode_sense = (refl, refl, refl)
 
--- another subpage; saved values, which is told first
+-- another subpage; saved values, which are reported first
 mode_sense_refused : (command_of (0x1a ∷ 0 ∷ 0x0a ∷ 0x01 ∷ 0xff ∷ replicate 11 0) Disk 0 ≡ Err invalid_field)
     × (command_of (0x1a ∷ 0 ∷ 0x0a ∷ 0xff ∷ 0xff ∷ replicate 11 0) Disk 0 ≡ Err invalid_field)
     × (command_of (0x1a ∷ 0 ∷ 0xca ∷ 0x01 ∷ 0xff ∷ replicate 11 0) Disk 0 ≡ Err saving_not_supported)

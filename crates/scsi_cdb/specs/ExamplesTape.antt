@@ -1,4 +1,5 @@
--- Command descriptor blocks read for a tape, computed. The number behind them is its block length, 0 where blocks have any length.
+-- Command descriptor blocks read for a tape, computed. The number after them is its block length, 0 if blocks have any
+-- length.
 use Rattle.std.specs.Prelude.{◌≡◌, ◌∷◌, true, false, Ok, Err, replicate, refl}
 use Rattle.scsi_cdb.specs.Fault.{invalid_operation_code, invalid_field}
 use Rattle.scsi_cdb.specs.Command.{command_of}
@@ -9,7 +10,7 @@ use Rattle.scsi_cdb.specs.declared.tape.SpaceCode.TheVariants.{LogicalBlocks, Fi
 use Rattle.scsi_cdb.specs.declared.tape.TapeCommand.TheVariants.{Rewind, ReadBlockLimits, Read, ReadFixed, Write, WriteFixed, WriteFilemarks, Space, SpaceToEndOfData}
 use Rattle.scsi_cdb.specs.declared.tape.TapeCommand.TheVariants.{Erase, LoadUnload, Locate, ReadPosition}
 
--- IMMED of REWIND, IMMED and LONG of ERASE are not looked at; a disk has none of them
+-- IMMED of REWIND, IMMED and LONG of ERASE are ignored; a disk has none of them
 no_field : (command_of (0x01 ∷ replicate 15 0xff) Tape 0 ≡ Ok (to.Tape Rewind))
     × (command_of (0x19 ∷ replicate 15 0xff) Tape 0 ≡ Ok (to.Tape Erase))
     × (command_of (0x01 ∷ replicate 15 0) Disk 0 ≡ Err invalid_operation_code)
@@ -27,7 +28,8 @@ read : (command_of (0x08 ∷ 0x00 ∷ 0xff ∷ 0xff ∷ 0xff ∷ replicate 11 0)
     × (command_of (0x08 ∷ 0x02 ∷ 0x01 ∷ 0x02 ∷ 0x03 ∷ replicate 11 0) Tape 20 ≡ Ok (to.Tape (Read 0x010203 ToldIfLonger)))
 read = (refl, refl, refl)
 
--- with FIXED: 2 blocks of 20 bytes, 2048 of 512, none; 2049 of 512; with SILI; where blocks have any length, and then also none
+-- with FIXED: 2 blocks of 20 bytes, 2048 of 512, none; 2049 of 512; with SILI; and if blocks have any length, one and
+-- none
 read_fixed : (command_of (0x08 ∷ 0x01 ∷ 0 ∷ 0 ∷ 0x02 ∷ replicate 11 0) Tape 20
     ≡ Ok (to.Tape (ReadFixed (record { count = 2; block_length = 20 }))))
     × (command_of (0x08 ∷ 0x01 ∷ 0 ∷ 0x08 ∷ 0 ∷ replicate 11 0) Tape 512 ≡ Ok (to.Tape (ReadFixed (record { count = 2048; block_length = 512 }))))
@@ -38,13 +40,14 @@ read_fixed : (command_of (0x08 ∷ 0x01 ∷ 0 ∷ 0 ∷ 0x02 ∷ replicate 11 0)
     × (command_of (0x08 ∷ 0x01 ∷ replicate 14 0) Tape 0 ≡ Err invalid_field)
 read_fixed = (refl, refl, refl, refl, refl, refl, refl)
 
--- WRITE (6) of 1048576 bytes; of one more. Bit 1 of byte 1 is not looked at
+-- WRITE (6) of 1048576 bytes; of one more. Bit 1 of byte 1 is ignored
 write : (command_of (0x0a ∷ 0x00 ∷ 0x10 ∷ 0 ∷ 0 ∷ replicate 11 0) Tape 20 ≡ Ok (to.Tape (Write 1048576)))
     × (command_of (0x0a ∷ 0x00 ∷ 0x10 ∷ 0 ∷ 0x01 ∷ replicate 11 0) Tape 20 ≡ Err invalid_field)
     × (command_of (0x0a ∷ 0x02 ∷ 0 ∷ 0 ∷ 0x05 ∷ replicate 11 0) Tape 0 ≡ Ok (to.Tape (Write 5)))
 write = (refl, refl, refl)
 
--- with FIXED: 4 blocks of 20 bytes, one of 1048576, none, with bit 1; 2 of 1048576; where blocks have any length, and then also none
+-- with FIXED: 4 blocks of 20 bytes, one of 1048576, none, with bit 1; 2 of 1048576; and if blocks have any length, one
+-- and none
 write_fixed : (command_of (0x0a ∷ 0x01 ∷ 0 ∷ 0 ∷ 0x04 ∷ replicate 11 0) Tape 20
     ≡ Ok (to.Tape (WriteFixed (record { count = 4; block_length = 20 }))))
     × (command_of (0x0a ∷ 0x01 ∷ 0 ∷ 0 ∷ 0x01 ∷ replicate 11 0) Tape 1048576 ≡ Ok (to.Tape (WriteFixed (record { count = 1; block_length = 1048576 }))))

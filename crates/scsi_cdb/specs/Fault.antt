@@ -1,4 +1,4 @@
--- What an initiator is told of an operation code or of a field that is refused.
+-- The sense data for an operation code or a field that is refused.
 use Rattle.scsi_sense.specs.Sense.{plain_sense}
 use Rattle.scsi_sense.specs.declared.sense.Sense.{Sense}
 use Rattle.scsi_sense.specs.declared.condition.Condition.TheVariants.{InvalidCommandOperationCode, InvalidFieldInCdb, SavingParametersNotSupported}

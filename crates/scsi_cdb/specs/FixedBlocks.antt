@@ -2,7 +2,7 @@
 use Rattle.std.specs.Prelude.{ℕ, ◌*◌, ◌||◌, ◌==◌, Option, Some, None, nat_lt, if◌then◌else◌}
 use Rattle.scsi_cdb.specs.Record.{most_record}
 
--- so many of one length in bytes
+-- a number of blocks, and the length of each in bytes
 pub record Blocks : Type 0 where
   pub count : ℕ
   pub block_length : ℕ
@@ -11,7 +11,8 @@ pub record Blocks : Type 0 where
 abbrev pub bytes_of : Blocks → ℕ
 bytes_of blocks = blocks.count * blocks.block_length
 
--- the blocks, where their length is not 0 (SSC-4 "READ (6) command", FIXED) and there are no more bytes than of one record (profile)
+-- the blocks, if their length is not 0 (SSC-4 "READ (6) command", FIXED) and they have no more bytes than one record
+-- (profile)
 abbrev pub fixed_blocks_of : ℕ → ℕ → Option Blocks
 fixed_blocks_of count block_length =
     if block_length == 0 || nat_lt most_record (count * block_length) then None

@@ -1,4 +1,4 @@
--- The table of operations: what operation codes name (byte 0, SPC-4 "Operation code"), and what a unit tests of each
+-- The table of operations: what operation codes name (byte 0, SPC-4 "Operation code"), and what a unit checks of each
 -- before its fields.
 use Rattle.std.specs.Prelude.{ℕ, List, [], ◌∷◌, Bool, true, false, ◌==◌, Option, Some, None, if◌then◌else◌}
 use Rattle.std.specs.Option.{option_map}
@@ -36,8 +36,9 @@ pub record Entry : Type 0 where
 abbrev pub entry : ℕ → Row → Entry
 entry code row = record { code = code; row = row }
 
--- SPC-4, SBC-3 and SSC-4, each in "Commands": the code; what it names, of units of every kind, of disks or of tapes alone;
--- whether it passes an attention, passes a missing unit; what it needs of the unit; its class for reservations
+-- SPC-4, SBC-3 and SSC-4, each in "Commands": the code, and what it names, of units of every kind, of disks or of
+-- tapes. Then whether it passes an attention, passes a missing unit; what it needs of the unit; its class for
+-- reservations
 abbrev pub operation_table : List Entry
 operation_table =
     --                            passes: attention  missing unit  needs

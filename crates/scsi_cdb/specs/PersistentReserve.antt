@@ -1,4 +1,4 @@
--- What PERSISTENT RESERVE IN and PERSISTENT RESERVE OUT ask for.
+-- What PERSISTENT RESERVE IN and PERSISTENT RESERVE OUT request.
 use Rattle.std.specs.Prelude.{ℕ, ◌/◌, List, Bool, true, ◌==◌, ◌&&◌, ◌||◌, Option, Some, None, Result, Ok, Err, slice_index, bit_and, if◌then◌else◌}
 use Rattle.byteorder.specs.Endian.{big_from}
 use Rattle.scsi_cdb.specs.declared.fault.FieldFault.{FieldFault}
@@ -36,8 +36,8 @@ action_of code =
 abbrev pub is_type : ℕ → ℕ → Bool
 is_type scope code = scope == 0 && (code == 1 || code == 3 || code == 5 || code == 6 || code == 7 || code == 8)
 
--- SPC-4 "PERSISTENT RESERVE OUT service actions": RESERVE and RELEASE need a type; PREEMPT needs one only where it makes
--- a reservation, which its fields do not tell
+-- SPC-4 "PERSISTENT RESERVE OUT service actions": RESERVE and RELEASE need a type. PREEMPT needs one only if it makes a
+-- reservation, which its fields do not show
 abbrev pub takes_type : ServiceAction → ℕ → ℕ → Bool
 takes_type Register scope code = true
 takes_type Reserve scope code = is_type scope code

@@ -1,7 +1,7 @@
 -- Blocks that a command names.
 use Rattle.std.specs.Prelude.{ℕ, ◌&&◌, Option, Some, None, nat_le, if◌then◌else◌}
 
--- so many from the first one on
+-- a number of blocks from the first one on
 pub record Range : Type 0 where
   pub first : ℕ
   pub count : ℕ
@@ -18,7 +18,7 @@ most_compared = 128
 abbrev pub most_same : ℕ
 most_same = 32768
 
--- the range, where it has no fewer blocks and no more
+-- the range, if it has no fewer blocks and no more
 abbrev pub range_between : ℕ → ℕ → ℕ → ℕ → Option Range
 range_between least most first count =
     if nat_le least count && nat_le count most then Some (record { first = first; count = count }) else None
@@ -31,6 +31,6 @@ range_of first count = range_between 0 most_blocks first count
 abbrev pub compared_range_of : ℕ → ℕ → Option Range
 compared_range_of first count = range_between 0 most_compared first count
 
--- the blocks of a WRITE SAME: one at least (SBC-3 "Block Limits VPD page", WSNZ)
+-- the blocks of a WRITE SAME: at least one (SBC-3 "Block Limits VPD page", WSNZ)
 abbrev pub same_range_of : ℕ → ℕ → Option Range
 same_range_of first count = range_between 1 most_same first count

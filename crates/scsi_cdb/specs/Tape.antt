@@ -1,4 +1,4 @@
--- What the command descriptor blocks of tapes spell: the fields of each operation (SSC-4 "Command descriptions").
+-- What the command descriptor blocks of tapes encode: the fields of each operation (SSC-4 "Command descriptions").
 use Rattle.std.specs.Prelude.{ℕ, ◌-◌, List, Bool, true, false, not, ◌==◌, nat_lt, Option, Some, None, if◌then◌else◌, Result, Ok, Err, slice_index}
 use Rattle.std.specs.Prelude.{bit_and}
 use Rattle.byteorder.specs.Endian.{big_from}
@@ -17,22 +17,24 @@ use Rattle.scsi_cdb.specs.Taken.{command_if}
 use Rattle.scsi_cdb.specs.Record.{record_length_of}
 use Rattle.scsi_cdb.specs.FixedBlocks.{fixed_blocks_of}
 
--- SSC-4 "READ (6) command": SILI, bit 1 of byte 1: another length is not told, but where the tape has a block length, a greater one
+-- SSC-4 "READ (6) command": SILI, bit 1 of byte 1: another length is not reported. If the tape has a block length, a
+-- greater one is
 abbrev pub incorrect_length_of : Bool → ℕ → IncorrectLength
 incorrect_length_of suppresses block_length = if suppresses then (if block_length == 0 then Suppressed else ToldIfLonger) else Told
 
--- own: a command of what is there, where it is
+-- own: a command of what is there, if it is
 abbrev pub command_with : {A : Type 0} → (A → TapeCommand) → Option A → Result TapeCommand FieldFault
 command_with command None = Err InvalidField
 command_with command (Some a) = Ok (command a)
 
--- SSC-4 "READ (6) command": so many bytes; with FIXED, bit 0 of byte 1, so many blocks of the tape's block length, and no SILI
+-- SSC-4 "READ (6) command": this many bytes; with FIXED, bit 0 of byte 1, this many blocks of the tape's block length,
+-- and no SILI
 abbrev pub read_of : ℕ → ℕ → ℕ → Result TapeCommand FieldFault
 read_of byte_1 number block_length =
     if bit_and byte_1 0x01 == 0 then Ok (Read number (incorrect_length_of (not (bit_and byte_1 0x02 == 0)) block_length))
     else if bit_and byte_1 0x02 == 0 then command_with ReadFixed (fixed_blocks_of number block_length) else Err InvalidField
 
--- SSC-4 "WRITE (6) command": so many bytes; with FIXED, bit 0 of byte 1, so many blocks of the tape's block length
+-- SSC-4 "WRITE (6) command": this many bytes; with FIXED, bit 0 of byte 1, this many blocks of the tape's block length
 abbrev pub write_of : ℕ → ℕ → ℕ → Result TapeCommand FieldFault
 write_of byte_1 number block_length =
     if bit_and byte_1 0x01 == 0 then command_with Write (record_length_of number)

@@ -1,4 +1,4 @@
-//! Blocks that a command names: so many from the first one on, with the most that it takes in the type.
+//! Blocks that a command names: a number of blocks from the first one on, with the limit of the command in the type.
 //! Whether a disk has them is not known here.
 
 ghost use Rattle.std.specs.Prelude.{◌≡◌, ◌≤◌};
@@ -15,7 +15,7 @@ pub const MOST_COMPARED: u32 = 128;
 /// The most blocks of one WRITE SAME.
 pub const MOST_SAME: u32 = 32768;
 
-/// So many blocks, with no limit.
+/// A number of blocks, without a limit.
 #[derive(Clone, Copy, Debug, PartialEq, Eq)]
 pub struct AnyRange {
     first: u64,
@@ -36,21 +36,21 @@ impl Model for AnyRange {
 }
 
 impl AnyRange {
-    /// The range.
+    /// Returns the range.
     pub fn new(first: u64, count: u32) -> AnyRange
         ensures { result ≡ record { first = first; count = count } }
     {
         AnyRange { first, count }
     }
 
-    /// The logical block address of the first one.
+    /// Returns the logical block address of the first block.
     pub fn first(self) -> u64
         ensures { result ≡ self.first }
     {
         self.first
     }
 
-    /// How many there are.
+    /// Returns the number of blocks.
     pub fn count(self) -> u32
         ensures { result ≡ self.count }
     {
@@ -58,7 +58,7 @@ impl AnyRange {
     }
 }
 
-/// LEAST blocks at least, and MOST at most.
+/// At least LEAST blocks, and at most MOST.
 #[derive(Clone, Copy, Debug, PartialEq, Eq)]
 pub struct LimitedRange<const LEAST: u32, const MOST: u32> {
     first: u64,
@@ -71,7 +71,7 @@ pub type BlockRange = LimitedRange<0, MOST_BLOCKS>;
 /// The blocks of a COMPARE AND WRITE.
 pub type ComparedRange = LimitedRange<0, MOST_COMPARED>;
 
-/// The blocks of a WRITE SAME: one at least (SBC-3 "Block Limits VPD page", WSNZ).
+/// The blocks of a WRITE SAME: at least one (SBC-3 "Block Limits VPD page", WSNZ).
 pub type SameRange = LimitedRange<1, MOST_SAME>;
 
 impl<const LEAST: u32, const MOST: u32> Model for LimitedRange<LEAST, MOST> {
@@ -90,7 +90,7 @@ impl<const LEAST: u32, const MOST: u32> Model for LimitedRange<LEAST, MOST> {
 }
 
 impl<const LEAST: u32, const MOST: u32> LimitedRange<LEAST, MOST> {
-    /// The range, or none where it has too few blocks or too many.
+    /// Returns the range, or `None` if it has too few blocks or too many.
     pub fn new(first: u64, count: u32) -> Option<LimitedRange<LEAST, MOST>>
         ensures { result ≡ range_between LEAST MOST first count }
     {
@@ -100,14 +100,14 @@ impl<const LEAST: u32, const MOST: u32> LimitedRange<LEAST, MOST> {
         Some(LimitedRange { first, count })
     }
 
-    /// The logical block address of the first one.
+    /// Returns the logical block address of the first block.
     pub fn first(self) -> u64
         ensures { result ≡ self.entry.first }
     {
         self.first
     }
 
-    /// How many there are.
+    /// Returns the number of blocks.
     pub fn count(self) -> u32
         ensures value { result ≡ self.entry.count }
         ensures least { LEAST ≤ result }

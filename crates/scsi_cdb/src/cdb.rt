@@ -12,8 +12,8 @@ use scsi_sense::{Condition, Sense};
 pub struct Cdb;
 
 impl Cdb {
-    /// The command that the bytes spell for a unit of this kind, or why they are refused: first where
-    /// there is no such operation, then where a field is refused. A tape's block length is as in
+    /// Returns the command that the bytes encode for a unit of this kind, or why they are refused. An operation that
+    /// does not exist is refused before any field. A tape's block length is as in
     /// [`Operation::command`](crate::Operation::command).
     pub fn read(bytes: [u8; 16], kind: Kind, block_length: u32) -> Result<Command, Sense>
         ensures { result ≡ command_of bytes kind block_length }
@@ -27,7 +27,7 @@ impl Cdb {
         }
     }
 
-    /// INVALID COMMAND OPERATION CODE.
+    /// Returns the sense data INVALID COMMAND OPERATION CODE.
     pub fn no_operation() -> Sense
         ensures { result ≡ invalid_operation_code }
     {

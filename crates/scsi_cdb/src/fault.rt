@@ -8,14 +8,14 @@ use scsi_sense::{Condition, Sense};
 /// Why the fields of a command descriptor block are refused.
 #[derive(Clone, Copy, Debug, PartialEq, Eq)]
 pub enum FieldFault {
-    /// A field has a value that is not taken.
+    /// A field has a value that is not accepted.
     InvalidField,
-    /// Saved mode parameters are asked for, and there are none.
+    /// Saved mode parameters are requested, and there are none.
     SavingNotSupported,
 }
 
 impl FieldFault {
-    /// What the initiator is told: INVALID FIELD IN CDB, or SAVING PARAMETERS NOT SUPPORTED.
+    /// Returns the sense data: INVALID FIELD IN CDB, or SAVING PARAMETERS NOT SUPPORTED.
     pub fn sense(self) -> Sense
         ensures { result ≡ field_sense self }
     {

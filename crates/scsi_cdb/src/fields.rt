@@ -24,7 +24,7 @@ const WITHOUT_DESCRIPTOR: u8 = 0x08;
 /// PC of MODE SENSE, in byte 2.
 const PAGE_CONTROL: u8 = 0xC0;
 
-/// PAGE CODE of MODE SENSE, in byte 2, and the code that asks for all pages.
+/// PAGE CODE of MODE SENSE, in byte 2, and the code that requests all pages.
 const PAGE_CODE: u8 = 0x3F;
 
 const ALL_PAGES: u8 = 0x3F;
@@ -49,8 +49,8 @@ const SERVICE_ACTION: u8 = 0x1F;
 const READ_CAPACITY_16: u8 = 0x10;
 
 impl Operation {
-    /// The command that the bytes spell for this operation. A tape's block length says what its fields mean (0: blocks
-    /// have any length); no other unit has one. The control byte is not looked at.
+    /// Returns the command that the bytes encode for this operation. A tape's block length determines what its fields
+    /// mean (0: blocks have any length); no other unit has one. The control byte is ignored.
     pub fn command(self, bytes: [u8; 16], block_length: u32) -> Result<Command, FieldFault>
         ensures { result ≡ fields_of self bytes block_length }
     {
@@ -65,7 +65,7 @@ impl Operation {
 }
 
 impl UnitOperation {
-    /// The command that the bytes spell for this operation.
+    /// Returns the command that the bytes encode for this operation.
     pub fn command(self, bytes: &[u8; 16]) -> Result<UnitCommand, FieldFault>
         ensures { result ≡ unit_fields self bytes.now }
     {
@@ -105,7 +105,7 @@ impl UnitOperation {
 }
 
 impl DiskOperation {
-    /// The command that the bytes spell for this operation.
+    /// Returns the command that the bytes encode for this operation.
     pub fn command(self, bytes: &[u8; 16]) -> Result<DiskCommand, FieldFault>
         ensures { result ≡ disk_fields self bytes.now }
     {
@@ -133,7 +133,7 @@ impl DiskOperation {
     }
 }
 
-/// The command where its fields are taken.
+/// Returns the command if its fields are accepted.
 pub(crate) fn command_where<C: Drop>(is_taken: bool, command: C) -> Result<C, FieldFault>
     ensures { result ≡ command_if is_taken command }
 {
@@ -144,7 +144,7 @@ pub(crate) fn command_where<C: Drop>(is_taken: bool, command: C) -> Result<C, Fi
     }
 }
 
-/// INQUIRY: a page is asked for where EVPD is set, and is not to be named where it is not.
+/// Reads INQUIRY: a page is requested if EVPD is set, and must not be named if it is clear.
 fn inquiry(bytes: &[u8; 16]) -> Result<UnitCommand, FieldFault>
     ensures { result ≡ inquiry_of bytes.now }
 {
@@ -163,7 +163,7 @@ fn inquiry(bytes: &[u8; 16]) -> Result<UnitCommand, FieldFault>
     )
 }
 
-/// MODE SELECT, of which nothing is saved.
+/// Reads MODE SELECT, which saves nothing.
 fn mode_select(
     byte_1: u8,
     header: ParameterHeader,
@@ -178,7 +178,7 @@ fn mode_select(
     command_where(byte_1 & LOWEST_BIT == 0, UnitCommand::ModeSelect(fields))
 }
 
-/// The values that byte 2 of MODE SENSE asks for, or none where they are saved ones.
+/// Returns the values that byte 2 of MODE SENSE requests, or `None` if they are saved ones.
 fn control(byte_2: u8) -> Option<PageControl>
     ensures { result ≡ control_of byte_2 }
 {
@@ -190,7 +190,7 @@ fn control(byte_2: u8) -> Option<PageControl>
     }
 }
 
-/// MODE SENSE, which has subpages only where all pages are asked for.
+/// Reads MODE SENSE, which has subpages only if all pages are requested.
 fn mode_sense(
     bytes: &[u8; 16],
     header: ParameterHeader,
@@ -215,7 +215,7 @@ fn mode_sense(
     )
 }
 
-/// LOGICAL BLOCK ADDRESS and the number of blocks of a descriptor block of 10 bytes.
+/// Reads LOGICAL BLOCK ADDRESS and the number of blocks of a descriptor block of 10 bytes.
 fn range_10(bytes: &[u8; 16]) -> AnyRange
     ensures { result ≡ range_of_10 bytes.now }
 {
@@ -224,7 +224,7 @@ fn range_10(bytes: &[u8; 16]) -> AnyRange
     AnyRange::new(u64::from(first), u32::from(count))
 }
 
-/// The same of a descriptor block of 16 bytes.
+/// Reads the same fields of a descriptor block of 16 bytes.
 fn range_16(bytes: &[u8; 16]) -> AnyRange
     ensures { result ≡ range_of_16 bytes.now }
 {
@@ -233,21 +233,21 @@ fn range_16(bytes: &[u8; 16]) -> AnyRange
     AnyRange::new(first, count)
 }
 
-/// Whether no protection information is asked for.
+/// Returns whether no protection information is requested.
 fn is_unprotected(byte_1: u8) -> bool
     ensures { result ≡ is_without_protection byte_1 }
 {
     byte_1 & PROTECT == 0
 }
 
-/// Whether FUA is set.
+/// Returns whether FUA is set.
 fn forces_access(byte_1: u8) -> bool
     ensures { result ≡ forces_unit_access byte_1 }
 {
     byte_1 & FORCE_UNIT_ACCESS != 0
 }
 
-/// READ of these blocks, with this byte 1.
+/// Returns READ of these blocks, with this byte 1.
 fn read(byte_1: u8, range: AnyRange) -> Result<DiskCommand, FieldFault>
     ensures { result ≡ read_of byte_1 range }
 {
@@ -257,7 +257,7 @@ fn read(byte_1: u8, range: AnyRange) -> Result<DiskCommand, FieldFault>
     }
 }
 
-/// WRITE of these blocks, with this byte 1.
+/// Returns WRITE of these blocks, with this byte 1.
 fn write(byte_1: u8, range: AnyRange) -> Result<DiskCommand, FieldFault>
     ensures { result ≡ write_of byte_1 range }
 {
@@ -271,7 +271,7 @@ fn write(byte_1: u8, range: AnyRange) -> Result<DiskCommand, FieldFault>
     command_where(is_unprotected(byte_1), command)
 }
 
-/// VERIFY of these blocks, with this byte 1.
+/// Returns VERIFY of these blocks, with this byte 1.
 fn verify(byte_1: u8, range: AnyRange) -> Result<DiskCommand, FieldFault>
     ensures { result ≡ verify_of byte_1 range }
 {
@@ -288,7 +288,7 @@ fn verify(byte_1: u8, range: AnyRange) -> Result<DiskCommand, FieldFault>
     }
 }
 
-/// WRITE SAME to these blocks, with this byte 1.
+/// Returns WRITE SAME to these blocks, with this byte 1.
 fn write_same(byte_1: u8, range: AnyRange) -> Result<DiskCommand, FieldFault>
     ensures { result ≡ write_same_of byte_1 range }
 {
@@ -298,7 +298,7 @@ fn write_same(byte_1: u8, range: AnyRange) -> Result<DiskCommand, FieldFault>
     }
 }
 
-/// COMPARE AND WRITE.
+/// Reads COMPARE AND WRITE.
 fn compare_and_write(bytes: &[u8; 16]) -> Result<DiskCommand, FieldFault>
     ensures { result ≡ compare_and_write_of (slice_index bytes.now 1) (range_compared bytes.now) }
 {

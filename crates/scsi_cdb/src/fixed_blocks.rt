@@ -7,7 +7,7 @@ ghost use Rattle.scsi_cdb.specs.FixedBlocks.{bytes_of, fixed_blocks_of};
 use crate::record_length::MOST_RECORD;
 use std::marker::Model;
 
-/// So many blocks of one length, which is not 0: [`MOST_RECORD`] bytes at most in all.
+/// A number of blocks of one length, which is not 0: at most [`MOST_RECORD`] bytes in all.
 #[derive(Clone, Copy, Debug, PartialEq, Eq)]
 pub struct FixedBlocks {
     count: u32,
@@ -32,7 +32,7 @@ impl Model for FixedBlocks {
 }
 
 impl FixedBlocks {
-    /// The blocks, or none where they have no length or are too many.
+    /// Returns the blocks, or `None` if they have no length or are too many.
     pub fn new(count: u32, block_length: u32) -> Option<FixedBlocks>
         ensures { result ≡ fixed_blocks_of count block_length }
     {
@@ -46,7 +46,7 @@ impl FixedBlocks {
         })
     }
 
-    /// How many there are.
+    /// Returns the number of blocks.
     pub fn count(self) -> u32
         ensures value { result ≡ self.count }
         ensures bound { result ≤ most_record }
@@ -54,7 +54,7 @@ impl FixedBlocks {
         self.count
     }
 
-    /// The length of each, in bytes.
+    /// Returns the length of each, in bytes.
     pub fn block_length(self) -> u32
         ensures value { result ≡ self.block_length }
         ensures some { 0 < result }
@@ -63,7 +63,7 @@ impl FixedBlocks {
         self.block_length
     }
 
-    /// The bytes of all.
+    /// Returns the number of bytes of all.
     pub fn bytes(self) -> u32
         ensures value { result ≡ bytes_of self }
         ensures bound { result ≤ most_record }

@@ -1,14 +1,14 @@
 //! Command descriptor blocks: 16 bytes read as a command (SPC-4 "Operation code").
 //!
-//! A unit reads them in two steps, for what it tests between them (its unit attentions, for one)
-//! depends on the operation alone:
+//! A unit reads them in two steps. What it checks between them, such as its unit attentions, depends on the operation
+//! alone:
 //!
-//! - [`Row::for_kind`] gives the row of the table of operations for byte 0, where units of that kind have
-//!   such an operation.
-//! - [`Operation::command`] gives the command with its fields, or why a field is refused. What those of READ (6) and
-//!   WRITE (6) mean depends on the block length that the tape has then.
+//! - [`Row::for_kind`] returns the row of the table of operations for byte 0, if units of that kind have such an
+//!   operation.
+//! - [`Operation::command`] returns the command with its fields, or why a field is refused. The meaning of those of
+//!   READ (6) and WRITE (6) depends on the block length that the tape has then.
 //!
-//! [`Cdb::read`] is both. These are read so far; a row also has a class for reservations ([`class`]):
+//! [`Cdb::read`] does both. These operations exist so far. A row also has a class for reservations ([`class`]):
 //!
 //! ```text
 //! code  disk  tape  passes an attention, a missing unit; what it needs
@@ -47,11 +47,14 @@
 //! A0h   yes   yes   attention                                     REPORT LUNS
 //! ```
 //!
-//! A command carries its limits in its types. Blocks that it names are a [`BlockRange`], of 2048 at most
-//! (READ, WRITE, VERIFY with data), a [`ComparedRange`], of 128 at most (COMPARE AND WRITE), a [`SameRange`],
-//! of 1 to 32768 (WRITE SAME), or an [`AnyRange`] (VERIFY without data, SYNCHRONIZE CACHE). A record
-//! that is written has a [`RecordLength`], of 1048576 bytes at most, and so many of a tape's block length are
-//! [`FixedBlocks`], of as many bytes in all.
+//! A command carries its limits in its types:
+//!
+//! - [`BlockRange`], at most 2048 blocks: READ, WRITE, VERIFY with data
+//! - [`ComparedRange`], at most 128 blocks: COMPARE AND WRITE
+//! - [`SameRange`], 1 to 32768 blocks: WRITE SAME
+//! - [`AnyRange`]: VERIFY without data, SYNCHRONIZE CACHE
+//! - [`RecordLength`], at most 1048576 bytes: a record that is written
+//! - [`FixedBlocks`], at most 1048576 bytes in all: blocks of a tape's block length
 #![tactic(auto)]
 
 mod block_range;

@@ -1,4 +1,4 @@
-//! What MODE SENSE and MODE SELECT ask for.
+//! What MODE SENSE and MODE SELECT request.
 
 /// Which header stands before mode parameters (SPC-4 "Mode parameter header formats").
 #[derive(Clone, Copy, Debug, PartialEq, Eq)]
@@ -9,8 +9,7 @@ pub enum ParameterHeader {
     Ten,
 }
 
-/// Which values of mode pages are asked for (SPC-4 "MODE SENSE (6) command", PC). There are no saved
-/// ones.
+/// Which values of mode pages are requested (SPC-4 "MODE SENSE (6) command", PC). There are no saved ones.
 #[derive(Clone, Copy, Debug, PartialEq, Eq)]
 pub enum PageControl {
     /// 00b
@@ -25,7 +24,7 @@ pub enum PageControl {
 #[derive(Clone, Copy, Debug, PartialEq, Eq)]
 pub struct ModeSenseFields {
     pub header: ParameterHeader,
-    /// Whether the block descriptor is asked for too: DBD is 0.
+    /// Whether the block descriptor is requested too: DBD is 0.
     pub block_descriptor: bool,
     pub control: PageControl,
     /// The page code, 00h to 3Fh.
@@ -37,6 +36,6 @@ pub struct ModeSenseFields {
 #[derive(Clone, Copy, Debug, PartialEq, Eq)]
 pub struct ModeSelectFields {
     pub header: ParameterHeader,
-    /// The bytes of the parameter list.
+    /// The number of bytes of the parameter list.
     pub list_length: u32,
 }

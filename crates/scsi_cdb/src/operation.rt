@@ -1,4 +1,4 @@
-//! What operation codes name, and what a unit tests before it reads the fields of each.
+//! What operation codes name, and what a unit checks before it reads the fields of each.
 
 ghost use Rattle.std.specs.Prelude.{◌≡◌};
 ghost use Rattle.scsi_cdb.specs.Operation.{row, row_of, row_for, is_for, is_of_target, class_of};
@@ -44,7 +44,7 @@ pub enum DiskOperation {
     Read10,
     Read16,
     ReadCapacity10,
-    /// Of its service actions READ CAPACITY (16) is read.
+    /// Of its service actions only READ CAPACITY (16) is read.
     ServiceActionIn16,
     Write10,
     Write16,
@@ -88,9 +88,9 @@ pub enum Need {
 pub enum ReservationClass {
     /// It is allowed whatever is reserved.
     Always,
-    /// It is allowed where reading is.
+    /// It is allowed if reading is.
     Reading,
-    /// It is allowed where writing is.
+    /// It is allowed if writing is.
     Writing,
 }
 
@@ -98,17 +98,17 @@ pub enum ReservationClass {
 #[derive(Clone, Copy, Debug, PartialEq, Eq)]
 pub struct Row {
     pub operation: Operation,
-    /// It is done while a unit attention is pending (SAM-5 "Unit attention condition").
+    /// It is carried out while a unit attention is pending (SAM-5 "Unit attention condition").
     pub passes_attention: bool,
-    /// It is done where the LUN names no unit (SPC-4 "INQUIRY command", "REQUEST SENSE command").
+    /// It is carried out if the LUN names no unit (SPC-4 "INQUIRY command", "REQUEST SENSE command").
     pub passes_missing_unit: bool,
-    /// It is refused where the unit is not so.
+    /// It is refused if the unit does not meet this.
     pub needs: Need,
     pub reservation: ReservationClass,
 }
 
 impl Row {
-    /// The row of an operation code (SPC-4 "Operation code"; SPC-4, SBC-3 and SSC-4, each in "Commands").
+    /// Returns the row of an operation code (SPC-4 "Operation code"; SPC-4, SBC-3 and SSC-4, each in "Commands").
     pub fn of(code: u8) -> Option<Row>
         ensures { result ≡ row_of code }
     {
@@ -166,7 +166,7 @@ impl Row {
         }
     }
 
-    /// The row of an operation code that units of this kind have.
+    /// Returns the row of an operation code, if units of this kind have it.
     pub fn for_kind(code: u8, kind: Kind) -> Option<Row>
         ensures { result ≡ row_for kind code }
     {
@@ -179,7 +179,7 @@ impl Row {
     }
 }
 
-/// The class for reservations of an operation code that units of this kind have.
+/// Returns the class for reservations of an operation code, if units of this kind have it.
 pub fn class(code: u8, kind: Kind) -> Option<ReservationClass>
     ensures { result ≡ class_of kind code }
 {
@@ -187,14 +187,14 @@ pub fn class(code: u8, kind: Kind) -> Option<ReservationClass>
 }
 
 impl Operation {
-    /// Whether the target answers it for all its units: REPORT LUNS (SPC-4 "REPORT LUNS command").
+    /// Returns whether the target answers it for all its units: REPORT LUNS (SPC-4 "REPORT LUNS command").
     pub fn is_of_target(self) -> bool
         ensures { result ≡ is_of_target self }
     {
         matches!(self, Operation::Unit(UnitOperation::ReportLuns))
     }
 
-    /// Whether units of this kind have it.
+    /// Returns whether units of this kind have it.
     pub fn is_for(self, kind: Kind) -> bool
         ensures { result ≡ is_for kind self }
     {
@@ -207,7 +207,7 @@ impl Operation {
     }
 }
 
-/// A row, as the table has it.
+/// Returns a row, as the table has it.
 fn make_row(
     operation: Operation,
     passes_attention: bool,

@@ -1,4 +1,4 @@
-//! What PERSISTENT RESERVE IN and PERSISTENT RESERVE OUT ask for.
+//! What PERSISTENT RESERVE IN and PERSISTENT RESERVE OUT request.
 
 ghost use Rattle.std.specs.Prelude.{◌≡◌};
 ghost use Rattle.scsi_cdb.specs.PersistentReserve.{read_action_of, reserve_in_of, action_of, is_type as is_type_named, takes_type, reserve_out_of};
@@ -24,7 +24,7 @@ pub enum ReadAction {
 }
 
 impl ReadAction {
-    /// The one of this code.
+    /// Returns the service action of this code.
     pub fn of(code: u8) -> Option<ReadAction>
         ensures { result ≡ read_action_of code }
     {
@@ -45,7 +45,7 @@ pub struct ReserveInFields {
 }
 
 impl ReserveInFields {
-    /// The fields that the bytes spell.
+    /// Returns the fields that the bytes encode.
     pub fn read(bytes: &[u8; 16]) -> Result<ReserveInFields, FieldFault>
         ensures { result ≡ reserve_in_of bytes.now }
     {
@@ -78,7 +78,7 @@ pub enum ServiceAction {
 }
 
 impl ServiceAction {
-    /// The one of this code.
+    /// Returns the service action of this code.
     pub fn of(code: u8) -> Option<ServiceAction>
         ensures { result ≡ action_of code }
     {
@@ -93,7 +93,7 @@ impl ServiceAction {
         }
     }
 
-    /// Whether it is taken with this SCOPE and TYPE.
+    /// Returns whether it is accepted with this SCOPE and TYPE.
     fn takes_type(self, scope: u8, code: u8) -> bool
         ensures { result ≡ takes_type self scope code }
     {
@@ -107,7 +107,7 @@ impl ServiceAction {
     }
 }
 
-/// Whether SCOPE and TYPE name a type of reservations (SPC-4 "Persistent reservations type").
+/// Returns whether SCOPE and TYPE name a type of reservations (SPC-4 "Persistent reservations type").
 fn is_type(scope: u8, code: u8) -> bool
     ensures { result ≡ is_type_named scope code }
 {
@@ -115,7 +115,7 @@ fn is_type(scope: u8, code: u8) -> bool
 }
 
 /// The fields of PERSISTENT RESERVE OUT (SPC-4 "PERSISTENT RESERVE OUT command"). SCOPE and TYPE name a type of
-/// reservations where the action is RESERVE or RELEASE.
+/// reservations if the action is RESERVE or RELEASE.
 #[derive(Clone, Copy, Debug, PartialEq, Eq)]
 pub struct ReserveOutFields {
     pub action: ServiceAction,
@@ -123,12 +123,12 @@ pub struct ReserveOutFields {
     pub scope: u8,
     /// TYPE
     pub code: u8,
-    /// The bytes of the parameter list.
+    /// The number of bytes of the parameter list.
     pub list_length: u32,
 }
 
 impl ReserveOutFields {
-    /// The fields that the bytes spell.
+    /// Returns the fields that the bytes encode.
     pub fn read(bytes: &[u8; 16]) -> Result<ReserveOutFields, FieldFault>
         ensures { result ≡ reserve_out_of bytes.now }
     {

@@ -8,7 +8,7 @@ use std::marker::Model;
 /// The most bytes of one record.
 pub const MOST_RECORD: u32 = 1_048_576;
 
-/// The length of a record that is written, in bytes: [`MOST_RECORD`] at most. Clauses see the number.
+/// The length of a record that is written, in bytes: at most [`MOST_RECORD`]. Clauses see the number.
 #[derive(Clone, Copy, Debug, PartialEq, Eq)]
 pub struct RecordLength {
     bytes: u32,
@@ -30,7 +30,7 @@ impl Model for RecordLength {
 }
 
 impl RecordLength {
-    /// The length, or none where no record is so long.
+    /// Returns the length, or `None` if no record is that long.
     pub fn new(bytes: u32) -> Option<RecordLength>
         ensures { result ≡ record_length_of bytes }
     {
@@ -40,7 +40,7 @@ impl RecordLength {
         Some(RecordLength { bytes })
     }
 
-    /// In bytes.
+    /// Returns the length in bytes.
     pub fn bytes(self) -> u32
         ensures value { result ≡ self }
         ensures bound { result ≤ most_record }

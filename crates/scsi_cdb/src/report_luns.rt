@@ -1,4 +1,4 @@
-//! What REPORT LUNS asks for.
+//! What REPORT LUNS requests.
 
 ghost use Rattle.std.specs.Prelude.{◌≡◌};
 ghost use Rattle.scsi_cdb.specs.Command.{report_luns_of};
@@ -25,7 +25,7 @@ pub struct ReportLunsFields {
 }
 
 impl ReportLunsFields {
-    /// The fields that the bytes spell.
+    /// Returns the fields that the bytes encode.
     pub fn read(bytes: &[u8; 16]) -> Result<ReportLunsFields, FieldFault>
         ensures { result ≡ report_luns_of bytes.now }
     {

@@ -51,7 +51,7 @@ pub enum SpaceCode {
     Filemarks,
 }
 
-/// How many are spaced over, and which way (SSC-4 "SPACE (6) command", COUNT).
+/// How many are spaced over, and in which direction (SSC-4 "SPACE (6) command", COUNT).
 #[derive(Clone, Copy, Debug, PartialEq, Eq)]
 pub struct Distance {
     /// Toward the beginning of the tape.
@@ -59,59 +59,59 @@ pub struct Distance {
     pub count: u32,
 }
 
-/// Whether it is told that a record has another length than was asked for (SSC-4 "READ (6) command", SILI).
+/// Whether it is reported that a record's length differs from the length requested (SSC-4 "READ (6) command", SILI).
 #[derive(Clone, Copy, Debug, PartialEq, Eq)]
 pub enum IncorrectLength {
-    /// SILI is clear.
+    /// SILI is clear: it is reported.
     Told,
-    /// SILI is set, and the tape has a block length: that a record is longer is told all the same.
+    /// SILI is set, and the tape has a block length: it is still reported if the record is longer.
     ToldIfLonger,
-    /// SILI is set, and blocks have any length.
+    /// SILI is set, and blocks have any length: it is not reported.
     Suppressed,
 }
 
 /// A command to a tape.
 #[derive(Clone, Copy, Debug, PartialEq, Eq)]
 pub enum TapeCommand {
-    /// Sets the position before all that is written (SSC-4 "REWIND command").
+    /// Sets the position before everything written (SSC-4 "REWIND command").
     Rewind,
-    /// Asks for the lengths that a record can have (SSC-4 "READ BLOCK LIMITS command").
+    /// Requests the lengths that a record can have (SSC-4 "READ BLOCK LIMITS command").
     ReadBlockLimits,
-    /// Asks for the record behind the position, with the length that it should have in bytes (SSC-4 "READ (6)
-    /// command").
+    /// Requests the record after the position, with the length that it should have in bytes (SSC-4 "READ (6) command").
     Read {
         length: u32,
         incorrect_length: IncorrectLength,
     },
-    /// Asks for so many records of the tape's block length (the same, FIXED).
+    /// Requests a number of records of the tape's block length (the same, FIXED).
     ReadFixed(FixedBlocks),
     /// Writes a record (SSC-4 "WRITE (6) command").
     Write(RecordLength),
-    /// Writes so many records of the tape's block length (the same, FIXED).
+    /// Writes a number of records of the tape's block length (the same, FIXED).
     WriteFixed(FixedBlocks),
-    /// Writes so many filemarks, and waits until all is on the medium (SSC-4 "WRITE FILEMARKS (6) command").
+    /// Writes this many filemarks, and waits until everything is on the medium (SSC-4 "WRITE FILEMARKS (6) command").
     WriteFilemarks(u32),
-    /// Moves the position over so many logical blocks or filemarks (SSC-4 "SPACE (6) command").
+    /// Moves the position over a number of logical blocks or filemarks (SSC-4 "SPACE (6) command").
     Space {
         code: SpaceCode,
         distance: Distance,
     },
-    /// Sets the position behind all that is written (the same, CODE 3h).
+    /// Sets the position after everything written (the same, CODE 3h).
     SpaceToEndOfData,
-    /// Removes all behind the position (SSC-4 "ERASE (6) command").
+    /// Removes everything after the position (SSC-4 "ERASE (6) command").
     Erase,
-    /// Loads the tape, or unloads it (SSC-4 "LOAD UNLOAD command").
+    /// Loads or unloads the tape (SSC-4 "LOAD UNLOAD command").
     LoadUnload {
         load: bool,
     },
-    /// Sets the position behind so many logical objects (SSC-4 "LOCATE (10) command").
+    /// Sets the position after this many logical objects (SSC-4 "LOCATE (10) command").
     Locate(u32),
-    /// Asks for the position (SSC-4 "READ POSITION command", short form).
+    /// Requests the position (SSC-4 "READ POSITION command", short form).
     ReadPosition,
 }
 
 impl TapeOperation {
-    /// The command that the bytes spell for this operation, to a tape with this block length (0: blocks have any length).
+    /// Returns the command that the bytes encode for this operation, to a tape with this block length (0: blocks have
+    /// any length).
     pub fn command(self, bytes: &[u8; 16], block_length: u32) -> Result<TapeCommand, FieldFault>
         ensures { result ≡ tape_fields self bytes.now block_length }
     {
@@ -147,7 +147,7 @@ impl TapeOperation {
     }
 }
 
-/// A number of three bytes in two's complement.
+/// Reads a number of three bytes in two's complement.
 fn signed(number: u32) -> Distance
     ensures { result ≡ distance_of number }
 {
@@ -162,7 +162,7 @@ fn signed(number: u32) -> Distance
     }
 }
 
-/// READ of a record of so many bytes, or of so many blocks of this length, with this byte 1.
+/// Returns READ of a record of `number` bytes, or with FIXED of `number` blocks of this length, with this byte 1.
 fn read(byte_1: u8, number: u32, block_length: u32) -> Result<TapeCommand, FieldFault>
     ensures { result ≡ read_of byte_1 number block_length }
 {
@@ -179,7 +179,7 @@ fn read(byte_1: u8, number: u32, block_length: u32) -> Result<TapeCommand, Field
     }
 }
 
-/// What SILI asks for of a tape with this block length.
+/// Returns what SILI requests of a tape with this block length.
 fn incorrect_length(suppresses: bool, block_length: u32) -> IncorrectLength
     ensures { result ≡ incorrect_length_of suppresses block_length }
 {
@@ -192,7 +192,7 @@ fn incorrect_length(suppresses: bool, block_length: u32) -> IncorrectLength
     }
 }
 
-/// WRITE of a record of so many bytes, or of so many blocks of this length, with this byte 1.
+/// Returns WRITE of a record of `number` bytes, or with FIXED of `number` blocks of this length, with this byte 1.
 fn write(byte_1: u8, number: u32, block_length: u32) -> Result<TapeCommand, FieldFault>
     ensures { result ≡ write_of byte_1 number block_length }
 {
@@ -204,7 +204,7 @@ fn write(byte_1: u8, number: u32, block_length: u32) -> Result<TapeCommand, Fiel
     command.ok_or(FieldFault::InvalidField)
 }
 
-/// SPACE with this code.
+/// Returns SPACE with this code.
 fn space(code: u8, distance: Distance) -> Result<TapeCommand, FieldFault>
     ensures { result ≡ space_of code distance }
 {
