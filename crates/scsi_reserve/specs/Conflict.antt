@@ -27,7 +27,7 @@ refused_to ExclusiveAccessRegistrantsOnly = by_who Nothing Nothing ReadingAndWri
 refused_to WriteExclusiveAllRegistrants = by_who Nothing Nothing Writing
 refused_to ExclusiveAccessAllRegistrants = by_who Nothing Nothing ReadingAndWriting
 
--- own: whether what is forbidden has commands of a class
+-- own: whether what is forbidden includes commands of a class
 abbrev pub is_refused : Refused → ReservationClass → Bool
 is_refused refused class.Always = false
 is_refused Nothing class.Reading = false

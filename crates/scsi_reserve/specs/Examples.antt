@@ -39,18 +39,18 @@ all_conflicts : conflicts ≡
     ∷ []
 all_conflicts = refl
 
--- another scope, and types that are none
+-- another scope, and types that do not exist
 types : (type_of 0 0x5 ≡ Some WriteExclusiveRegistrantsOnly) × (type_of 1 0x5 ≡ None) × (type_of 0 0x0 ≡ None) × (type_of 0 0x2 ≡ None) × (type_of 0 0x9 ≡ None)
 types = (refl, refl, refl, refl, refl)
 
--- RESERVE and RELEASE are taken with the codes of these types, of scope 0 alone
+-- RESERVE and RELEASE are accepted with the codes of these types, of scope 0 alone
 abbrev all_codes : List ℕ
 all_codes = 0 ∷ 1 ∷ 2 ∷ 3 ∷ 4 ∷ 5 ∷ 6 ∷ 7 ∷ 8 ∷ 9 ∷ 10 ∷ 11 ∷ 12 ∷ 13 ∷ 14 ∷ 15 ∷ []
 
 taken : (map (is_type 0) all_codes ≡ map (λ code. is_some (type_of 0 code)) all_codes) × (map (is_type 1) all_codes ≡ replicate 16 false)
 taken = (refl, refl)
 
--- ---- who takes part
+-- ---- the nexuses
 
 abbrev a : NexusName
 a = record { initiator_name = codes "a"; isid = 0x80 ∷ 0 ∷ 0 ∷ 0 ∷ 0 ∷ 1 ∷ [] }
@@ -66,7 +66,7 @@ c = record { initiator_name = codes "a"; isid = 0x80 ∷ 0 ∷ 0 ∷ 0 ∷ 0 ∷
 abbrev keys : ℕ → ℕ → List ℕ
 keys key action_key = to_be_bytes w64 key ++ to_be_bytes w64 action_key ++ replicate 8 0
 
--- both registered, a with A1h and then b with B2h, and a holds a reservation of this type
+-- both registered, first a with A1h and then b with B2h, and a holds a reservation of this type
 abbrev shared : ReservationType → TableState
 shared kind = record {
   rows = record { nexus = a; key = 0xa1 } ∷ record { nexus = b; key = 0xb2 } ∷ [];
@@ -74,7 +74,7 @@ shared kind = record {
   generation = 2;
 }
 
--- ---- fencing: a reserves, and b takes over once a is gone
+-- ---- fencing: a reserves, and b takes over after a has failed
 
 abbrev a_reserves : TableState
 a_reserves = (out_of Reserve 0x0 0x5 (keys 0xa1 0) a (out_of Register 0x0 0x0 (keys 0 0xa1) a empty_table).0).0
@@ -90,7 +90,7 @@ reserved_by_a : a_reserves ≡ record {
 unfolding out_of registered reserved
 reserved_by_a = refl
 
--- b may read and not write, and so may a by another session's name
+-- b may read and not write; so may the initiator of a with another ISID
 b_reads : (is_allowed b Reading a_reserves ≡ true) × (is_allowed b Writing a_reserves ≡ false)
     × (is_allowed a Writing a_reserves ≡ true) × (is_allowed c Writing a_reserves ≡ false)
 unfolding out_of registered reserved
@@ -112,7 +112,7 @@ keys_then : data_of ReadKeys b_preempts.0 ≡ 0 ∷ 0 ∷ 0 ∷ 3 ∷ 0 ∷ 0 �
 unfolding out_of registered reserved preempted taken_over keys_data
 keys_then = refl
 
--- ---- PREEMPT of a registration alone: the type is not looked at, the reservation stays, and b is told
+-- ---- PREEMPT of a registration alone: the type is ignored, the reservation stays, and b gets an attention
 
 removed_by_a : out_of Preempt 0x0 0x0 (keys 0xa1 0xb2) a (shared WriteExclusiveRegistrantsOnly) ≡ (
   record {
@@ -125,14 +125,16 @@ removed_by_a : out_of Preempt 0x0 0x0 (keys 0xa1 0xb2) a (shared WriteExclusiveR
 unfolding out_of preempted removed
 removed_by_a = refl
 
--- a key that nobody has; key 0, where one nexus holds the reservation; a type that is none, where it would be made
+-- a key without registration; key 0, if one nexus holds the reservation; a type that does not exist, if it would be
+-- made
 not_preempted : (out_of Preempt 0x0 0x5 (keys 0xa1 0xc3) a (shared WriteExclusive) ≡ (shared WriteExclusive, ended_with ReservationConflict))
     × (out_of Preempt 0x0 0x5 (keys 0xb2 0) b (shared WriteExclusive) ≡ (shared WriteExclusive, ended_with (CheckCondition InvalidFieldInParameterList)))
     × (out_of Preempt 0x0 0x0 (keys 0xb2 0xa1) b (shared WriteExclusive) ≡ (shared WriteExclusive, ended_with (CheckCondition InvalidFieldInCdb)))
 unfolding out_of preempted taken_over removed
 not_preempted = (refl, refl, refl)
 
--- a preempts itself: it stays registered, holds the other type, and b is told that the first one is released
+-- a preempts itself: it stays registered and holds the other type, and b gets the attention that the first one is
+-- released
 preempts_itself : out_of Preempt 0x0 0x3 (keys 0xa1 0xa1) a (shared WriteExclusive) ≡ (
   record {
     rows = record { nexus = a; key = 0xa1 } ∷ record { nexus = b; key = 0xb2 } ∷ [];
@@ -156,7 +158,7 @@ c_reads : (is_allowed c Reading (shared WriteExclusiveAllRegistrants) ≡ true) 
     × (is_allowed b Writing (shared WriteExclusiveAllRegistrants) ≡ true)
 c_reads = (refl, refl, refl)
 
--- b goes, and the reservation stays; a goes too, and it ends
+-- b unregisters, and the reservation stays; a unregisters too, and it ends
 abbrev b_leaves : TableState × Ending
 b_leaves = out_of Register 0x0 0x0 (keys 0xb2 0) b (shared WriteExclusiveAllRegistrants)
 
@@ -175,7 +177,7 @@ ends_at_last : out_of Register 0x0 0x0 (keys 0xa1 0) a b_leaves.0 ≡ (record { 
 unfolding out_of unregistered
 ends_at_last = refl
 
--- ---- the holder unregisters: it ends, and b is told where it had rights by it
+-- ---- the holder unregisters: the reservation ends, and b gets an attention if it had rights by it
 
 holder_leaves : out_of RegisterAndIgnoreExistingKey 0x0 0x0 (keys 0xff 0) a (shared WriteExclusiveRegistrantsOnly) ≡ (
   record { rows = record { nexus = b; key = 0xb2 } ∷ []; reservation = None; generation = 3 },
@@ -211,7 +213,7 @@ clears = refl
 
 -- ---- what is refused, in its order: the type, the length of the list, its bits, the key
 
--- lengths 0, 23 and 25; RESERVE of a type that is none with such a list; SPEC_I_PT, ALL_TG_PT, APTPL
+-- lengths 0, 23 and 25; RESERVE of a type that does not exist with such a list; SPEC_I_PT, ALL_TG_PT, APTPL
 refused : ((out_of Register 0x0 0x0 [] a empty_table).1 ≡ ended_with (CheckCondition ParameterListLengthError))
     × ((out_of Register 0x0 0x0 (replicate 23 0) a empty_table).1 ≡ ended_with (CheckCondition ParameterListLengthError))
     × ((out_of Register 0x0 0x0 (replicate 25 0) a empty_table).1 ≡ ended_with (CheckCondition ParameterListLengthError))
@@ -240,7 +242,7 @@ no_more : out_of Register 0x0 0x0 (keys 0 0xa1) a full ≡ (full, ended_with (Ch
 unfolding out_of registered
 no_more = refl
 
--- the generation behind FFFFFFFFh, with a new key where a was registered
+-- the generation after FFFFFFFFh, with a new key for a, which was registered
 wraps : out_of Register 0x0 0x0 (keys 0xa1 0xa2) a (record { rows = record { nexus = a; key = 0xa1 } ∷ []; reservation = None; generation = 0xffffffff })
     ≡ (record { rows = record { nexus = a; key = 0xa2 } ∷ []; reservation = None; generation = 0 }, ended_with Good)
 unfolding out_of registered

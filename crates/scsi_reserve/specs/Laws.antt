@@ -11,12 +11,12 @@ use Rattle.scsi_reserve.specs.declared.registration.Reservation.{Reservation}
 use Rattle.scsi_reserve.specs.declared.reservation_type.ReservationType.{ReservationType}
 use Rattle.scsi_cdb.specs.declared.persistent_reserve.ServiceAction.{ServiceAction}
 
--- SPC-4 "Registering": a nexus is registered once
+-- SPC-4 "Registering": a nexus is registered at most once
 abbrev pub AreOnce : List Row → Type 0
 AreOnce [] = Unit {0}
 AreOnce (row ∷ rows) = (own_key row.nexus rows ≡ None) × AreOnce rows
 
--- it stays so, whatever is asked
+-- it stays so, whatever is requested
 abbrev pub OnceStays : Type 0
 OnceStays = (action : ServiceAction) (scope code : ℕ) (list : List ℕ) (nexus : NexusName) (table : TableState)
     → AreOnce table.rows → AreOnce (out_of action scope code list nexus table).0.rows
@@ -27,8 +27,8 @@ HolderMayAll = (nexus : NexusName) (class : ReservationClass) (table : TableStat
     → table.reservation ≡ Some reservation → is_held_by nexus table.rows reservation ≡ true
     → is_allowed nexus class table ≡ true
 
--- SPC-4 "Preempting": where another nexus preempts with the key of the one that holds a reservation alone, that one may
--- write no more, whichever type the new reservation has
+-- SPC-4 "Preempting": if another nexus preempts with the key of the one that alone holds a reservation, that one can no
+-- longer write. This holds for any type of the new reservation
 abbrev pub HolderIsFenced : Type 0
 HolderIsFenced = (kind : ReservationType) (key : ℕ) (nexus : NexusName) (table : TableState) (reservation : Reservation)
     → table.reservation ≡ Some reservation → AreOnce table.rows

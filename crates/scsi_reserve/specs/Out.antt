@@ -1,4 +1,4 @@
--- What PERSISTENT RESERVE OUT does to a table, and what it ends with.
+-- What PERSISTENT RESERVE OUT does to a table, and its outcome.
 use Rattle.std.specs.Prelude.{ℕ, List, [], ◌∷◌, ◌++◌, length, map, Bool, false, not, ◌==◌, ◌&&◌, ◌||◌, nat_lt, Option, Some, None, is_some, Result}
 use Rattle.std.specs.Prelude.{Ok, Err, if◌then◌else◌}
 use Rattle.scsi_sense.specs.Nexus.{NexusName}
@@ -27,13 +27,13 @@ use Rattle.scsi_reserve.specs.declared.request.Request.{Request}
 use Rattle.scsi_reserve.specs.declared.request.Request.TheVariants.{Register, Reserve, Release, Clear, Preempt, RegisterAndIgnoreExistingKey}
 use Rattle.scsi_reserve.specs.declared.parameter_list.ParameterList.{ParameterList}
 
--- nothing changes, and it ends so
+-- nothing changes, and this is the outcome
 abbrev pub ends : Ended → TableState → TableState × Ending
 ends ended table = (table, ended_with ended)
 
 -- ---- REGISTER, REGISTER AND IGNORE EXISTING KEY
 
--- SPC-4 "Registering": the nexus is registered with this key, behind the others or where it was; a 65th is refused
+-- SPC-4 "Registering": the nexus is registered with this key, after the others or in its old place; a 65th is refused
 unfoldable pub registered : ℕ → NexusName → TableState → TableState × Ending
 registered key nexus table =
     if is_some (own_key nexus table.rows)
@@ -42,21 +42,22 @@ registered key nexus table =
     then (with_rows (table.rows ++ record { nexus = nexus; key = key } ∷ []) table, ended_with Good)
     else ends (CheckCondition InsufficientRegistrationResources) table
 
--- SPC-4 "Unregistering": the reservation, where these registrations are left: one that the nexus held alone ends, and
--- one that is left to nobody
+-- SPC-4 "Unregistering": the reservation, if these registrations are left. It ends if the nexus alone held it, or if no
+-- registrant is left
 abbrev pub reservation_left : NexusName → List Row → Option Reservation → Option Reservation
 reservation_left nexus left None = None
 reservation_left nexus left (Some reservation) =
     if ends_with nexus reservation || length left == 0 then None else Some reservation
 
--- SPC-4 "Unregistering": where it held a reservation of registrants alone, the others are told that it is released
+-- SPC-4 "Unregistering": if it alone held a reservation of registrants, the others get the attention that it is
+-- released
 abbrev pub unregistering_due : NexusName → List Row → Option Reservation → List Due
 unregistering_due nexus rows None = []
 unregistering_due nexus rows (Some reservation) =
     if ends_with nexus reservation && is_of_registrants reservation.kind
     then due_of (to_all ReservationsReleased) nexus rows else []
 
--- SPC-4 "Unregistering": the nexus is not registered any more
+-- SPC-4 "Unregistering": the nexus is no longer registered
 unfoldable pub unregistered : NexusName → TableState → TableState × Ending
 unregistered nexus table =
     let left = without_nexus nexus table.rows in (
@@ -66,7 +67,7 @@ unregistered nexus table =
 
 -- ---- RESERVE, RELEASE, CLEAR
 
--- beside the reservation that there is, where there is one
+-- beside the existing reservation, if there is one
 abbrev pub reserved_beside : Option Reservation → ReservationType → NexusName → TableState → TableState × Ending
 reserved_beside None kind nexus table =
     (record table { reservation = Some (record { kind = kind; holder = nexus }) }, ended_with Good)
@@ -78,7 +79,7 @@ reserved_beside (Some reservation) kind nexus table =
 unfoldable pub reserved : ReservationType → NexusName → TableState → TableState × Ending
 reserved kind nexus table = reserved_beside table.reservation kind nexus table
 
--- of the reservation that there is, where there is one
+-- of the existing reservation, if there is one
 abbrev pub released_from : Option Reservation → ReservationType → NexusName → TableState → TableState × Ending
 released_from None kind nexus table = ends Good table
 released_from (Some reservation) kind nexus table =
@@ -89,11 +90,12 @@ released_from (Some reservation) kind nexus table =
       good_telling (if is_of_registrants kind then due_of (to_all ReservationsReleased) nexus table.rows else []),
     )
 
--- SPC-4 "Releasing": its holder ends a reservation of the same type; under 5h to 8h the other registrants are told
+-- SPC-4 "Releasing": its holder ends a reservation of the same type; under 5h to 8h the other registrants get an
+-- attention
 unfoldable pub released : ReservationType → NexusName → TableState → TableState × Ending
 released kind nexus table = released_from table.reservation kind nexus table
 
--- SPC-4 "Clearing": nobody is registered and nothing reserved; the other registrants are told
+-- SPC-4 "Clearing": all registrations and the reservation end; the other registrants get an attention
 unfoldable pub cleared : NexusName → TableState → TableState × Ending
 cleared nexus table = (
   record (with_rows [] table) { reservation = None },
@@ -102,14 +104,14 @@ cleared nexus table = (
 
 -- ---- PREEMPT
 
--- SPC-4 "Preempting persistent reservations and registration handling": what those are told that stay registered: that
--- the reservation is released, where the new one has another type
+-- SPC-4 "Preempting persistent reservations and registration handling": the attention for those that stay registered:
+-- the reservation is released, if the new one has another type
 abbrev pub rest_told : Option Reservation → ReservationType → Option Attention
 rest_told None kind = None
 rest_told (Some reservation) kind = if is_same_type reservation.kind kind then None else Some ReservationsReleased
 
--- SPC-4 "Preempting persistent reservations and registration handling": these others are not registered any more, and are
--- told; a reservation of the caller takes the place of the one that was
+-- SPC-4 "Preempting persistent reservations and registration handling": these others are no longer registered, and get
+-- an attention. A reservation of the caller replaces the old one
 unfoldable pub taken_over : Option ReservationType → Others → NexusName → TableState → TableState × Ending
 taken_over None others nexus table = ends (CheckCondition InvalidFieldInCdb) table
 taken_over (Some kind) others nexus table =
@@ -118,7 +120,7 @@ taken_over (Some kind) others nexus table =
       good_telling (due_of news nexus table.rows),
     )
 
--- SPC-4 "Removing registrations": these others are not registered any more, and are told
+-- SPC-4 "Removing registrations": these others are no longer registered, and get an attention
 unfoldable pub removed : Others → NexusName → TableState → TableState × Ending
 removed others nexus table =
     let news : News = record { others = others; told = RegistrationsPreempted; rest = None } in (
@@ -131,13 +133,13 @@ abbrev pub is_held_by_all : Option Reservation → Bool
 is_held_by_all None = false
 is_held_by_all (Some reservation) = is_of_all reservation.kind
 
--- whether there is one that one nexus holds alone, which is registered with this key
+-- whether one nexus alone holds it, and is registered with this key
 abbrev pub is_held_by_one : ℕ → List Row → Option Reservation → Bool
 is_held_by_one key rows None = false
 is_held_by_one key rows (Some reservation) = is_held_with key rows reservation
 
--- SPC-4 "Preempting": with key 0 the reservation that all registrants hold, with its key that which one nexus holds; with
--- another key registrations alone, of which there is to be one
+-- SPC-4 "Preempting": key 0 preempts the reservation that all registrants hold, and its holder's key that of one nexus.
+-- Any other key removes registrations alone, of which there must be one
 unfoldable pub preempted : Option ReservationType → ℕ → NexusName → TableState → TableState × Ending
 preempted kind key nexus table =
     if key == 0 then if is_held_by_all table.reservation then taken_over kind All nexus table
@@ -148,7 +150,7 @@ preempted kind key nexus table =
 
 -- ---- the command
 
--- a service action that the nexus may ask for, with its service action reservation key
+-- a service action that the nexus may request, with its service action reservation key
 abbrev pub acted : Request → ℕ → NexusName → TableState → TableState × Ending
 acted Register key nexus table = if key == 0 then unregistered nexus table else registered key nexus table
 acted RegisterAndIgnoreExistingKey key nexus table = if key == 0 then unregistered nexus table else registered key nexus table
@@ -157,7 +159,7 @@ acted (Release kind) key nexus table = released kind nexus table
 acted Clear key nexus table = cleared nexus table
 acted (Preempt kind) key nexus table = preempted kind key nexus table
 
--- SPC-4 "PERSISTENT RESERVE OUT command": one that may not be asked for is a RESERVATION CONFLICT
+-- SPC-4 "PERSISTENT RESERVE OUT command": one that must not be requested is a RESERVATION CONFLICT
 abbrev pub asked : Result Request Condition → Result ParameterList Condition → NexusName → TableState → TableState × Ending
 asked (Err condition) list nexus table = ends (CheckCondition condition) table
 asked (Ok request) (Err condition) nexus table = ends (CheckCondition condition) table

@@ -1,4 +1,4 @@
--- What PERSISTENT RESERVE IN gives (SPC-4 "PERSISTENT RESERVE IN command").
+-- The data that PERSISTENT RESERVE IN returns (SPC-4 "PERSISTENT RESERVE IN command").
 use Rattle.std.specs.Prelude.{ℕ, ◌*◌, List, [], ◌∷◌, ◌++◌, length, replicate, Option, Some, None, unwrap_or, if◌then◌else◌}
 use Rattle.std.specs.Int.{w32, w64, to_be_bytes}
 use Rattle.std.specs.List.{flat_map}
@@ -19,7 +19,7 @@ unfoldable pub keys_data : TableState → List ℕ
 keys_data table =
     to_be_bytes w32 table.generation ++ to_be_bytes w32 (8 * length table.rows) ++ flat_map key_bytes table.rows
 
--- SPC-4 "READ RESERVATION service action": the holder's key, or 0 where all registrants hold the reservation
+-- SPC-4 "READ RESERVATION service action": the holder's key, or 0 if all registrants hold the reservation
 abbrev pub shown_key : List Row → Reservation → ℕ
 shown_key rows reservation = if is_of_all reservation.kind then 0 else unwrap_or (own_key reservation.holder rows) 0
 

@@ -1,4 +1,4 @@
--- Who is registered with a logical unit, and who holds a reservation of it.
+-- The registrations of a logical unit, and the holder of its reservation.
 use Rattle.std.specs.Prelude.{ℕ, List, [], ◌∷◌, filter, Bool, not, ◌==◌, ◌&&◌, Option, Some, None, is_some, if◌then◌else◌}
 use Rattle.std.specs.List.{list_any}
 use Rattle.scsi_sense.specs.Nexus.{NexusName, same_nexus}
@@ -9,7 +9,7 @@ use Rattle.scsi_reserve.specs.declared.conflict.Who.TheVariants.{Holder, Registr
 use Rattle.scsi_reserve.specs.declared.registration.Row.{Row}
 use Rattle.scsi_reserve.specs.declared.registration.Reservation.{Reservation}
 
--- SPC-4 "Registering": the key that a nexus is registered with, where it is
+-- SPC-4 "Registering": the key that a nexus is registered with, if it is registered
 abbrev pub own_key : NexusName → List Row → Option ℕ
 own_key nexus [] = None
 own_key nexus (row ∷ rows) = if same_nexus row.nexus nexus then Some row.key else own_key nexus rows
@@ -18,7 +18,7 @@ own_key nexus (row ∷ rows) = if same_nexus row.nexus nexus then Some row.key e
 abbrev pub has_key : ℕ → List Row → Bool
 has_key key rows = list_any (λ row. row.key == key) rows
 
--- a registration, with another key where it is that of the nexus
+-- a registration, with another key if it is that of the nexus
 abbrev pub with_key : NexusName → ℕ → Row → Row
 with_key nexus key row = if same_nexus row.nexus nexus then record row { key = key } else row
 
@@ -31,7 +31,7 @@ abbrev pub is_held_by : NexusName → List Row → Reservation → Bool
 is_held_by nexus rows reservation =
     if is_of_all reservation.kind then is_some (own_key nexus rows) else same_nexus reservation.holder nexus
 
--- what a nexus is to a reservation
+-- the relation of a nexus to a reservation
 abbrev pub who_of : NexusName → List Row → Reservation → Who
 who_of nexus rows reservation =
     if is_held_by nexus rows reservation then Holder
@@ -41,6 +41,6 @@ who_of nexus rows reservation =
 abbrev pub ends_with : NexusName → Reservation → Bool
 ends_with nexus reservation = not (is_of_all reservation.kind) && same_nexus reservation.holder nexus
 
--- whether one nexus holds it, which is registered with this key
+-- whether one nexus alone holds it, and is registered with this key
 abbrev pub is_held_with : ℕ → List Row → Reservation → Bool
 is_held_with key rows reservation = not (is_of_all reservation.kind) && is_key key (own_key reservation.holder rows)

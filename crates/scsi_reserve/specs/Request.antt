@@ -1,4 +1,4 @@
--- What PERSISTENT RESERVE OUT asks for, and who may ask for it.
+-- What PERSISTENT RESERVE OUT requests, and who may request it.
 use Rattle.std.specs.Prelude.{ℕ, List, length, Bool, true, false, not, ◌==◌, Option, Some, None, unwrap_or, Result, Ok, Err, slice_index, bit_and}
 use Rattle.std.specs.Prelude.{if◌then◌else◌}
 use Rattle.byteorder.specs.Endian.{big_from}
@@ -35,9 +35,8 @@ abbrev pub is_key : ℕ → Option ℕ → Bool
 is_key key None = false
 is_key key (Some own) = own == key
 
--- SPC-4 "Registering", "PERSISTENT RESERVE OUT command": whether a nexus, with the key that it is registered with, where
--- it is, may ask with this reservation key: with its own; REGISTER with 0 where it is not registered; REGISTER AND IGNORE
--- EXISTING KEY with any
+-- SPC-4 "Registering", "PERSISTENT RESERVE OUT command": whether a nexus may request with this reservation key. It
+-- needs its own key; REGISTER needs 0 if it is not registered; REGISTER AND IGNORE EXISTING KEY accepts any
 abbrev pub may_ask : Request → Option ℕ → ℕ → Bool
 may_ask RegisterAndIgnoreExistingKey own key = true
 may_ask Register own key = key == unwrap_or own 0

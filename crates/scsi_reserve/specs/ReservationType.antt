@@ -20,7 +20,7 @@ all_types =
     WriteExclusive ∷ ExclusiveAccess ∷ WriteExclusiveRegistrantsOnly ∷ ExclusiveAccessRegistrantsOnly
     ∷ WriteExclusiveAllRegistrants ∷ ExclusiveAccessAllRegistrants ∷ []
 
--- the one of a code
+-- the type of a code
 abbrev pub type_among : List ReservationType → ℕ → Option ReservationType
 type_among [] code = None
 type_among (kind ∷ kinds) code = if code == type_code kind then Some kind else type_among kinds code
@@ -33,7 +33,7 @@ type_of scope code = if scope == 0 then type_among all_types code else None
 abbrev pub is_same_type : ReservationType → ReservationType → Bool
 is_same_type kind other = type_code kind == type_code other
 
--- SPC-4 "Persistent reservation holder": of these types every registered nexus is one
+-- SPC-4 "Persistent reservation holder": of these types every registered nexus is a holder
 abbrev pub is_of_all : ReservationType → Bool
 is_of_all WriteExclusive = false
 is_of_all ExclusiveAccess = false

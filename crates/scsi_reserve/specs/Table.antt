@@ -7,7 +7,7 @@ use Rattle.scsi_reserve.specs.Registration.{who_of}
 use Rattle.scsi_reserve.specs.declared.registration.Row.{Row}
 use Rattle.scsi_reserve.specs.declared.registration.Reservation.{Reservation}
 
--- who is registered, in the order of registering; the reservation, if there is one; PRGENERATION
+-- the registrations, in the order of registering; the reservation, if there is one; PRGENERATION
 pub record TableState : Type 0 where
   pub rows : List Row
   pub reservation : Option Reservation
@@ -29,11 +29,11 @@ risen generation = (generation + 1) % 2 ^ 32
 abbrev pub with_rows : List Row → TableState → TableState
 with_rows rows table = record table { rows = rows; generation = risen table.generation }
 
--- whether a reservation, where there is one, allows a nexus a class of commands
+-- whether a reservation, if there is one, allows a nexus a class of commands
 abbrev pub is_allowed_by : Option Reservation → List Row → NexusName → ReservationClass → Bool
 is_allowed_by None rows nexus class = true
 is_allowed_by (Some reservation) rows nexus class = not (conflict reservation.kind (who_of nexus rows reservation) class)
 
--- whether a nexus may send a command of a class: otherwise it is a RESERVATION CONFLICT
+-- whether a nexus may send a command of a class; otherwise it is a RESERVATION CONFLICT
 abbrev pub is_allowed : NexusName → ReservationClass → TableState → Bool
 is_allowed nexus class table = is_allowed_by table.reservation table.rows nexus class

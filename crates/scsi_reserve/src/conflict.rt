@@ -6,7 +6,7 @@ ghost use Rattle.scsi_reserve.specs.Conflict.{is_refused};
 use crate::reservation_type::ReservationType;
 use scsi_cdb::ReservationClass;
 
-/// What a nexus is to a reservation.
+/// The relation of a nexus to a reservation.
 #[derive(Clone, Copy, Debug, PartialEq, Eq)]
 pub(crate) enum Who {
     Holder,
@@ -24,7 +24,7 @@ pub(crate) enum Refused {
 }
 
 impl Refused {
-    /// Whether it forbids commands of this class.
+    /// Returns whether it forbids commands of this class.
     fn has(self, class: ReservationClass) -> bool
         ensures { result ≡ is_refused self class }
     {
@@ -37,8 +37,8 @@ impl Refused {
     }
 }
 
-/// What a reservation of this type forbids (SPC-4, SBC-3 and SSC-4, commands that are allowed in the presence of
-/// various reservations).
+/// Returns what a reservation of this type forbids (SPC-4, SBC-3 and SSC-4, commands that are allowed in the presence
+/// of various reservations).
 fn refused_to(kind: ReservationType, who: Who) -> Refused
     ensures { result ≡ Rattle.scsi_reserve.specs.Conflict.refused_to kind who }
 {
@@ -58,7 +58,7 @@ fn refused_to(kind: ReservationType, who: Who) -> Refused
     }
 }
 
-/// Whether a command of this class is a RESERVATION CONFLICT.
+/// Returns whether a command of this class is a RESERVATION CONFLICT.
 pub(crate) fn conflict(kind: ReservationType, who: Who, class: ReservationClass) -> bool
     ensures { result ≡ Rattle.scsi_reserve.specs.Conflict.conflict kind who class }
 {

@@ -2,8 +2,8 @@
 
 ghost use Rattle.scsi_reserve.specs.Laws.{OnceStays, HolderMayAll, HolderIsFenced};
 
-/// Whatever is asked, a nexus is registered once in a table. The holder of a reservation may do all. And fencing: the
-/// holder that another nexus preempts by its key may write no more.
+/// States three laws. Whatever is requested, a nexus is registered at most once in a table. The holder of a reservation
+/// may do everything. And fencing: a holder that another nexus preempts by its key can no longer write.
 pub fn reservations_hold()
     ensures once { OnceStays }
     ensures holder { HolderMayAll }

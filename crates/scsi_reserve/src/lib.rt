@@ -1,5 +1,5 @@
-//! Persistent reservations (SPC-4 "Persistent reservations"): who is registered with a logical unit, who holds a
-//! reservation of it, and what that forbids others. A cluster fences a failed node by them.
+//! Persistent reservations (SPC-4 "Persistent reservations"): the registrations of a logical unit, its reservation, and
+//! what that forbids others. A cluster uses them to fence a failed node.
 //!
 //! ```text
 //! registrations, in order            reservation              generation
@@ -12,15 +12,18 @@
 //! any other nexus            allowed     a conflict
 //! ```
 //!
-//! They are of a nexus, by the name of its initiator and its ISID, so they outlive its sessions.
+//! They belong to a nexus, identified by the name of its initiator and its ISID, so they outlive its sessions.
 //!
-//! Promised of a [`Table`]: [`Table::out`] (PERSISTENT RESERVE OUT) leaves and answers what its definition `out_of`
-//! says, [`Table::read_in`] (PERSISTENT RESERVE IN) gives exactly the bytes of `data_of`, and [`Table::allows`] is
-//! `is_allowed`, the table of conflicts. Where an allocation fails nothing changes. A table has 64 registrations at
-//! most.
+//! A [`Table`] behaves as defined:
 //!
-//! A nexus is registered once, the holder of a reservation may do all, and the holder that another nexus preempts by its
-//! key may write no more ([`laws::reservations_hold`]).
+//! - [`Table::out`] (PERSISTENT RESERVE OUT) changes the table and answers as `out_of` defines.
+//! - [`Table::read_in`] (PERSISTENT RESERVE IN) returns exactly the bytes of `data_of`.
+//! - [`Table::allows`] is `is_allowed`, the table of conflicts.
+//! - If an allocation fails, nothing changes.
+//! - A table has at most 64 registrations.
+//!
+//! A nexus is registered at most once. The holder of a reservation may do everything. A holder that another nexus
+//! preempts by its key can no longer write ([`laws::reservations_hold`]).
 #![tactic(auto)]
 
 mod conflict;

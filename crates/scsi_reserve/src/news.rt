@@ -1,4 +1,4 @@
-//! Whom a change of registrations and reservations concerns.
+//! The nexuses that a change of registrations and reservations concerns.
 
 ghost use Rattle.std.specs.Prelude.{◌≡◌, ◌≤◌, length, IfOk};
 ghost use Rattle.scsi_reserve.specs.News.{is_chosen, without, told_to, due_of};
@@ -8,7 +8,7 @@ use crate::registration::Row;
 use scsi_sense::{Attention, Nexus};
 use std::alloc::{AllocError, Global};
 
-/// Registrations of other nexuses than the caller's.
+/// Registrations of nexuses other than the caller.
 #[derive(Clone, Copy, Debug, PartialEq, Eq)]
 pub(crate) enum Others {
     All,
@@ -17,7 +17,7 @@ pub(crate) enum Others {
 }
 
 impl Others {
-    /// Takes these registrations out.
+    /// Removes these registrations.
     pub fn take_out(self, rows: &mut Vec<Row>, nexus: &Nexus)
         ensures left { rows.new.items ≡ without self nexus.now rows.old.items }
         ensures fewer { length rows.new.items ≤ length rows.old.items }
@@ -25,7 +25,7 @@ impl Others {
         rows.retain(|row| !self.has(nexus, row));
     }
 
-    /// Whether a registration is one of them.
+    /// Returns whether a registration is one of them.
     pub fn has(self, nexus: &Nexus, row: &Row) -> bool
         ensures { result ≡ is_chosen self nexus.now row.now }
     {
@@ -39,17 +39,17 @@ impl Others {
     }
 }
 
-/// What the other registrants are told of a change.
+/// The unit attentions that a change establishes for the other registrants.
 #[derive(Clone, Copy, Debug, PartialEq, Eq)]
 pub(crate) struct News {
     pub others: Others,
     pub told: Attention,
-    /// What all but these and the caller are told.
+    /// The attention for all but these and the caller.
     pub rest: Option<Attention>,
 }
 
 impl News {
-    /// The same to all.
+    /// Returns the same attention for all.
     pub fn to_all(told: Attention) -> News
         ensures { result ≡ Rattle.scsi_reserve.specs.News.to_all told }
     {
@@ -60,7 +60,7 @@ impl News {
         }
     }
 
-    /// What a registrant is told.
+    /// Returns the attention for a registrant.
     fn told_to(self, nexus: &Nexus, row: &Row) -> Option<Attention>
         ensures { result ≡ told_to self nexus.now row.now }
     {
@@ -73,7 +73,7 @@ impl News {
         }
     }
 
-    /// The attentions that these registrants get.
+    /// Returns the attentions for these registrants.
     pub fn due(self, alloc: Global, rows: &[Row], nexus: &Nexus) -> Result<Vec<Due>, AllocError>
         ensures { IfOk result (λ list. list.items ≡ due_of self nexus.now rows.now) }
     {

@@ -1,4 +1,4 @@
-//! What PERSISTENT RESERVE OUT ends with, and whom it tells.
+//! The outcome of PERSISTENT RESERVE OUT, and whom it concerns.
 
 ghost use Rattle.std.specs.Prelude.{◌≡◌};
 
@@ -6,7 +6,7 @@ use scsi_sense::{Attention, Condition, Nexus};
 use std::alloc::Global;
 use std::marker::Model;
 
-/// How a command ended: its status, with its sense.
+/// How a command ended: its status, with its sense data.
 #[derive(Clone, Copy, Debug, PartialEq, Eq)]
 pub enum Ended {
     Good,
@@ -14,14 +14,15 @@ pub enum Ended {
     CheckCondition(Condition),
 }
 
-/// A nexus that has a unit attention to be told.
+/// A nexus with a unit attention to be established for it.
 #[derive(Debug, Drop)]
 pub struct Due {
     pub nexus: Nexus,
     pub attention: Attention,
 }
 
-/// What PERSISTENT RESERVE OUT ends with, and the unit attentions that it gives to others, each nexus one at most.
+/// The outcome of PERSISTENT RESERVE OUT, and the unit attentions that it establishes for others, at most one for each
+/// nexus.
 #[derive(Debug, Drop)]
 pub struct Outcome {
     pub ended: Ended,
@@ -39,7 +40,7 @@ impl Model for Outcome {
 impl Outcome {
     ghost use Rattle.scsi_reserve.specs.Ending.{good_telling, ended_with};
 
-    /// GOOD.
+    /// Returns GOOD.
     pub(crate) fn good(due: Vec<Due>) -> Outcome
         ensures { result ≡ good_telling due.items }
     {
@@ -49,7 +50,7 @@ impl Outcome {
         }
     }
 
-    /// It tells nobody. It takes no memory.
+    /// Returns an outcome without attentions. It allocates nothing.
     pub(crate) fn new(alloc: Global, ended: Ended) -> Outcome
         ensures { result ≡ ended_with ended }
     {
@@ -59,7 +60,7 @@ impl Outcome {
         }
     }
 
-    /// CHECK CONDITION.
+    /// Returns CHECK CONDITION.
     pub(crate) fn refused(alloc: Global, condition: Condition) -> Outcome
         ensures { result ≡ ended_with (Ended.CheckCondition condition) }
     {

@@ -6,7 +6,7 @@ ghost use Rattle.scsi_reserve.specs.Request.{list_of};
 use byteorder::{BigEndian, ByteOrder};
 use scsi_sense::Condition;
 
-/// The bytes of a parameter list.
+/// The number of bytes of a parameter list.
 const LIST_LENGTH: usize = 24;
 
 /// SPEC_I_PT, ALL_TG_PT and APTPL, in byte 20.
@@ -22,7 +22,7 @@ pub(crate) struct ParameterList {
 }
 
 impl ParameterList {
-    /// The keys that the bytes spell, or why the list is refused.
+    /// Returns the keys that the bytes encode, or why the list is refused.
     pub fn read(list: &[u8]) -> Result<ParameterList, Condition>
         ensures { result ≡ list_of list.now }
     {

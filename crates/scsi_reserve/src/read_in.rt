@@ -1,4 +1,4 @@
-//! What PERSISTENT RESERVE IN gives.
+//! The data that PERSISTENT RESERVE IN returns.
 
 ghost use Rattle.std.specs.Prelude.{◌≡◌, ◌++◌, IfOk, OnOk};
 ghost use Rattle.std.specs.List.{flat_map};
@@ -9,10 +9,10 @@ use crate::table::Table;
 use scsi_cdb::ReadAction;
 use std::alloc::AllocError;
 
-/// The types of reservations that there are, and that they are told (TMV).
+/// The types of reservations that exist, and that they are reported (TMV).
 const CAPABILITIES: [u8; 8] = [0x00, 0x08, 0x00, 0x80, 0xea, 0x01, 0x00, 0x00];
 
-/// Puts the keys of registrations behind other bytes.
+/// Appends the keys of registrations to other bytes.
 fn write_keys(list: &mut Vec<u8>, rows: &[Row]) -> Result<(), AllocError>
     ensures { OnOk result (list.new.items ≡ list.old.items ++ flat_map key_bytes rows.now) }
 {
@@ -23,7 +23,8 @@ fn write_keys(list: &mut Vec<u8>, rows: &[Row]) -> Result<(), AllocError>
 }
 
 impl Table {
-    /// PERSISTENT RESERVE IN. No data is cut to an allocation length here. It fails only where an allocation fails.
+    /// Returns the data of PERSISTENT RESERVE IN. No data is truncated to an allocation length here. It fails only if
+    /// an allocation fails.
     pub fn read_in(&self, action: ReadAction) -> Result<Vec<u8>, AllocError>
         ensures { IfOk result (λ list. list.items ≡ data_of action self.now) }
     {
@@ -34,7 +35,7 @@ impl Table {
         }
     }
 
-    /// READ KEYS.
+    /// Returns the data of READ KEYS.
     #[tactic(auto, unfolding(crate::specs::ReadIn::keys_data))]
     fn keys(&self) -> Result<Vec<u8>, AllocError>
         ensures { IfOk result (λ list. list.items ≡ keys_data self.now) }
@@ -46,7 +47,7 @@ impl Table {
         Ok(list)
     }
 
-    /// READ RESERVATION.
+    /// Returns the data of READ RESERVATION.
     #[tactic(auto, unfolding(crate::specs::ReadIn::reservation_data))]
     fn reservation(&self) -> Result<Vec<u8>, AllocError>
         ensures { IfOk result (λ list. list.items ≡ reservation_data self.now) }

@@ -1,4 +1,4 @@
-//! Who is registered with a logical unit, and who holds a reservation of it.
+//! The registrations of a logical unit, and the holder of its reservation.
 
 ghost use Rattle.std.specs.Prelude.{◌≡◌, ◌≤◌, length, map};
 ghost use Rattle.scsi_reserve.specs.Registration.{with_key, without_nexus, is_held_by, who_of, ends_with, is_held_with};
@@ -18,11 +18,11 @@ pub(crate) struct Row {
 #[derive(Debug, Drop)]
 pub(crate) struct Reservation {
     pub kind: ReservationType,
-    /// The nexus that made it. It holds it alone, unless the type is of all registrants.
+    /// The nexus that made it. It alone is the holder, unless the type is of all registrants.
     pub holder: Nexus,
 }
 
-/// The key that a nexus is registered with, where it is.
+/// Returns the key that a nexus is registered with, if it is registered.
 pub(crate) fn own_key(rows: &[Row], nexus: &Nexus) -> Option<u64>
     ensures { result ≡ Rattle.scsi_reserve.specs.Registration.own_key nexus.now rows.now }
 {
@@ -34,7 +34,7 @@ pub(crate) fn own_key(rows: &[Row], nexus: &Nexus) -> Option<u64>
     None
 }
 
-/// Whether any nexus is registered with this key.
+/// Returns whether any nexus is registered with this key.
 pub(crate) fn has_key(rows: &[Row], key: u64) -> bool
     ensures { result ≡ Rattle.scsi_reserve.specs.Registration.has_key key rows.now }
 {
@@ -42,7 +42,7 @@ pub(crate) fn has_key(rows: &[Row], key: u64) -> bool
 }
 
 impl Row {
-    /// Sets the key, where this is the registration of the nexus.
+    /// Sets the key, if this is the registration of the nexus.
     fn set_key_of(&mut self, nexus: &Nexus, key: u64)
         ensures { self.new ≡ with_key nexus.now key self.old }
     {
@@ -62,7 +62,7 @@ pub(crate) fn set_key(rows: &mut [Row], nexus: &Nexus, key: u64)
     }
 }
 
-/// Takes the registration of a nexus out.
+/// Removes the registration of a nexus.
 pub(crate) fn take_out(rows: &mut Vec<Row>, nexus: &Nexus)
     ensures left { rows.new.items ≡ without_nexus nexus.now rows.old.items }
     ensures fewer { length rows.new.items ≤ length rows.old.items }
@@ -71,7 +71,7 @@ pub(crate) fn take_out(rows: &mut Vec<Row>, nexus: &Nexus)
 }
 
 impl Reservation {
-    /// Whether a nexus holds it, of those that are registered (SPC-4 "Persistent reservation holder").
+    /// Returns whether a nexus holds it, given the registrations (SPC-4 "Persistent reservation holder").
     pub fn is_held_by(&self, rows: &[Row], nexus: &Nexus) -> bool
         ensures { result ≡ is_held_by nexus.now rows.now self.now }
     {
@@ -82,7 +82,7 @@ impl Reservation {
         }
     }
 
-    /// What a nexus is to it.
+    /// Returns the relation of a nexus to it.
     pub fn who(&self, rows: &[Row], nexus: &Nexus) -> Who
         ensures { result ≡ who_of nexus.now rows.now self.now }
     {
@@ -95,14 +95,14 @@ impl Reservation {
         }
     }
 
-    /// Whether it ends with the registration of a nexus, which holds it alone.
+    /// Returns whether it ends with the registration of a nexus, which alone holds it.
     pub fn ends_with(&self, nexus: &Nexus) -> bool
         ensures { result ≡ ends_with nexus.now self.now }
     {
         !self.kind.is_of_all() && self.holder.is_same(nexus)
     }
 
-    /// Whether one nexus holds it alone, which is registered with this key.
+    /// Returns whether one nexus alone holds it, and is registered with this key.
     pub fn is_held_with(&self, rows: &[Row], key: u64) -> bool
         ensures { result ≡ is_held_with key rows.now self.now }
     {

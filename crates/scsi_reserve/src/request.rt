@@ -1,4 +1,4 @@
-//! What PERSISTENT RESERVE OUT asks for.
+//! What PERSISTENT RESERVE OUT requests.
 
 ghost use Rattle.std.specs.Prelude.{◌≡◌};
 ghost use Rattle.scsi_reserve.specs.Request.{request_of, may_ask};
@@ -14,13 +14,13 @@ pub(crate) enum Request {
     Reserve(ReservationType),
     Release(ReservationType),
     Clear,
-    /// The type is looked at where a new reservation is made.
+    /// The type matters only if a new reservation is made.
     Preempt(Option<ReservationType>),
     RegisterAndIgnoreExistingKey,
 }
 
 impl Request {
-    /// A service action with the type that SCOPE and TYPE name, where they name one.
+    /// Returns a service action with the type that SCOPE and TYPE name, if they name one.
     pub fn new(action: ServiceAction, kind: Option<ReservationType>) -> Result<Request, Condition>
         ensures { result ≡ request_of action kind }
     {
@@ -39,7 +39,8 @@ impl Request {
         }
     }
 
-    /// Whether a nexus may ask for it, which is registered with the first key or is not, and gives the second one.
+    /// Returns whether a nexus may request it. `own` is the key that the nexus is registered with, if any; `key` is the
+    /// key that it gives.
     pub fn may_be_asked(self, own: Option<u64>, key: u64) -> bool
         ensures { result ≡ may_ask self own key }
     {

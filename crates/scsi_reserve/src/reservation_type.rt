@@ -21,7 +21,7 @@ pub enum ReservationType {
 }
 
 impl ReservationType {
-    /// The type that SCOPE and TYPE name: the scope is the logical unit.
+    /// Returns the type that SCOPE and TYPE name: the scope is the logical unit.
     pub fn of(scope: u8, code: u8) -> Option<ReservationType>
         ensures { result ≡ type_of scope code }
     {
@@ -36,21 +36,21 @@ impl ReservationType {
         }
     }
 
-    /// Its TYPE.
+    /// Returns its TYPE.
     pub fn code(self) -> u8
         ensures { result ≡ type_code self }
     {
         self as u8
     }
 
-    /// Whether both are the same type.
+    /// Returns whether both are the same type.
     pub(crate) fn is_same(self, other: ReservationType) -> bool
         ensures { result ≡ is_same_type self other }
     {
         self.code() == other.code()
     }
 
-    /// Whether every registrant holds a reservation of this type (All Registrants).
+    /// Returns whether every registrant holds a reservation of this type (All Registrants).
     pub(crate) fn is_of_all(self) -> bool
         ensures { result ≡ is_of_all self }
     {
@@ -61,8 +61,8 @@ impl ReservationType {
         )
     }
 
-    /// Whether it gives rights to every registrant (Registrants Only, All Registrants): they are told when it is
-    /// released.
+    /// Returns whether it gives rights to every registrant (Registrants Only, All Registrants). They get a unit
+    /// attention when it is released.
     pub(crate) fn is_of_registrants(self) -> bool
         ensures { result ≡ is_of_registrants self }
     {

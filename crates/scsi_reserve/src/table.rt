@@ -42,7 +42,7 @@ impl Model for Table {
 }
 
 impl Table {
-    /// No registration and no reservation. It takes no memory.
+    /// Returns a table without registration and reservation. It allocates nothing.
     pub fn new(alloc: Global) -> Table
         ensures { result ≡ empty_table }
     {
@@ -54,7 +54,7 @@ impl Table {
         }
     }
 
-    /// Whether the reservation allows a nexus a command of this class: otherwise it is a RESERVATION CONFLICT.
+    /// Returns whether the reservation allows a nexus a command of this class; otherwise it is a RESERVATION CONFLICT.
     #[tactic(auto, using(crate::proofs::Conflicts::allowed_all))]
     pub fn allows(&self, nexus: &Nexus, class: ReservationClass) -> bool
         ensures { result ≡ is_allowed nexus.now class self.now }
@@ -62,7 +62,7 @@ impl Table {
         match &self.reservation {
             None => true,
             Some(reservation) => {
-                // What a nexus may that is neither, all may, so it is not looked for among the registrants.
+                // What is allowed to a nexus that is neither is allowed to all, so the registrants are not searched.
                 if !conflict(reservation.kind, Who::Neither, class) {
                     return true;
                 }
@@ -72,10 +72,17 @@ impl Table {
         }
     }
 
-    /// PERSISTENT RESERVE OUT with the SCOPE and TYPE of its command descriptor block, and its parameter list: as many
-    /// bytes as PARAMETER LIST LENGTH says. The first rule that refuses it counts: the type that RESERVE or RELEASE
-    /// needs, the length of the list, its bits, the reservation key, and then what the action itself refuses. Where an
-    /// allocation fails nothing changes.
+    /// Carries out PERSISTENT RESERVE OUT with the SCOPE and TYPE of its command descriptor block, and its parameter
+    /// list. The list has as many bytes as PARAMETER LIST LENGTH says. The first rule that refuses it counts, in this
+    /// order:
+    ///
+    /// - the type that RESERVE or RELEASE needs
+    /// - the length of the list
+    /// - its bits
+    /// - the reservation key
+    /// - what the action itself refuses
+    ///
+    /// If an allocation fails, nothing changes.
     #[tactic(auto, unfolding(crate::specs::Out::out_of))]
     pub fn out(
         &mut self,
@@ -102,7 +109,7 @@ impl Table {
         self.act(nexus, request, list.action_key)
     }
 
-    /// An action that the nexus may ask for, with the service action reservation key.
+    /// Carries out an action that the nexus may request, with the service action reservation key.
     fn act(&mut self, nexus: &Nexus, request: Request, key: u64) -> Result<Outcome, AllocError>
         ensures ok { IfOk result (λ outcome. (self.new, outcome) ≡ acted request key nexus.now self.old) }
         ensures err { OnErr result (self.new ≡ self.old) }
@@ -122,7 +129,7 @@ impl Table {
         }
     }
 
-    /// The registration of the nexus has this key. One more than 64 is refused.
+    /// Registers the nexus with this key. A 65th registration is refused.
     #[tactic(auto, unfolding(crate::specs::Out::registered))]
     fn register(&mut self, nexus: &Nexus, key: u64) -> Result<Outcome, AllocError>
         ensures ok { IfOk result (λ outcome. (self.new, outcome) ≡ registered key nexus.now self.old) }
@@ -141,7 +148,8 @@ impl Table {
         Ok(Outcome::new(self.alloc, Ended::Good))
     }
 
-    /// The registration of the nexus goes, and with it the reservation that it holds alone, or that is left to nobody.
+    /// Removes the registration of the nexus, and the reservation if the nexus alone holds it, or if no registrant is
+    /// left.
     #[tactic(auto, unfolding(crate::specs::Out::unregistered))]
     fn unregister(&mut self, nexus: &Nexus) -> Result<Outcome, AllocError>
         ensures ok { IfOk result (λ outcome. (self.new, outcome) ≡ unregistered nexus.now self.old) }
@@ -168,7 +176,7 @@ impl Table {
         Ok(Outcome::good(due))
     }
 
-    /// The nexus holds a reservation of this type from now on, or held it already.
+    /// Reserves the unit for the nexus with this type; it may hold the same reservation already.
     #[tactic(auto, unfolding(crate::specs::Out::reserved))]
     fn reserve(&mut self, nexus: &Nexus, kind: ReservationType) -> Result<Outcome, AllocError>
         ensures ok { IfOk result (λ outcome. (self.new, outcome) ≡ reserved kind nexus.now self.old) }
@@ -188,7 +196,7 @@ impl Table {
         Ok(Outcome::new(self.alloc, ended))
     }
 
-    /// The reservation goes, where the nexus holds it with this type.
+    /// Releases the reservation, if the nexus holds it with this type.
     #[tactic(auto, unfolding(crate::specs::Out::released))]
     fn release(&mut self, nexus: &Nexus, kind: ReservationType) -> Result<Outcome, AllocError>
         ensures ok { IfOk result (λ outcome. (self.new, outcome) ≡ released kind nexus.now self.old) }
@@ -214,7 +222,7 @@ impl Table {
         Ok(Outcome::good(due))
     }
 
-    /// All registrations and the reservation go.
+    /// Removes all registrations and the reservation.
     #[tactic(auto, unfolding(crate::specs::Out::cleared))]
     fn clear(&mut self, nexus: &Nexus) -> Result<Outcome, AllocError>
         ensures ok { IfOk result (λ outcome. (self.new, outcome) ≡ cleared nexus.now self.old) }
@@ -228,8 +236,8 @@ impl Table {
         Ok(Outcome::good(due))
     }
 
-    /// The other registrations with a key go, or all others where none is given and all registrants hold the
-    /// reservation. Where the holder's goes, the nexus holds a reservation of this type from now on.
+    /// Removes the other registrations with a key, or all others if the key is 0 and all registrants hold the
+    /// reservation. If that preempts the reservation, the nexus then holds one of this type.
     #[tactic(auto, unfolding(crate::specs::Out::preempted))]
     fn preempt(
         &mut self,
@@ -264,7 +272,7 @@ impl Table {
         }
     }
 
-    /// These registrations go, and the nexus holds a reservation of this type from now on.
+    /// Removes these registrations, after which the nexus holds a reservation of this type.
     #[tactic(auto, unfolding(crate::specs::Out::taken_over))]
     fn take_over(
         &mut self,
@@ -294,7 +302,7 @@ impl Table {
         Ok(Outcome::good(due))
     }
 
-    /// These registrations go, and the reservation stays.
+    /// Removes these registrations, and keeps the reservation.
     #[tactic(auto, unfolding(crate::specs::Out::removed))]
     fn remove(&mut self, nexus: &Nexus, others: Others) -> Result<Outcome, AllocError>
         ensures ok { IfOk result (λ outcome. (self.new, outcome) ≡ removed others nexus.now self.old) }
