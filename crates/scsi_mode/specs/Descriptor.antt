@@ -8,8 +8,8 @@ use Rattle.scsi_mode.specs.ModePages.{block_length_of}
 use Rattle.scsi_mode.specs.declared.parameters.Parameters.{Parameters}
 use Rattle.scsi_mode.specs.declared.parameters.Parameters.TheVariants.{Disk, Tape}
 
--- SBC-3 "Short LBA mode parameter block descriptor": the number of blocks, FFFFFFFFh where four bytes don't hold it. SSC-4
--- "Mode parameter block descriptor": of a tape DENSITY CODE and the number of blocks, which are zero (profile)
+-- SBC-3 "Short LBA mode parameter block descriptor": the number of blocks, FFFFFFFFh if four bytes do not hold it.
+-- SSC-4 "Mode parameter block descriptor": of a tape DENSITY CODE and the number of blocks, which are zero (profile)
 abbrev pub block_count : Parameters → ℕ
 block_count (Disk count is_protected) = min count (2 ^ 32 - 1)
 block_count (Tape block_length) = 0
@@ -22,8 +22,8 @@ descriptor parameters = to_be_bytes w32 (block_count parameters) ++ to_be_bytes 
 abbrev pub is_block_count : ℕ → ℕ → Bool
 is_block_count count number = number == 0 || number == 0xffffffff || number == count
 
--- profile: the parameters behind a descriptor of a parameter list, where it is taken. A disk's has its block length, and
--- changes nothing; a tape's has density code 0, and sets the block length: 0, or no more bytes than of one record
+-- profile: the parameters after a descriptor of a parameter list, if it is accepted. A disk's has its block length, and
+-- changes nothing. A tape's has density code 0, and sets the block length: 0, or no more bytes than of one record
 abbrev pub described : Parameters → List ℕ → Option Parameters
 described (Disk count is_protected) bytes =
     if big_from 5 3 bytes == disk_block_length && is_block_count count (big_from 0 4 bytes) then Some (Disk count is_protected) else None

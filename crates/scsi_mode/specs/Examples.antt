@@ -82,7 +82,7 @@ defaults : mode_data (without_descriptor Default 0x3f) (Disk 4096 true) ≡ Some
     ++ 0x0a ∷ 0x0a ∷ replicate 10 0)
 defaults = refl
 
--- a tape has no page 08h, and nobody has 1Ch
+-- a tape has no page 08h, and no unit has 1Ch
 no_page : (mode_data (asked Six Current 0x08) (Tape 0) ≡ None) × (mode_data (asked Six Current 0x1c) disk ≡ None)
 no_page = (refl, refl)
 
@@ -98,7 +98,7 @@ sets_swp : (selected disk Six (0 ∷ 0 ∷ 0 ∷ 0 ∷ control 0x08) ≡ Ok (Dis
 unfolding selected after_header after_pages has_page after_page is_page
 sets_swp = (refl, refl, refl)
 
--- what MODE SENSE gave is taken back, with PS set and the first three bytes not looked at
+-- what MODE SENSE returned is accepted, with PS set and the first three bytes ignored
 taken_back : selected (Disk 4096 true) Six
     (0x2b ∷ 0xff ∷ 0x90 ∷ 0x08 ∷ 0x00 ∷ 0x00 ∷ 0x10 ∷ 0x00 ∷ 0x00 ∷ 0x00 ∷ 0x02 ∷ 0x00
     ∷ 0x88 ∷ 0x12 ∷ 0x04 ∷ replicate 17 0 ++ 0x8a ∷ 0x0a ∷ 0 ∷ 0 ∷ 0x08 ∷ replicate 7 0) ≡ Ok (Disk 4096 true)
@@ -123,7 +123,7 @@ sets_block_length : (selected (Tape 0) Six (0 ∷ 0 ∷ 0 ∷ 8 ∷ tape_descrip
 unfolding selected after_header after_descriptor after_pages has_page after_page is_page
 sets_block_length = (refl, refl, refl, refl, refl)
 
--- one byte more, density code 1, a page behind it that is refused, a descriptor that ends early
+-- one byte more, density code 1, a page after it that is refused, a descriptor that ends early
 leaves_block_length : (selected (Tape 20) Six (0 ∷ 0 ∷ 0 ∷ 8 ∷ tape_descriptor 0x10 0 1) ≡ Err InvalidField)
     × (selected (Tape 20) Six (0 ∷ 0 ∷ 0 ∷ 8 ∷ 1 ∷ 0 ∷ 0 ∷ 0 ∷ 0 ∷ 0 ∷ 0 ∷ 0x14 ∷ []) ≡ Err InvalidField)
     × (selected (Tape 20) Six (0 ∷ 0 ∷ 0 ∷ 8 ∷ tape_descriptor 0 0 0x08 ++ control 0x08) ≡ Err InvalidField)
@@ -143,8 +143,8 @@ ends_early : (selected disk Six (0 ∷ 0 ∷ 0 ∷ []) ≡ Err EndsEarly) × (se
 unfolding selected after_header after_descriptor after_pages has_page after_page is_page
 ends_early = (refl, refl, refl, refl)
 
--- a descriptor length of 7, also where the list ends; a block length of 1024; another number of blocks; another bit of page 0Ah; a
--- page of another length; a tape's SWP and page 08h
+-- a descriptor length of 7, even if the list ends there; a block length of 1024; another number of blocks; another bit
+-- of page 0Ah; a page of another length; a tape's SWP and page 08h
 is_refused : (selected disk Six (0 ∷ 0 ∷ 0 ∷ 7 ∷ []) ≡ Err InvalidField)
     × (selected disk Six (0 ∷ 0 ∷ 0 ∷ 8 ∷ 0 ∷ 0 ∷ 0 ∷ 0 ∷ 0 ∷ 0 ∷ 0x04 ∷ 0 ∷ []) ≡ Err InvalidField)
     × (selected disk Six (0 ∷ 0 ∷ 0 ∷ 8 ∷ 0 ∷ 0 ∷ 0x0f ∷ 0xff ∷ 0 ∷ 0 ∷ 0x02 ∷ 0 ∷ []) ≡ Err InvalidField)

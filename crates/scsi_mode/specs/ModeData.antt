@@ -22,7 +22,7 @@ with_header Six parameter block pages = (3 + length block + length pages) ∷ 0 
 with_header Ten parameter block pages =
     to_be_bytes w16 (6 + length block + length pages) ++ 0 ∷ parameter ∷ 0 ∷ 0 ∷ to_be_bytes w16 (length block) ++ block ++ pages
 
--- the block descriptor where it is asked for: DBD is 0
+-- the block descriptor if it is requested: DBD is 0
 abbrev pub descriptor_if : Bool → Parameters → List ℕ
 descriptor_if is_asked parameters = if is_asked then descriptor parameters else []
 
@@ -32,6 +32,6 @@ data_with fields parameters pages =
     with_header fields.header (device_parameter parameters) (descriptor_if fields.block_descriptor parameters)
     (flat_map (page_bytes fields.control parameters) pages)
 
--- SPC-4 "MODE SENSE (6) command": the data, or none where there is no such page
+-- SPC-4 "MODE SENSE (6) command": the data, or none if there is no such page
 abbrev pub mode_data : ModeSenseFields → Parameters → Option (List ℕ)
 mode_data fields parameters = option_map (data_with fields parameters) (pages_of fields.page parameters)

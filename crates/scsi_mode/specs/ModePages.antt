@@ -18,7 +18,7 @@ abbrev pub block_length_of : Parameters → ℕ
 block_length_of (Disk block_count is_protected) = disk_block_length
 block_length_of (Tape block_length) = block_length
 
--- SPC-4 "MODE SELECT (6) command": whether a parameter is another
+-- SPC-4 "MODE SELECT (6) command": whether a parameter differs
 abbrev pub differ : Parameters → Parameters → Bool
 differ (Disk block_count is_protected) (Disk other_count is_other_protected) =
     not (block_count == other_count) || (if is_protected then not is_other_protected else is_other_protected)
@@ -40,13 +40,13 @@ abbrev pub one_page : List ModePage → Option (List ModePage)
 one_page [] = None
 one_page (page ∷ pages) = Some (page ∷ [])
 
--- SPC-4 "MODE SENSE (6) command": the pages that a page code asks for: 3Fh for all; own: 00h for none
+-- SPC-4 "MODE SENSE (6) command": the pages that a page code requests: 3Fh for all; own: 00h for none
 abbrev pub pages_of : ℕ → Parameters → Option (List ModePage)
 pages_of code parameters =
     if code == 0x00 then Some [] else if code == 0x3f then Some (all_pages parameters)
     else one_page (filter (λ page. page_code page == code) (all_pages parameters))
 
--- SBC-3 "Caching mode page", byte 2: WCE is 1 (profile), and can't be changed
+-- SBC-3 "Caching mode page", byte 2: WCE is 1 (profile), and cannot be changed
 abbrev pub write_cache : PageControl → ℕ
 write_cache Current = 0x04
 write_cache Changeable = 0
@@ -67,7 +67,7 @@ shown_swp Changeable (Disk block_count is_protected) = true
 shown_swp Changeable (Tape block_length) = false
 shown_swp Default parameters = false
 
--- a page with the values that PC asks for
+-- a page with the values that PC requests
 abbrev pub page_bytes : PageControl → Parameters → ModePage → List ℕ
 page_bytes control parameters Caching = caching_page control
 page_bytes control parameters Control = control_page (shown_swp control parameters)

@@ -19,11 +19,11 @@ abbrev pub fault_sense : ListFault → Sense
 fault_sense EndsEarly = plain_sense ParameterListLengthError
 fault_sense InvalidField = plain_sense InvalidFieldInParameterList
 
--- SPC-4 "MODE SELECT (6) command": a page of the list is this one; bit 7 of its first byte (PS) is not looked at
+-- SPC-4 "MODE SELECT (6) command": a page of the list is this one; bit 7 of its first byte (PS) is ignored
 unfoldable pub is_page : List ℕ → List ℕ → Bool
 is_page page expected = bit_and (slice_index page 0) 0x7f == slice_index expected 0 && bytes_eq (drop 1 page) (drop 1 expected)
 
--- own: the parameters behind a page of the list: each page is as it is now, but that a disk's SWP may have either value
+-- own: the parameters after a page of the list: each page is as it is now, but a disk's SWP may have either value
 unfoldable pub after_page : Parameters → List ℕ → Result Parameters ListFault
 after_page (Disk block_count is_protected) page =
     if is_page page (caching_page Current) then Ok (Disk block_count is_protected)
@@ -35,20 +35,20 @@ after_page (Tape block_length) page = if is_page page (control_page false) then 
 abbrev pub page_length : List ℕ → ℕ
 page_length bytes = 2 + slice_index bytes 1
 
--- a whole page stands in front
+-- the bytes begin with a whole page
 unfoldable pub has_page : List ℕ → Bool
 has_page bytes = nat_le 2 (length bytes) && nat_le (page_length bytes) (length bytes)
 
--- the length of the page in front, where it is whole
+-- the length of the first page, if it is whole
 abbrev pub page_if : List ℕ → Option ℕ
 page_if bytes = if has_page bytes then Some (page_length bytes) else None
 
--- what f makes of what is Ok
+-- the result of f on what is Ok
 abbrev pub and_then : (Parameters → Result Parameters ListFault) → Result Parameters ListFault → Result Parameters ListFault
 and_then f (Ok parameters) = f parameters
 and_then f (Err fault) = Err fault
 
--- own: the parameters behind pages, of which there are at most n: each is whole, and is then judged
+-- own: the parameters after at most n pages: each is whole, and is then judged
 abbrev pub pages_within : ℕ → Parameters → List ℕ → Result Parameters ListFault
 pages_within zero parameters bytes = Ok parameters
 pages_within (suc n) parameters bytes =
@@ -56,7 +56,7 @@ pages_within (suc n) parameters bytes =
     then and_then (λ after. pages_within n after (drop (page_length bytes) bytes)) (after_page parameters (take (page_length bytes) bytes))
     else Err EndsEarly
 
--- own: the parameters behind the pages of a list
+-- own: the parameters after the pages of a list
 unfoldable pub after_pages : Parameters → List ℕ → Result Parameters ListFault
 after_pages parameters bytes = pages_within (length bytes) parameters bytes
 
@@ -70,7 +70,7 @@ abbrev pub descriptor_length : ParameterHeader → List ℕ → ℕ
 descriptor_length Six header = slice_index header 3
 descriptor_length Ten header = big_from 6 2 header
 
--- own: pages behind a block descriptor that is taken
+-- own: pages after a block descriptor that is accepted
 abbrev pub pages_behind : Option Parameters → List ℕ → Result Parameters ListFault
 pages_behind None bytes = Err InvalidField
 pages_behind (Some parameters) bytes = after_pages parameters bytes
@@ -80,13 +80,14 @@ unfoldable pub after_descriptor : Parameters → List ℕ → Result Parameters 
 after_descriptor parameters bytes =
     if nat_lt (length bytes) 8 then Err EndsEarly else pages_behind (described parameters bytes) (drop 8 bytes)
 
--- own: behind a header whose descriptor length is this
+-- own: what comes after a header whose descriptor length is this
 unfoldable pub after_header : Parameters → ℕ → List ℕ → Result Parameters ListFault
 after_header parameters descriptor_length bytes =
     if descriptor_length == 0 then after_pages parameters bytes else if descriptor_length == 8
     then after_descriptor parameters bytes else Err InvalidField
 
--- SPC-4 "MODE SELECT (6) command": the parameters behind a parameter list, or the first fault; an empty list changes nothing
+-- SPC-4 "MODE SELECT (6) command": the parameters after a parameter list, or the first fault; an empty list changes
+-- nothing
 unfoldable pub selected : Parameters → ParameterHeader → List ℕ → Result Parameters ListFault
 selected parameters header list =
     if length list == 0 then Ok parameters else if nat_lt (length list) (header_length header) then Err EndsEarly

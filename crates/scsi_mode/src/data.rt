@@ -16,7 +16,7 @@ use scsi_cdb::{ModeSenseFields, PageControl, ParameterHeader};
 /// Mode data.
 pub type Data = ArrayVec<u8, 56>;
 
-/// The pages that a page code asks for, or none where there is no such page.
+/// Returns the pages that a page code requests, or `None` if there is no such page.
 fn asked_pages(code: u8, parameters: Parameters) -> Option<&'static [ModePage]>
     ensures asked { option_map (λ pages. pages.now) result ≡ pages_of code parameters }
     ensures few { IfSome result (λ pages. length pages.now ≤ 2) }
@@ -31,7 +31,7 @@ fn asked_pages(code: u8, parameters: Parameters) -> Option<&'static [ModePage]>
     }
 }
 
-/// Puts a page behind other bytes.
+/// Appends a page to other bytes.
 fn put_page(bytes: &mut Data, control: PageControl, parameters: Parameters, page: ModePage)
     requires { length bytes.old.items ≤ 36 }
     ensures page { bytes.new.items ≡ bytes.old.items ++ page_bytes control parameters page }
@@ -43,7 +43,7 @@ fn put_page(bytes: &mut Data, control: PageControl, parameters: Parameters, page
     }
 }
 
-/// The pages, one behind the other.
+/// Returns the pages, one after the other.
 fn joined(control: PageControl, parameters: Parameters, pages: &[ModePage]) -> Data
     requires { length pages.now ≤ 2 }
     ensures pages { result.items ≡ flat_map (page_bytes control parameters) pages.now }
@@ -56,7 +56,7 @@ fn joined(control: PageControl, parameters: Parameters, pages: &[ModePage]) -> D
     bytes
 }
 
-/// A header, and then a block descriptor and pages (SPC-4 "Mode parameter header formats").
+/// Returns a header, and then a block descriptor and pages (SPC-4 "Mode parameter header formats").
 fn parameter_data(
     header: ParameterHeader,
     device_parameter: u8,
@@ -91,8 +91,8 @@ fn parameter_data(
     bytes
 }
 
-/// The data of MODE SENSE for a unit with these parameters, or none where there is no such page (SPC-4
-/// "MODE SENSE (6) command", "MODE SENSE (10) command"). It takes no memory.
+/// Returns the data of MODE SENSE for a unit with these parameters, or `None` if there is no such page. It allocates
+/// nothing (SPC-4 "MODE SENSE (6) command", "MODE SENSE (10) command").
 pub fn sense(parameters: Parameters, fields: ModeSenseFields) -> Option<Data>
     ensures parameters { option_map (λ bytes. bytes.items) result ≡ mode_data fields parameters }
     ensures short { IfSome result (λ bytes. length bytes.items ≤ 56) }

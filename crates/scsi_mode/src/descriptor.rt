@@ -8,11 +8,11 @@ use byteorder::{BigEndian, ByteOrder};
 use media_block::BLOCK_LENGTH;
 use scsi_cdb::MOST_RECORD;
 
-/// What stands for all blocks, and for more of them than four bytes can tell.
+/// The number that stands for all blocks, and for more of them than four bytes can hold.
 const ALL_BLOCKS: u32 = 0xffff_ffff;
 
-/// The block descriptor of a unit (SBC-3 "Short LBA mode parameter block descriptor", SSC-4 "Mode parameter block
-/// descriptor").
+/// Returns the block descriptor of a unit (SBC-3 "Short LBA mode parameter block descriptor", SSC-4 "Mode parameter
+/// block descriptor").
 pub(crate) fn descriptor(parameters: Parameters) -> [u8; 8]
     ensures { result ≡ descriptor parameters }
 {
@@ -27,7 +27,8 @@ pub(crate) fn descriptor(parameters: Parameters) -> [u8; 8]
     ]
 }
 
-/// The parameters behind a descriptor of a parameter list, in front of other bytes, or none where it is refused.
+/// Returns the parameters after the descriptor at the front of these bytes of a parameter list, or `None` if it is
+/// refused.
 pub(crate) fn described(parameters: Parameters, bytes: &[u8]) -> Option<Parameters>
     requires { 8 ≤ length bytes.now }
     ensures { result ≡ described parameters bytes.now }

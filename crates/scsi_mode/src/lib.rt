@@ -1,5 +1,5 @@
-//! The parameters of MODE SENSE and MODE SELECT (SPC-4 "Mode parameters", SBC-3 "Mode parameters for
-//! direct access block devices", SSC-4 "Mode parameters for sequential-access devices").
+//! The parameters of MODE SENSE and MODE SELECT (SPC-4 "Mode parameters", SBC-3 "Mode parameters for direct access
+//! block devices", SSC-4 "Mode parameters for sequential-access devices").
 //!
 //! ```text
 //! header            4 bytes, or 8 for the commands of 10 bytes
@@ -8,9 +8,11 @@
 //!                   0Ah  disk  tape  Control: SWP, the software write protection of a disk
 //! ```
 //!
-//! Promised: [`sense`] gives exactly these bytes, or tells that there is no such page. [`select`] judges
-//! a parameter list part by part: the first fault counts, and where there is none it tells what SWP and a tape's block
-//! length are from then on. No data is cut to an allocation length here.
+//! - [`sense`] returns exactly these bytes, or that there is no such page.
+//! - [`select`] judges a parameter list part by part, and the first fault counts. If there is none, it returns the new
+//!   SWP and the new block length of a tape.
+//!
+//! No data is truncated to an allocation length here.
 #![tactic(auto)]
 
 mod data;

@@ -13,10 +13,10 @@ use scsi_cdb::{PageControl, ParameterHeader};
 /// PS, in byte 0 of a page.
 const WITHOUT_SAVEABLE: u8 = 0x7f;
 
-/// The bytes of a block descriptor.
+/// The number of bytes of a block descriptor.
 const DESCRIPTOR_LENGTH: usize = 8;
 
-/// Whether a page of the list is this one.
+/// Returns whether a page of the list is this one.
 #[tactic(auto, unfolding(crate::specs::ParameterList::is_page))]
 fn is_page(page: &[u8], expected: &[u8]) -> bool
     requires page { 0 < length page.now }
@@ -26,7 +26,7 @@ fn is_page(page: &[u8], expected: &[u8]) -> bool
     page[0] & WITHOUT_SAVEABLE == expected[0] && page[1..] == expected[1..]
 }
 
-/// The parameters behind a page of the list.
+/// Returns the parameters after a page of the list.
 #[tactic(auto, unfolding(crate::specs::ParameterList::after_page))]
 fn after_page(parameters: Parameters, page: &[u8]) -> Result<Parameters, ListFault>
     requires { 0 < length page.now }
@@ -55,7 +55,7 @@ fn after_page(parameters: Parameters, page: &[u8]) -> Result<Parameters, ListFau
     }
 }
 
-/// The length of the page in front, where it is whole.
+/// Returns the length of the first page, if it is whole.
 #[tactic(auto, unfolding(crate::specs::ParameterList::has_page))]
 fn whole_page(list: &[u8]) -> Option<usize>
     ensures value { result ≡ page_if list.now }
@@ -70,7 +70,7 @@ fn whole_page(list: &[u8]) -> Option<usize>
     }
 }
 
-/// The parameters behind pages.
+/// Returns the parameters after pages.
 fn after_pages(parameters: Parameters, list: &[u8]) -> Result<Parameters, ListFault>
     ensures { result ≡ after_pages parameters list.now }
 {
@@ -87,7 +87,7 @@ fn after_pages(parameters: Parameters, list: &[u8]) -> Result<Parameters, ListFa
     Ok(after)
 }
 
-/// A block descriptor, and then pages.
+/// Reads a block descriptor, and then pages.
 #[tactic(auto, unfolding(crate::specs::ParameterList::after_descriptor))]
 fn after_descriptor(parameters: Parameters, list: &[u8]) -> Result<Parameters, ListFault>
     ensures { result ≡ after_descriptor parameters list.now }
@@ -101,7 +101,7 @@ fn after_descriptor(parameters: Parameters, list: &[u8]) -> Result<Parameters, L
     }
 }
 
-/// What stands behind a header that gives this length to the block descriptor.
+/// Reads what comes after a header that gives this length to the block descriptor.
 #[tactic(auto, unfolding(crate::specs::ParameterList::after_header))]
 fn after_header(
     parameters: Parameters,
@@ -117,10 +117,10 @@ fn after_header(
     }
 }
 
-/// The parameters behind a MODE SELECT with this parameter list, or why it is refused and nothing changes
-/// (SPC-4 "MODE SELECT (6) command", "MODE SELECT (10) command"). The parts of the list are judged in turn:
-/// one may end early, and one may change anything but a disk's SWP and a tape's block length; the first of
-/// these counts. An empty list changes nothing.
+/// Returns the parameters after a MODE SELECT with this parameter list (SPC-4 "MODE SELECT (6) command", "MODE SELECT
+/// (10) command"). If the list is refused, it returns why, and nothing changes. The parts of the list are judged in
+/// turn. A part is refused if it ends early, or if it would change anything but a disk's SWP and a tape's block length.
+/// The first fault counts. An empty list changes nothing.
 #[tactic(auto, unfolding(crate::specs::ParameterList::selected))]
 pub fn select(
     parameters: Parameters,

@@ -10,12 +10,12 @@ use scsi_sense::{Condition, Sense};
 pub enum ListFault {
     /// A part of it ends early.
     EndsEarly,
-    /// A part of it would change what can't be changed.
+    /// A part of it would change what cannot be changed.
     InvalidField,
 }
 
 impl ListFault {
-    /// PARAMETER LIST LENGTH ERROR or INVALID FIELD IN PARAMETER LIST.
+    /// Returns PARAMETER LIST LENGTH ERROR or INVALID FIELD IN PARAMETER LIST.
     pub fn sense(self) -> Sense
         ensures { result ≡ fault_sense self }
     {

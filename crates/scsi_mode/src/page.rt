@@ -21,7 +21,7 @@ const SWP: u8 = 0x08;
 /// WCE, in byte 2 of the Caching mode page.
 const WRITE_CACHE: u8 = 0x04;
 
-/// The Caching mode page: the write cache is on, and nothing of it can be changed.
+/// Returns the Caching mode page: the write cache is on, and nothing of it can be changed.
 pub(crate) fn caching_page(control: PageControl) -> [u8; 20]
     ensures { result ≡ caching_page control }
 {
@@ -34,7 +34,7 @@ pub(crate) fn caching_page(control: PageControl) -> [u8; 20]
     ]
 }
 
-/// The Control mode page with SWP as given.
+/// Returns the Control mode page with SWP as given.
 pub(crate) fn control_page(is_protected: bool) -> [u8; 12]
     ensures { result ≡ control_page is_protected }
 {
@@ -42,7 +42,7 @@ pub(crate) fn control_page(is_protected: bool) -> [u8; 12]
     [0x0a, 0x0a, 0, 0, protect, 0, 0, 0, 0, 0, 0, 0]
 }
 
-/// What stands in the place of SWP: its value, or whether it can be changed, or its default.
+/// Returns the bit in the place of SWP: its value, whether it can be changed, or its default.
 pub(crate) fn shown_swp(control: PageControl, parameters: Parameters) -> bool
     ensures { result ≡ shown_swp control parameters }
 {

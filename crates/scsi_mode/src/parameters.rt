@@ -1,4 +1,4 @@
-//! What the mode parameters of a unit tell.
+//! The mode parameters of a unit.
 
 ghost use Rattle.std.specs.Prelude.{◌≡◌};
 ghost use Rattle.scsi_mode.specs.ModePages.{write_protect, block_length_of, differ};
@@ -6,7 +6,7 @@ ghost use Rattle.scsi_mode.specs.ModeData.{device_parameter};
 
 use media_block::BLOCK_LENGTH;
 
-/// What the mode parameters of a unit tell.
+/// The mode parameters of a unit.
 #[derive(Clone, Copy, Debug, PartialEq, Eq)]
 pub enum Parameters {
     Disk {
@@ -15,14 +15,14 @@ pub enum Parameters {
         write_protect: bool,
     },
     Tape {
-        /// The bytes of each block of a READ or WRITE with FIXED, 0 where there is none (SSC-4 "Mode parameter
+        /// The number of bytes of each block of a READ or WRITE with FIXED, 0 if there is none (SSC-4 "Mode parameter
         /// block descriptor").
         block_length: u32,
     },
 }
 
 impl Parameters {
-    /// SWP. A tape's is never set.
+    /// Returns SWP. A tape's is never set.
     pub fn write_protect(self) -> bool
         ensures { result ≡ write_protect self }
     {
@@ -32,7 +32,7 @@ impl Parameters {
         }
     }
 
-    /// BLOCK LENGTH, in bytes.
+    /// Returns BLOCK LENGTH, in bytes.
     pub fn block_length(self) -> u32
         ensures { result ≡ block_length_of self }
     {
@@ -42,14 +42,14 @@ impl Parameters {
         }
     }
 
-    /// Whether a parameter is another.
+    /// Returns whether a parameter differs.
     pub fn differs(self, other: Parameters) -> bool
         ensures { result ≡ differ self other }
     {
         self != other
     }
 
-    /// DEVICE-SPECIFIC PARAMETER, in the header: DPOFUA (SBC-3 "Mode parameter header") or buffered mode 1
+    /// Returns DEVICE-SPECIFIC PARAMETER, in the header: DPOFUA (SBC-3 "Mode parameter header") or buffered mode 1
     /// (SSC-4 "Mode parameter header"), with WP.
     pub(crate) fn device_parameter(self) -> u8
         ensures { result ≡ device_parameter self }

@@ -1,10 +1,10 @@
-//! Bytes put behind one another, where they have room.
+//! Bytes appended to others, which have room for them.
 
 ghost use Rattle.std.specs.Prelude.{◌≡◌, ◌+◌, ◌++◌, ◌≤◌, length};
 
 use arrayvec::ArrayVec;
 
-/// Puts bytes behind others.
+/// Appends bytes to others.
 pub(crate) fn put<const N: usize>(list: &mut ArrayVec<u8, N>, bytes: &[u8])
     requires { length list.old.items + length bytes.now ≤ N }
     ensures { list.new.items ≡ list.old.items ++ bytes.now }
