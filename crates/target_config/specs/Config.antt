@@ -1,4 +1,4 @@
--- The configuration that a text describes, or the first fault that it has.
+-- The configuration that a text describes, or its first fault.
 use Rattle.std.specs.Prelude.{ℕ, List, length, Bool, not, nat_le, Option, Some, None, Result, Ok, Err, if◌then◌else◌}
 use Rattle.std.specs.List.{list_all}
 use Rattle.std.specs.Str.{is_utf8}
@@ -10,7 +10,7 @@ use Rattle.target_config.specs.Distinct.{comes_each_once, has_lun_zero}
 use Rattle.target_config.specs.declared.fault.ConfigFault.{ConfigFault}
 use Rattle.target_config.specs.declared.fault.ConfigFault.TheVariants as faults
 
--- profile: the first thing that is wrong with a configuration whose fields are all there
+-- profile: the first fault of a configuration whose fields are all there
 unfoldable pub fault_in : Document → Option ConfigFault
 fault_in document =
     if not (keeps_limits document) then Some faults.Limit
@@ -22,12 +22,12 @@ abbrev pub unless_fault : Option ConfigFault → Document → Result Document Co
 unless_fault None document = Ok document
 unless_fault (Some why) document = Err why
 
--- the next step, where this one gave a value, or this one's fault
+-- the next step if this one returned a value, or else this fault
 abbrev pub or_fault : {A : Type 0} → ConfigFault → Option A → (A → Result Document ConfigFault) → Result Document ConfigFault
 or_fault why None f = Err why
 or_fault why (Some x) f = f x
 
--- the configuration of a text, or the first fault that holds
+-- the configuration of a text, or its first fault
 unfoldable pub config_of : List ℕ → Result Document ConfigFault
 config_of text =
     or_fault faults.NotToml (parse_document text)

@@ -1,4 +1,4 @@
--- What a configuration says.
+-- What a configuration contains.
 use Rattle.std.specs.Prelude.{ℕ, ℤ, pos, negsuc, List, map, flat_map, filter_map, Bool, true, false, Option, Some, None, option_map, string_bytes}
 use Rattle.std.specs.List.{list_all}
 use Rattle.target_config.specs.declared.configuration.MediumConfiguration.{MediumConfiguration}
@@ -7,8 +7,8 @@ use Rattle.target_config.specs.declared.configuration.UnitConfiguration.{UnitCon
 use Rattle.target_config.specs.declared.configuration.TargetConfiguration.{TargetConfiguration}
 use Rattle.target_config.specs.declared.configuration.Configuration.{Configuration}
 
--- profile: what a unit keeps its data on: a disk of so many zero blocks in memory, a disk in the file at a path, an empty tape in
--- memory, or a tape in the file at a path
+-- profile: what a unit keeps its data on: a disk of zero blocks in memory, a disk in the file at a path, an empty tape
+-- in memory, or a tape in the file at a path
 pub data MediumEntry : Type 0 where
   MemoryDisk : (blocks : ℕ) → MediumEntry
   FileDisk : (path : List ℕ) → MediumEntry
@@ -48,7 +48,7 @@ is_in_memory (FileTape path capacity early) = false
 abbrev pub keeps_in_memory : Document → Bool
 keeps_in_memory document = list_all (λ target. list_all (λ unit. is_in_memory unit.medium) target.units) document.targets
 
--- the path of a medium in a file, and none of another
+-- the path of a medium in a file; any other has none
 abbrev pub file_of : MediumEntry → Option (List ℕ)
 file_of (MemoryDisk blocks) = None
 file_of (FileDisk path) = Some path

@@ -1,4 +1,4 @@
--- Names, LUNs and files that come once, and LUN 0.
+-- Names, LUNs and files that must come once, and LUN 0.
 use Rattle.std.specs.Prelude.{ℤ, pos, List, [], ◌∷◌, map, flat_map, Bool, true, false, not, ◌&&◌, ◌||◌, ℕ, Option, Some, bytes_eq}
 use Rattle.std.specs.List.{list_all, list_any}
 use Rattle.std.specs.Ordering.{int_eq}
@@ -27,7 +27,7 @@ has_lun_zero target = list_any (λ lun. int_eq lun (pos 0)) (luns_of target.unit
 abbrev pub units_in : List TargetEntry → List UnitEntry
 units_in targets = flat_map (λ target. target.units) targets
 
--- there are two paths, and they are one
+-- there are two paths, and they are equal
 abbrev pub is_one_path : Option (List ℕ) → Option (List ℕ) → Bool
 is_one_path (Some path) (Some other) = bytes_eq path other
 is_one_path path other = false
@@ -39,6 +39,6 @@ shares_file unit other = is_one_path (file_of unit.medium) (file_of other.medium
 abbrev pub has_distinct_files : List TargetEntry → Bool
 has_distinct_files targets = is_distinct shares_file (units_in targets)
 
--- profile: no two targets of one name, no two units of one LUN in a target, and no two units in one file
+-- profile: no two targets have one name, no two units of a target one LUN, and no two units one file
 abbrev pub comes_each_once : List TargetEntry → Bool
 comes_each_once targets = is_distinct bytes_eq (names_of targets) && list_all has_distinct_luns targets && has_distinct_files targets

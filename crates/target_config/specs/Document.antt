@@ -1,5 +1,4 @@
--- What a configuration document says: each field that is needed is there, of its type, and in the range
--- that belongs to it.
+-- What a configuration document contains: each field that is needed is there, of its type, and in its range.
 use Rattle.std.specs.Prelude.{◌≡◌, ℕ, ℤ, pos, negsuc, List, [], ◌∷◌, length, Bool, not, ◌&&◌, ◌==◌, nat_le, codes, Option, Some, None, is_some, option_and_then, Result, Ok, Err, if◌then◌else◌, bytes_eq}
 use Rattle.std.specs.List.{list_any}
 use Rattle.toml.specs.Data.{Data, Items, no_items, item, Members, as_str, as_integer, as_array, as_table, get_member}
@@ -7,7 +6,7 @@ use Rattle.target_config.specs.declared.fault.ConfigFault.{ConfigFault}
 use Rattle.target_config.specs.declared.fault.ConfigFault.TheVariants as faults
 use Rattle.target_config.specs.Configuration.{MediumEntry, MemoryDisk, FileDisk, MemoryTape, FileTape, UnitEntry, TargetEntry, Document}
 
--- the second step, where the first gave a value
+-- the second step, if the first returned a value
 infixl 10 ◌>>=◌
 abbrev pub ◌>>=◌ : {A B : Type 0} → Option A → (A → Option B) → Option B
 None >>= f = None
@@ -45,7 +44,7 @@ named text = if is_name text then Some text else None
 unfoldable pub name_at : Members → List ℕ → Option (List ℕ)
 name_at table key = option_and_then named (text_at table key)
 
--- what each value gives, where all give something
+-- the value for each item, if all items have one
 abbrev pub each : {Y : Type 0} → (Data → Option Y) → Items → Option (List Y)
 each f no_items = Some []
 each f (item value values) = do
@@ -111,7 +110,7 @@ target_of value = do
   units ← each unit_of values
   Some (record { name = name; units = units })
 
--- profile: a text is where the log is written to, and any other value is not looked at
+-- profile: a text is the destination of the log, and any other value is ignored
 abbrev pub log_in : Members → Option (List ℕ)
 log_in table = text_at table (codes "log")
 
@@ -124,13 +123,13 @@ document_of table = do
 
 -- ---- what a step of the code returns
 
--- why a step of the code gave nothing: reading gives nothing, or an allocation failed
+-- why a step of the code returned no value: reading returns none, or an allocation failed
 abbrev pub Refuses : {Y : Type 0} → ConfigFault → Option Y → Type 0
 Refuses faults.Field read = read ≡ None
 Refuses faults.OutOfMemory read = Unit {0}
 Refuses _ read = ⊥
 
--- what a step of the code returned, seen by `view`, is what reading gives, unless an allocation failed
+-- what a step of the code returned, seen by `view`, is what reading returns, unless an allocation failed
 abbrev pub Gives : {X Y : Type 0} → (X → Y) → Result X ConfigFault → Option Y → Type 0
 Gives view (Ok x) read = read ≡ Some (view x)
 Gives view (Err fault) read = Refuses fault read

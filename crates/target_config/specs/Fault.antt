@@ -3,7 +3,7 @@ use Rattle.std.specs.Prelude.{ℕ, Option, Some, None}
 use Rattle.target_config.specs.declared.fault.ConfigFault.{ConfigFault}
 use Rattle.target_config.specs.declared.fault.ConfigFault.TheVariants as faults
 
--- profile: that an allocation failed has no number
+-- profile: a failed allocation has no number
 abbrev pub number_of : ConfigFault → Option ℕ
 number_of faults.Unreadable = Some 1
 number_of faults.NotToml = Some 2

@@ -1,4 +1,4 @@
--- What the system told of the configuration's file.
+-- What the system returned for the configuration file.
 use Rattle.std.specs.Prelude.{◌≡◌, ℕ, List, [], ◌∷◌, Option, None, Some, Result, Ok, Err}
 use Rattle.std.specs.declared.alloc.Global.{Global}
 use Rattle.std.specs.declared.vec.Vec.{Vec}
@@ -10,12 +10,12 @@ use Rattle.target_config.specs.declared.fault.ConfigFault.TheVariants as faults
 abbrev pub noted : ℕ → List ℕ → Noted
 noted number bytes = record { numbers = number ∷ []; bytes = bytes; flags = [] }
 
--- what is noted of a file: its path, and then what it holds, or that it cannot be read
+-- the notes of a file: its path, and then its contents, or that it cannot be read
 abbrev pub told_of : List ℕ → Option (List ℕ) → List Noted → List Noted
 told_of path (Some contents) earlier = noted 1 contents ∷ noted 0 path ∷ earlier
 told_of path None earlier = noted 2 [] ∷ noted 0 path ∷ earlier
 
--- the contents of the file at a path are those that were told, or it cannot be read, or an allocation failed
+-- the contents of the file at a path are those that were noted, or it cannot be read, or an allocation failed
 abbrev pub Loads : List ℕ → List Noted → List Noted → Result (Vec ℕ Global) ConfigFault → Type 0
 Loads path old new (Ok contents) = new ≡ told_of path (Some contents.items) old
 Loads path old new (Err faults.Unreadable) = new ≡ told_of path None old

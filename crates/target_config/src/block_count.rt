@@ -2,7 +2,7 @@
 
 ghost use Rattle.std.specs.Prelude.{◌≤◌};
 
-/// How many blocks of 512 bytes a disk in memory has.
+/// The number of blocks of 512 bytes of a disk in memory.
 #[derive(Clone, Copy, Debug)]
 pub struct BlockCount {
     pub number: u64,

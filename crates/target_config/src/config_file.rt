@@ -1,4 +1,4 @@
-//! The configuration file: a TOML document whose fields are read, and then what they say is tested.
+//! The configuration file: a TOML document, whose fields are read first and then checked.
 
 ghost use Rattle.std.specs.Prelude.{◌≡◌, ◌≢◌, true, IfOk, IfErr, Ok, Err};
 ghost use Rattle.target_config.specs.Configuration.{configuration_view};
@@ -14,10 +14,10 @@ use crate::limits::keeps_limits;
 use std::alloc::Global;
 use std::str;
 
-/// A file of configuration has at most so many bytes.
+/// The most bytes of a configuration file.
 pub const MOST_BYTES: usize = 1_048_576;
 
-/// The first thing that is wrong with a configuration whose fields are all there.
+/// Returns the first fault of a configuration whose fields are all there.
 #[tactic(auto, using(crate::proofs::Lists::tests_targets), unfolding(crate::specs::Config::fault_in))]
 fn fault_in(configuration: &Configuration) -> Option<ConfigFault>
     ensures { result ≡ first_fault_in (configuration_view configuration.now) }
@@ -35,8 +35,7 @@ fn fault_in(configuration: &Configuration) -> Option<ConfigFault>
     None
 }
 
-/// The configuration that a TOML document describes, or the first fault that it has. Fields that
-/// nothing reads are passed over.
+/// Returns the configuration that a TOML document describes, or its first fault. Unknown fields are ignored.
 #[tactic(auto, unfolding(crate::specs::Config::config_of))]
 pub fn config(alloc: Global, text: &str) -> Result<Configuration, ConfigFault>
     ensures read { IfOk result (λ configuration. config_of text.now ≡ Ok (configuration_view configuration)) }
@@ -51,7 +50,7 @@ pub fn config(alloc: Global, text: &str) -> Result<Configuration, ConfigFault>
     }
 }
 
-/// The configuration of a file with these contents, or the first fault that it has.
+/// Returns the configuration of a file with these contents, or its first fault.
 #[tactic(auto, using(crate::proofs::Texts::is_text, crate::proofs::Texts::is_no_text), unfolding(crate::specs::Config::file_config_of))]
 pub fn file_config(alloc: Global, contents: &[u8]) -> Result<Configuration, ConfigFault>
     ensures read { IfOk result (λ configuration. file_config_of contents.now ≡ Ok (configuration_view configuration)) }

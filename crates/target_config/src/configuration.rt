@@ -1,13 +1,13 @@
-//! What the program is configured to be.
+//! The configuration of the program.
 
 use crate::block_count::BlockCount;
 
-/// A target portal and the targets behind it.
+/// A target portal and its targets.
 #[derive(Debug, Drop)]
 pub struct Configuration {
     /// The address that initiators connect to: 1 to 253 bytes.
     pub listen: String,
-    /// Where the log is written to, if there is one: the path of a file, or `-` for standard error.
+    /// The destination of the log, if there is one: the path of a file, or `-` for standard error.
     pub log: Option<String>,
     /// At most 8.
     pub targets: Vec<TargetConfiguration>,
@@ -39,7 +39,7 @@ pub enum MediumConfiguration {
     MemoryDisk(BlockCount),
     /// A disk in the file at this path.
     FileDisk(String),
-    /// A tape in memory that holds at most `capacity` bytes, and that warns behind `early` of them.
+    /// A tape in memory that holds at most `capacity` bytes, and that warns after `early` of them.
     MemoryTape {
         capacity: u64,
         early: u64,

@@ -1,5 +1,5 @@
-//! What comes once: the names of the targets, the LUNs of each target, and the files. And LUN 0,
-//! which each target has.
+//! What must come once: the names of the targets, the LUNs of each target, and the files. And LUN 0, which each target
+//! must have.
 
 ghost use Rattle.std.specs.Prelude.{◌≡◌, pos, bytes_eq, option_map, string_bytes};
 ghost use Rattle.std.specs.List.{list_all, list_any};
@@ -9,14 +9,14 @@ ghost use Rattle.target_config.specs.Distinct.{is_distinct, is_distinct_before, 
 
 use crate::configuration::{MediumConfiguration, TargetConfiguration, UnitConfiguration};
 
-/// One of the units has the LUN of this one.
+/// Returns whether one of the units has the LUN of this one.
 fn has_twin(units: &[UnitConfiguration], unit: &UnitConfiguration) -> bool
     ensures { result ≡ list_any (λ other. int_eq other.lun unit.now.lun) units.now }
 {
     units.iter().any(|other| other.lun == unit.lun)
 }
 
-/// The units of the target have different LUNs.
+/// Returns whether the units of the target have different LUNs.
 fn has_distinct_luns(target: &TargetConfiguration) -> bool
     ensures { result ≡ are_luns_distinct (target_view target.now) }
 {
@@ -29,28 +29,28 @@ fn has_distinct_luns(target: &TargetConfiguration) -> bool
     true
 }
 
-/// One of the units has LUN 0.
+/// Returns whether one of the units has LUN 0.
 fn are_with_zero(units: &[UnitConfiguration]) -> bool
     ensures { result ≡ list_any (λ unit. int_eq unit.lun (pos 0)) units.now }
 {
     units.iter().any(|unit| unit.lun == 0)
 }
 
-/// A unit of the target has LUN 0.
+/// Returns whether a unit of the target has LUN 0.
 fn has_lun_zero(target: &TargetConfiguration) -> bool
     ensures { result ≡ is_lun_zero_there (target_view target.now) }
 {
     are_with_zero(target.units.as_slice())
 }
 
-/// One of the targets has the name of this one.
+/// Returns whether one of the targets has the name of this one.
 fn has_namesake(targets: &[TargetConfiguration], target: &TargetConfiguration) -> bool
     ensures { result ≡ list_any (λ other. bytes_eq (string_bytes other.name) (string_bytes target.now.name)) targets.now }
 {
     targets.iter().any(|other| other.name == target.name)
 }
 
-/// The targets have different names.
+/// Returns whether the targets have different names.
 fn have_distinct_names(targets: &[TargetConfiguration]) -> bool
     ensures { result ≡ is_distinct bytes_eq (names_of (targets_view targets.now)) }
 {
@@ -62,14 +62,14 @@ fn have_distinct_names(targets: &[TargetConfiguration]) -> bool
     true
 }
 
-/// The units of each target have different LUNs.
+/// Returns whether the units of each target have different LUNs.
 fn have_distinct_luns(targets: &[TargetConfiguration]) -> bool
     ensures { result ≡ list_all (λ target. are_luns_distinct (target_view target)) targets.now }
 {
     targets.iter().all(|target| has_distinct_luns(target))
 }
 
-/// The path of the file that a unit is in.
+/// Returns the path of the file that a unit is in, if it is in one.
 fn path_of(medium: &MediumConfiguration) -> Option<&String>
     ensures { option_map (λ path. string_bytes path.now) result ≡ file_of (medium_view medium.now) }
 {
@@ -80,7 +80,7 @@ fn path_of(medium: &MediumConfiguration) -> Option<&String>
     }
 }
 
-/// Both units are in one file.
+/// Returns whether both units are in one file.
 fn share_file(unit: &UnitConfiguration, other: &UnitConfiguration) -> bool
     ensures { result ≡ is_file_shared (unit_view unit.now) (unit_view other.now) }
 {
@@ -90,14 +90,14 @@ fn share_file(unit: &UnitConfiguration, other: &UnitConfiguration) -> bool
     }
 }
 
-/// One of the units is in the file of this one.
+/// Returns whether one of the units is in the file of this one.
 fn has_file_of(units: &[UnitConfiguration], unit: &UnitConfiguration) -> bool
     ensures { result ≡ list_any (λ other. is_file_shared (unit_view other) (unit_view unit.now)) units.now }
 {
     units.iter().any(|other| share_file(other, unit))
 }
 
-/// One of the targets has a unit in the file of this one.
+/// Returns whether one of the targets has a unit in the file of this one.
 fn have_file_of(targets: &[TargetConfiguration], unit: &UnitConfiguration) -> bool
     ensures { result ≡ list_any (λ target. list_any (λ other. is_file_shared (unit_view other) (unit_view unit.now)) target.units.items) targets.now }
 {
@@ -106,7 +106,7 @@ fn have_file_of(targets: &[TargetConfiguration], unit: &UnitConfiguration) -> bo
         .any(|target| has_file_of(target.units.as_slice(), unit))
 }
 
-/// The units are in different files, and none is in a file of the targets behind.
+/// Returns whether the units are in different files, and none is in a file of the targets that follow.
 fn is_apart(units: &[UnitConfiguration], behind: &[TargetConfiguration]) -> bool
     ensures { result ≡ is_distinct_before is_file_shared (units_view units.now) (units_in (targets_view behind.now)) }
 {
@@ -118,7 +118,7 @@ fn is_apart(units: &[UnitConfiguration], behind: &[TargetConfiguration]) -> bool
     true
 }
 
-/// No two units are in one file.
+/// Returns whether no two units are in one file.
 fn have_distinct_files(targets: &[TargetConfiguration]) -> bool
     ensures { result ≡ are_files_distinct (targets_view targets.now) }
 {
@@ -130,7 +130,7 @@ fn have_distinct_files(targets: &[TargetConfiguration]) -> bool
     true
 }
 
-/// No two targets have one name, no two units of a target one LUN, and no two units one file.
+/// Returns whether no two targets have one name, no two units of a target one LUN, and no two units one file.
 #[tactic(auto, using(crate::proofs::Lists::tests_targets))]
 pub fn come_each_once(targets: &[TargetConfiguration]) -> bool
     ensures { result ≡ comes_each_once (targets_view targets.now) }
@@ -138,7 +138,7 @@ pub fn come_each_once(targets: &[TargetConfiguration]) -> bool
     have_distinct_names(targets) && have_distinct_luns(targets) && have_distinct_files(targets)
 }
 
-/// Each target has a LUN 0.
+/// Returns whether each target has a LUN 0.
 pub fn have_lun_zero(targets: &[TargetConfiguration]) -> bool
     ensures { result ≡ list_all (λ target. is_lun_zero_there (target_view target)) targets.now }
 {

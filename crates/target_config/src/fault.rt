@@ -8,19 +8,19 @@ ghost use Rattle.target_config.specs.declared.fault.ConfigFault.TheVariants.{Not
 use std::alloc::{AllocError, AllocFailed};
 use thiserror::Error;
 
-/// Why there is no configuration. Where several faults hold, the one that stands first here is told.
+/// Why there is no configuration. If there are several faults, the one that comes first here is reported.
 #[derive(Clone, Copy, Debug, PartialEq, Eq, Error)]
 pub enum ConfigFault {
     /// The file cannot be read, or has more than 1 MiB.
     #[error("the file cannot be read, or has more than 1 MiB")]
     Unreadable,
-    /// It is not UTF-8, or not TOML.
+    /// The file is not UTF-8, or not TOML.
     #[error("the file is not TOML")]
     NotToml,
     /// A field is missing, of the wrong type, or outside its range.
     #[error("a field is missing, of the wrong type, or outside its range")]
     Field,
-    /// A limit is passed.
+    /// A limit is exceeded.
     #[error("a limit is passed")]
     Limit,
     /// A target's name, a LUN of one target, or a file comes twice.
@@ -35,7 +35,7 @@ pub enum ConfigFault {
 }
 
 impl ConfigFault {
-    /// The number of the fault, 1 to 6. That an allocation failed has none.
+    /// Returns the number of the fault, 1 to 6. A failed allocation has none.
     pub fn number(self) -> Option<u8>
         ensures { result ≡ number_of self }
     {

@@ -1,5 +1,4 @@
-//! The fields of the document: each is there, of its type, and in the range that belongs to it.
-//! Fields that nothing reads are passed over.
+//! The fields of the document: each is there, of its type, and in its range. Unknown fields are ignored.
 
 ghost use Rattle.std.specs.Prelude.{◌≡◌, ◌≤◌, IfOk, map, codes, Some, option_map, string_bytes};
 ghost use Rattle.toml.specs.Data.{get_member};
@@ -15,20 +14,20 @@ use crate::fault::ConfigFault;
 use std::alloc::Global;
 use toml::{Table, Value};
 
-/// A disk has at most so many blocks.
+/// The most blocks of a disk in memory.
 const MOST_BLOCKS: u64 = 1_048_576;
 
-/// A tape has at most so many bytes.
+/// The most bytes of a tape.
 const MOST_CAPACITY: u64 = 34_359_738_360;
 
-/// The value of a field that is needed.
+/// Returns the value of a field that is needed.
 fn member<'a>(table: &'a Table, key: &str) -> Result<&'a Value, ConfigFault>
     ensures { Gives (λ v. view v.now) result (get_member key.now (table_view table.now)) }
 {
     table.get(key).ok_or(ConfigFault::Field)
 }
 
-/// The field is there, whatever it is.
+/// Returns whether the field is there, whatever its value.
 fn has(table: &Table, key: &str) -> bool
     ensures { result ≡ has_member key.now (table_view table.now) }
 {
@@ -56,7 +55,7 @@ fn array<'a>(table: &'a Table, key: &str) -> Result<&'a [Value], ConfigFault>
     }
 }
 
-/// A number from `least` to `most`.
+/// Returns a number from `least` to `most`.
 #[tactic(auto, unfolding(crate::specs::Document::number_at))]
 fn number(table: &Table, key: &str, least: u64, most: u64) -> Result<u64, ConfigFault>
     ensures number { Gives (λ n. n) result (number_at (table_view table.now) key.now least most) }
@@ -68,14 +67,14 @@ fn number(table: &Table, key: &str, least: u64, most: u64) -> Result<u64, Config
     }
 }
 
-/// It is not empty and has no zero byte.
+/// Returns whether a text is not empty and has no zero byte.
 fn is_name(text: &str) -> bool
     ensures { result ≡ is_name_text text.now }
 {
     !text.is_empty() && !text.as_bytes().contains(&0)
 }
 
-/// A text that may be a name.
+/// Returns a text that may be a name.
 #[tactic(auto, unfolding(crate::specs::Document::name_at))]
 fn name(alloc: Global, table: &Table, key: &str) -> Result<String, ConfigFault>
     ensures { Gives string_bytes result (name_at (table_view table.now) key.now) }
@@ -87,7 +86,7 @@ fn name(alloc: Global, table: &Table, key: &str) -> Result<String, ConfigFault>
     Ok(String::from_str(alloc, name)?)
 }
 
-/// A disk in memory, of so many blocks.
+/// Reads a disk in memory, with its number of blocks.
 #[tactic(auto, unfolding(crate::specs::Document::memory_disk_of))]
 fn memory_disk(table: &Table) -> Result<MediumConfiguration, ConfigFault>
     ensures { Gives medium_view result (memory_disk_of (table_view table.now)) }
@@ -96,7 +95,7 @@ fn memory_disk(table: &Table) -> Result<MediumConfiguration, ConfigFault>
     Ok(MediumConfiguration::MemoryDisk(BlockCount { number }))
 }
 
-/// A disk in a file. A number of blocks beside it is not read.
+/// Reads a disk in a file. A number of blocks beside it is ignored.
 #[tactic(auto, unfolding(crate::specs::Document::file_disk_of))]
 fn file_disk(alloc: Global, table: &Table) -> Result<MediumConfiguration, ConfigFault>
     ensures { Gives medium_view result (file_disk_of (table_view table.now)) }
@@ -204,7 +203,7 @@ fn targets(alloc: Global, values: &[Value]) -> Result<Vec<TargetConfiguration>, 
     Ok(targets)
 }
 
-/// The text of a field that need not be there, nor be a text.
+/// Returns the text of a field. The field may be missing, or may not be a text.
 fn optional_text(alloc: Global, table: &Table, key: &str) -> Result<Option<String>, ConfigFault>
     ensures { Gives (λ text. option_map string_bytes text) result (Some (text_at (table_view table.now) key.now)) }
 {
@@ -215,7 +214,7 @@ fn optional_text(alloc: Global, table: &Table, key: &str) -> Result<Option<Strin
     }
 }
 
-/// The fields of a document.
+/// Reads the fields of a document.
 #[tactic(auto, unfolding(crate::specs::Document::document_of))]
 pub fn fields(alloc: Global, table: &Table) -> Result<Configuration, ConfigFault>
     ensures { Gives configuration_view result (document_of (table_view table.now)) }

@@ -1,4 +1,4 @@
-//! The configuration of a target: a TOML document, its fields, and what they have to keep.
+//! The configuration of a target: a TOML document, its fields, and the limits that they must keep.
 //!
 //! ```text
 //! listen = "127.0.0.1:3260"
@@ -16,9 +16,13 @@
 //! A unit is a disk in memory (`blocks`) or in a file (`file`), or a tape (`kind = "tape"`, with `capacity` and
 //! `early`) in memory or in a file.
 //!
-//! Promised, and proved: [`file_config`] gives exactly the configuration that the contents of a file
-//! describe, or the first fault that they have, in the order of [`ConfigFault`]. What it gives keeps
-//! every limit. The one other end is that an allocation failed. [`load`] reads the file and notes what the system told of it.
+//! These are proved:
+//!
+//! - [`file_config`] returns exactly the configuration that the contents of a file describe, which keeps every limit.
+//! - Otherwise it returns the first fault of the contents, in the order of [`ConfigFault`].
+//! - Otherwise an allocation failed.
+//!
+//! [`load`] reads the file and records what the system returned for it.
 #![tactic(auto)]
 
 mod block_count;

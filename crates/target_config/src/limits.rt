@@ -19,14 +19,14 @@ const MOST_LUN: i64 = 255;
 
 const MOST_SERIAL: usize = 32;
 
-/// Printable ASCII, spaces among it.
+/// Returns whether all bytes are printable ASCII, which includes the space.
 fn is_printable(bytes: &[u8]) -> bool
     ensures { result ≡ list_all is_printable_byte bytes.now }
 {
     bytes.iter().all(|byte| 0x20 <= *byte && *byte <= 0x7e)
 }
 
-/// 1 to 32 bytes of printable ASCII.
+/// Returns whether a text is 1 to 32 bytes of printable ASCII.
 fn is_serial(text: &str) -> bool
     ensures { result ≡ is_serial_text text.now }
 {
@@ -60,7 +60,7 @@ fn targets_keep_limits(targets: &[TargetConfiguration]) -> bool
     targets.iter().all(|target| target_keeps_limits(target))
 }
 
-/// Every limit is kept.
+/// Returns whether every limit is kept.
 pub fn keeps_limits(configuration: &Configuration) -> bool
     ensures { result ≡ are_limits_kept (configuration_view configuration.now) }
 {

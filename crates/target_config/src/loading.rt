@@ -1,4 +1,4 @@
-//! The configuration's file, read by its path. What the system told of it is noted.
+//! Reading the configuration file by its path. What the system returned for it is recorded.
 
 ghost use Rattle.std.specs.Prelude.{◌≡◌, ◌≢◌, IfOk, IfErr, IfSome, take};
 ghost use Rattle.std.specs.IoError.{error_kind};
@@ -13,14 +13,14 @@ use std::io;
 use std::io::{ErrorKind, Read};
 use std::rt::Files;
 
-/// The notes: a path, what its file holds, and that it cannot be read.
+/// The numbers of the notes: a path, the contents of its file, and that the file cannot be read.
 const NAMED: u64 = 0;
 
 const HELD: u64 = 1;
 
 const UNREADABLE: u64 = 2;
 
-/// What an error of the system at the configuration's file is told as.
+/// Returns the fault for an error of the system on the configuration file.
 fn unreadable(error: io::Error) -> ConfigFault
     ensures memory { error_kind error ≡ ErrorKind.OutOfMemory → result ≡ ConfigFault.OutOfMemory }
     ensures other { error_kind error ≢ ErrorKind.OutOfMemory → result ≡ ConfigFault.Unreadable }
@@ -31,7 +31,7 @@ fn unreadable(error: io::Error) -> ConfigFault
     }
 }
 
-/// What a file holds, up to one byte more than a configuration may have.
+/// Reads a file, up to one byte more than a configuration may have.
 fn contents<F: Read + Drop>(alloc: Global, file: F) -> Result<Vec<u8>, ConfigFault>
     ensures contents { IfOk result (λ contents. IfSome (F.remaining file) (λ all. contents.items ≡ take 1048577 all)) }
     ensures fault { IfErr result (λ fault. fault ≢ ConfigFault.OutOfMemory → fault ≡ ConfigFault.Unreadable) }
@@ -43,7 +43,7 @@ fn contents<F: Read + Drop>(alloc: Global, file: F) -> Result<Vec<u8>, ConfigFau
     }
 }
 
-/// What the file at a path holds, up to one byte more than a configuration may have.
+/// Reads the file at a path, up to one byte more than a configuration may have.
 fn read_file(rt: &(impl Files + AllocGlobal), path: &str) -> Result<Vec<u8>, ConfigFault>
     ensures { IfErr result (λ fault. fault ≢ ConfigFault.OutOfMemory → fault ≡ ConfigFault.Unreadable) }
 {
@@ -53,7 +53,7 @@ fn read_file(rt: &(impl Files + AllocGlobal), path: &str) -> Result<Vec<u8>, Con
     }
 }
 
-/// Reads the file at a path, and notes the path with what the file holds, or that it cannot be read.
+/// Reads the file at a path. Notes the path, and then the contents of the file, or that it cannot be read.
 pub fn load(
     rt: &(impl Files + AllocGlobal),
     path: &str,
