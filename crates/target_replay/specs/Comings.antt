@@ -1,9 +1,9 @@
--- How the commands come out that the lines bring, also where stores fail.
+-- How the commands that the lines bring come out, even if stores fail.
 use Rattle.std.specs.Prelude.{◌≡◌, ℕ, List, [], ◌∷◌, All, ⊤}
 use Rattle.iscsi_session.specs.Comings.{Coming, IsCalm}
 use Rattle.iscsi_target.specs.Machine.{Machine, IsSound, IsSoundAt}
 
--- of which targets something is said: of any, or of those all of whose units are sound
+-- the targets that a statement is about: any, or those all of whose units are sound
 pub data Kind : Type 0 where
   Any : Kind
   Sound : Kind
@@ -16,11 +16,11 @@ IsOf Sound machine = IsSound machine
 abbrev pub AreCalmIn : Machine → List Coming → Type 0
 AreCalmIn machine comings = (target : ℕ) → IsSoundAt target machine → IsCalm target comings
 
--- the commands of a line that leaves such a target may have come out so: where all units are sound, all as defined
+-- the commands of a line that leaves such a target may have come out so: all as defined if all units are sound
 abbrev pub Suits : Kind → Machine → List Coming → Type 0
 Suits Any machine comings = AreCalmIn machine comings
 Suits Sound machine comings = comings ≡ []
 
--- this holds of some ways in which the commands of the lines may have come out, one way for each line
+-- this holds for some ways in which the commands of the lines may have come out, one way for each line
 abbrev pub AsCame : Kind → Machine → (List (List Coming) → Type 0) → Type 0
 AsCame kind machine P = (comings : List (List Coming)) × All (Suits kind machine) comings × P comings

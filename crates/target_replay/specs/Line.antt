@@ -28,7 +28,7 @@ connection_of (tens ∷ ones ∷ more ∷ rest) = None
 abbrev pub is_space : ℕ → Bool
 is_space byte = byte == 32
 
--- there is a space
+-- whether there is a space
 abbrev pub has_space : List ℕ → Bool
 has_space text = nat_lt (length (before_first is_space text)) (length text)
 

@@ -30,27 +30,27 @@ empty_lines : lines (codes "\n\n") ≡ [] ∷ [] ∷ []
 unfolding lines
 empty_lines = refl
 
--- these lines stand first in the input
+-- the input begins with these lines
 abbrev pub BeginsWith : List ℕ → List (List ℕ) → Type 0
 BeginsWith input front = (behind : List (List ℕ)) × (lines input ≡ front ++ behind)
 
--- ---- lines that are carried out, where `reply` is what one prints and what then stands, or none
+-- ---- lines that are carried out, if `reply` is what one prints and the state after it, or none
 
 module _ {S : Type 0} (reply : S → List ℕ → Option (List ℕ × S)) where
-  -- the text, and then what the lines behind print
+  -- the text, and then the output of the lines after it
   abbrev pub printed_before : List ℕ → Option (List ℕ × S) → Option (List ℕ × S)
   printed_before text behind = option_map (λ p. (text ++ p.0, p.1)) behind
 
-  -- what the lines print, one after the other, and what then stands; none where one is refused
+  -- the output of the lines, one after the other, and the state after them; none if one is refused
   abbrev pub carried_out : S → List (List ℕ) → Option (List ℕ × S)
   carried_out s [] = Some ([], s)
   carried_out s (line ∷ behind) = option_and_then (λ p. printed_before p.0 (carried_out p.1 behind)) (reply s line)
 
-  -- each of the lines is carried out, and this is what they print
+  -- each of the lines is carried out, and this is their output
   abbrev pub Prints : S → List (List ℕ) → List ℕ → Type 0
   Prints s front text = (last : S) × (carried_out s front ≡ Some (text, last))
 
-  -- what was printed of an input that ends by this fault of a line: a line refused, an allocation that failed, a write
+  -- the output of an input that ends by this fault of a line: a line refused, an allocation that failed, a write
   unfoldable pub StopsBy : ReplayFault → S → List ℕ → List ℕ → Type 0
   StopsBy (faults.Refused number) s input text =
       (front : List (List ℕ)) × (line : List ℕ) × BeginsWith input (front ++ line ∷ []) × Prints s front text × (carried_out s (front ++ line ∷ []) ≡ None)

@@ -9,12 +9,12 @@ use Rattle.iscsi_target.specs.Output.{out_now}
 use Rattle.iscsi_target.specs.Machine.{Machine}
 use Rattle.iscsi_target.specs.Stands.{Stands}
 
--- `C HEX` where there are bytes
+-- `C HEX` if there are bytes
 abbrev pub bytes_line : ℕ → List ℕ → List ℕ
 bytes_line c [] = []
 bytes_line c (byte ∷ bytes) = decimal c ++ codes " " ++ encode_lower (byte ∷ bytes) ++ codes "\n"
 
--- `C closed` where it is closed
+-- `C closed` if it is closed
 abbrev pub closed_line : ℕ → Bool → List ℕ
 closed_line c closed = if closed then decimal c ++ codes " closed\n" else []
 
@@ -25,12 +25,12 @@ closed_with_bytes : lines_of 5 (0xab ∷ 0x09 ∷ []) true ≡ codes "5 ab09\n5 
 unfolding lines_of digits encode_with
 closed_with_bytes = refl
 
--- a connection that is answered nothing and stays open prints nothing
+-- a connection without an answer that stays open prints nothing
 nothing_answered : lines_of 5 [] false ≡ []
 unfolding lines_of
 nothing_answered = refl
 
--- ---- what the World answers
+-- ---- the answers of the World
 
 abbrev pub is_closing_phase : Phase → Bool
 is_closing_phase LoggingIn = false
@@ -43,28 +43,28 @@ abbrev pub is_closed : Option Life → Bool
 is_closed None = false
 is_closed (Some life) = is_closing_phase life.phase
 
--- profile: what is closed is gone after it is printed
+-- profile: a connection that is closed is gone after that is printed
 abbrev pub gone_of : World → ℕ → History
 gone_of w c = if is_closed (present c w) then plain (Gone c) ∷ [] else []
 
 unfoldable pub after_printing : Setting → History → History
 after_printing s h = h ++ flat_map (gone_of (world s h)) connections
 
--- how many bytes each connection's present life was answered
+-- the number of bytes of answers of each connection's present life
 abbrev pub all_sent : World → ℕ → ℕ
 all_sent w c = length (out_now (present c w))
 
--- The target stands where the World of this history does, and has sent all that it answered.
+-- The target stands where the World of this history does, and has sent all its answers.
 abbrev pub HasSentAll : Setting → History → Machine → Type 0
 HasSentAll s h target = Stands s (all_sent (world s h)) target h
 
--- what a connection was answered behind the bytes that were sent on it
+-- the bytes of a connection's answers after those that were sent on it
 unfoldable pub unsent : (ℕ → ℕ) → World → ℕ → List ℕ
 unsent sent w c = drop (sent c) (out_now (present c w))
 
 unfoldable pub printed_of : (ℕ → ℕ) → World → ℕ → List ℕ
 printed_of sent w c = lines_of c (unsent sent w c) (is_closed (present c w))
 
--- profile: what was answered and is not sent yet, and which connections are closed, in rising order
+-- profile: the answers that are not sent yet, and which connections are closed, in rising order
 unfoldable pub printed : (ℕ → ℕ) → World → List ℕ
 printed sent w = flat_map (printed_of sent w) connections

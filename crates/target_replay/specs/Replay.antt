@@ -1,4 +1,5 @@
--- How a replay ends, by the bytes that its reader had left and those that its writer holds, before and after, where they are known.
+-- How a replay ends, by the bytes that its reader had left and those that its writer holds, before and after, if they
+-- are known.
 use Rattle.std.specs.Prelude.{◌≡◌, ℕ, List, [], ◌∷◌, ◌++◌, Option, IfSome}
 use Rattle.std.specs.List.{slice_split}
 use Rattle.std.specs.Io.KnownBytes.{Appends, Consumes}
@@ -10,10 +11,10 @@ use Rattle.target_replay.specs.Comings.{Any, AsCame}
 use Rattle.target_replay.specs.Lines.{is_newline, lines, Prints, StopsBy}
 use Rattle.target_replay.specs.Reply.{reply, reply_in, course}
 
--- ---- where `reply_of` is what a line prints and what then stands, from `start` on
+-- ---- `reply_of` is what a line prints and the state after it, from `start` on
 
 module _ {S : Type 0} (reply_of : S → List ℕ → Option (List ℕ × S)) (start : S) (unread unread_then printed printed_then : Option (List ℕ)) where
-  -- the whole input was carried out, and what its lines print was printed
+  -- the whole input was carried out, and the output of its lines was printed
   abbrev pub EndsWhole : Type 0
   EndsWhole = IfSome unread (λ input. (text : List ℕ) × Appends printed printed_then text × Prints reply_of start (lines input) text)
 
@@ -42,7 +43,8 @@ module _ (unread unread_then printed printed_then : Option (List ℕ)) where
   abbrev pub EndsBy : Setting → ReplayFault → Type 0
   EndsBy s fault = EndsByFault (reply s) [] unread unread_then printed printed_then fault
 
-  -- ---- of every target, as it is left: the commands of each that is sound came out as defined, those of others in some way
+  -- ---- of every target, as it is left: the commands of each that is sound came out as defined, those of others in
+  -- some way
 
   abbrev pub EndsAsCame : Setting → Machine → Type 0
   EndsAsCame s machine = AsCame Any machine (λ comings. EndsWhole (reply_in s) (course [] comings) unread unread_then printed printed_then)

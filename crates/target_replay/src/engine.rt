@@ -1,4 +1,4 @@
-//! A replay under way.
+//! A replay in progress.
 
 ghost use Rattle.std.specs.Prelude.{◌≡◌, ◌==◌, ◌++◌, ◌∷◌, None, IfSome, false, length, All};
 
@@ -11,7 +11,7 @@ use std::alloc::Global;
 use std::io::Write;
 use std::marker::Model;
 
-/// How far a replay has come.
+/// The progress of a replay.
 #[derive(Drop)]
 pub struct Engine<S: Store> {
     alloc: Global,
@@ -31,7 +31,7 @@ impl<S: Store> Model for Engine<S> {
     ghost view = { λ engine. record { target = engine.target; pending = engine.pending.items; number = engine.number; one_line = engine.one_line } };
 }
 
-/// The line that the first newline ends, and what stands behind it.
+/// Returns the line that the first newline ends, and what comes after it, or `None` if there is no newline.
 fn split_line(bytes: &[u8]) -> Option<(&[u8], &[u8])>
     ensures none { result ≡ None → All (λ byte. (byte == 10) ≡ false) bytes.now }
     ensures line { IfSome result (λ p. All (λ byte. (byte == 10) ≡ false) p.0.now) }
@@ -51,7 +51,7 @@ impl<S: Store> Engine<S> {
     ghost use Rattle.target_replay.specs.Printed.{HasSentAll};
     ghost use Rattle.target_replay.specs.Engine.{Takes, Stops, Finishes, StopsLast, LineEnds, LineFails};
 
-    /// A replay that has taken nothing yet.
+    /// Returns a replay that has read nothing yet.
     pub fn new(alloc: Global, target: Target<S>) -> Engine<S>
         ensures target { result.target ≡ target }
         ensures pending { result.pending ≡ [] }
@@ -65,14 +65,14 @@ impl<S: Store> Engine<S> {
         }
     }
 
-    /// The target as it is now.
+    /// Returns the target as it is now.
     pub fn into_target(self) -> Target<S>
         ensures { result ≡ self.target }
     {
         self.target
     }
 
-    /// The pending line has ended.
+    /// Ends the pending line: carries it out, and prints what it prints.
     fn end_line<W: Write>(&mut self, writer: &mut W) -> Result<(), ReplayFault>
         requires counts { self.old.number + 1 < 2 ^ 64 }
         ensures reply { OnOk result ((kind : Kind) → IsOf kind self.new.target → (s : Setting) (h : History) → HasSentAll s h self.old.target
@@ -93,7 +93,7 @@ impl<S: Store> Engine<S> {
         print_all(text.as_bytes(), writer)
     }
 
-    /// More bytes of the pending line.
+    /// Appends bytes to the pending line.
     fn push(&mut self, bytes: &[u8]) -> Result<(), ReplayFault>
         requires one_line { All (λ byte. (byte == 10) ≡ false) bytes.now }
         ensures pending { OnOk result (self.new.pending ≡ self.old.pending ++ bytes.now) }
@@ -105,7 +105,7 @@ impl<S: Store> Engine<S> {
         Ok(())
     }
 
-    /// The rest of a line, whose newline stands behind it.
+    /// Takes the rest of a line, after which a newline came, and carries the line out.
     fn take_line<W: Write>(&mut self, rest: &[u8], writer: &mut W) -> Result<(), ReplayFault>
         requires counts { self.old.number + 1 < 2 ^ 64 }
         requires one_line { All (λ byte. (byte == 10) ≡ false) rest.now }
@@ -122,7 +122,7 @@ impl<S: Store> Engine<S> {
         self.end_line(writer)
     }
 
-    /// The next bytes of the input.
+    /// Takes the next bytes of the input.
     pub fn take<W: Write>(&mut self, piece: &[u8], writer: &mut W) -> Result<(), ReplayFault>
         requires counts { self.old.number + length piece.now < 2 ^ 64 }
         ensures takes { OnOk result ((kind : Kind) → IsOf kind self.new.target
@@ -142,7 +142,7 @@ impl<S: Store> Engine<S> {
         self.push(rest)
     }
 
-    /// The input has ended. Its last line may lack its newline.
+    /// Ends the input, whose last line may lack its newline.
     pub fn end<W: Write>(&mut self, writer: &mut W) -> Result<(), ReplayFault>
         requires counts { self.old.number + 1 < 2 ^ 64 }
         ensures finishes { OnOk result ((kind : Kind) → IsOf kind self.new.target

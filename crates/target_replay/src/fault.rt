@@ -1,4 +1,4 @@
-//! How a replay ends that does not reach the end of its input.
+//! Why a replay ends before the end of its input.
 
 ghost use Rattle.std.specs.Prelude.{◌≡◌};
 ghost use Rattle.target_replay.specs.declared.fault.ReplayFault.TheVariants.{OutOfMemory};
@@ -10,7 +10,7 @@ use thiserror::Error;
 /// Why a replay ended.
 #[derive(Clone, Copy, Debug, PartialEq, Eq, Error)]
 pub enum ReplayFault {
-    /// A line of the input, counted from 1, is of another form, or breaks a condition.
+    /// A line of the input, counted from 1, has another form, or breaks a condition.
     #[error("line {line} refused")]
     Refused { line: u64 },
     /// The input failed, or had no end.

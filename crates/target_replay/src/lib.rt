@@ -1,7 +1,7 @@
-//! The lines of a replay, at an iSCSI target over any store.
+//! A replay of recorded lines at an iSCSI target over any store.
 //!
-//! A line of the input opens a connection, brings bytes on it, or says that it has ended. What the
-//! target answers is printed behind each:
+//! A line of the input opens a connection, brings bytes on it, or says that it has ended. After each line the answers
+//! of the target are printed:
 //!
 //! ```text
 //! open 0             connection 0 opens
@@ -12,11 +12,12 @@
 //! 0 closed           the target has closed it
 //! ```
 //!
-//! [`replay`] carries out the lines of a reader, with an [`Engine`] that holds the target. What it
-//! prints is a function of what the target was made with and of the lines (the clauses `done` and
-//! `fails`), as long as the target is sound. Of every target it is one of these and of how commands
-//! came out, line by line: those of each target that is sound came out as defined (`came` and
-//! `stops`).
+//! [`replay`] carries out the lines of a reader, with an [`Engine`] that holds the target.
+//!
+//! - As long as the target is sound, its output is a function of how the target was made and of the lines (the clauses
+//!   `done` and `fails`).
+//! - For any target the output is a function of these and of how commands came out, line by line. The commands of each
+//!   target that is sound came out as defined (`came` and `stops`).
 #![tactic(auto)]
 
 mod engine;

@@ -8,7 +8,7 @@ use hex::FromHexError;
 use iscsi_target::{CONNECTIONS, Event, Memory};
 use std::alloc::Global;
 
-/// The number of a connection, in decimal and without leading zeros.
+/// Reads the number of a connection, in decimal and without leading zeros.
 #[tactic(auto, unfolding(crate::specs::Line::connection_of))]
 fn connection(text: &str) -> Option<usize>
     ensures value { result ≡ connection_of text.now }
@@ -24,7 +24,7 @@ fn connection(text: &str) -> Option<usize>
     (number < CONNECTIONS).then_some(number)
 }
 
-/// A connection and the bytes on it, in hexadecimal digits of either case.
+/// Reads a connection and the bytes on it, in hexadecimal digits of either case.
 #[tactic(auto, unfolding(crate::specs::Line::bytes_of))]
 fn bytes(alloc: Global, text: &str) -> Result<Option<Event>, Memory>
     ensures event { IfOk result (λ event. option_map event_view event ≡ bytes_of text.now) }
@@ -43,14 +43,14 @@ fn bytes(alloc: Global, text: &str) -> Result<Option<Event>, Memory>
     }
 }
 
-/// The event of a line, given without its newline, or `None` where it is of another form:
+/// Returns the event of a line, given without its newline, or `None` if it has another form:
 ///
 /// ```text
 /// open C        bytes C HEX        gone C
 /// ```
 ///
-/// C is the number of a connection, in decimal and without leading zeros. HEX are digits of either
-/// case, two for each byte, or none.
+/// C is the number of a connection, in decimal and without leading zeros. HEX are digits of either case, two for each
+/// byte, or none.
 #[tactic(auto, unfolding(crate::specs::Line::event_of))]
 pub fn line(alloc: Global, text: &str) -> Result<Option<Event>, Memory>
     ensures event { IfOk result (λ event. option_map event_view event ≡ event_of text.now) }

@@ -1,4 +1,4 @@
-//! What is printed after a line: what each open connection is answered, and which are closed.
+//! What is printed after a line: the answer on each open connection, and which connections are closed.
 
 ghost use Rattle.std.specs.Prelude.{◌≡◌, ℕ, List, ◌++◌, ◌<◌, true, length, IfOk, OnOk, OnErr, IfErr, string_bytes};
 ghost use Rattle.std.specs.Io.KnownBytes.{Appends};
@@ -15,7 +15,7 @@ use media_store::Store;
 use std::alloc::{AllocError, Global};
 use std::io::{ErrorKind, Write};
 
-/// Takes all that waits on a connection, which is then sent.
+/// Takes all the bytes that wait on a connection, which then count as sent.
 fn drain<S: Store>(alloc: Global, target: &mut Target<S>, c: usize) -> Result<Vec<u8>, Memory>
     requires in_range { c < 64 }
     requires open { is_open_at target.old c ≡ true }
@@ -39,7 +39,7 @@ fn drain<S: Store>(alloc: Global, target: &mut Target<S>, c: usize) -> Result<Ve
     }
 }
 
-/// Prints `C HEX` where there are bytes.
+/// Prints `C HEX` if there are bytes.
 fn print_bytes(alloc: Global, c: usize, bytes: &[u8], text: &mut String) -> Result<(), AllocError>
     ensures { OnOk result (string_bytes text.new ≡ string_bytes text.old ++ bytes_line c bytes.now) }
 {
@@ -57,8 +57,8 @@ fn print_closed(c: usize, text: &mut String) -> Result<(), AllocError>
     writeln!(text, "{c} closed")
 }
 
-/// Prints what waits on an open connection, which is then sent, and that it is closing, which is
-/// then gone.
+/// Prints the bytes that wait on an open connection, which then count as sent. If it is closing, prints that too, and
+/// it is then gone.
 fn print_connection<S: Store>(
     alloc: Global,
     target: &mut Target<S>,
@@ -82,7 +82,7 @@ fn print_connection<S: Store>(
     Ok(())
 }
 
-/// Prints what has come of a line, connection by connection.
+/// Prints the output of a line, connection by connection.
 pub fn print<S: Store>(alloc: Global, target: &mut Target<S>) -> Result<String, Memory>
     ensures prints { IfOk result (λ text. (s : Setting) (sent : ℕ → ℕ) (h : History) → Stands s sent target.old h
         → HasPrintedAll s sent h (string_bytes text) target.new) }
@@ -99,8 +99,7 @@ pub fn print<S: Store>(alloc: Global, target: &mut Target<S>) -> Result<String, 
     Ok(text)
 }
 
-/// Writes the whole text. Where that fails, what was written is a front of it: `write_all` does not
-/// say so much.
+/// Writes the whole text. If that fails, a prefix of the text was written; `write_all` does not promise that much.
 pub fn print_all<W: Write>(text: &[u8], writer: &mut W) -> Result<(), ReplayFault>
     ensures whole { OnOk result (Appends (W.contents writer.old) (W.contents writer.new) text.now) }
     ensures part { OnErr result ((part : List ℕ) × (unprinted : List ℕ) × (text.now ≡ part ++ unprinted)

@@ -1,4 +1,4 @@
-//! The replay: events come as lines, and what the target answers is printed after each.
+//! The replay: events come as lines, and the answers of the target are printed after each.
 
 ghost use Rattle.std.specs.Prelude.{◌≡◌, [], OnOk, IfErr};
 ghost use Rattle.iscsi_target.specs.World.{Setting};
@@ -11,12 +11,12 @@ use crate::fault::ReplayFault;
 use media_store::Store;
 use std::io::{ErrorKind, Read, Write};
 
-/// Input that has no end after so many reads is a fault.
+/// The most reads: input that does not end after this many is a fault.
 const MOST_READS: u64 = 4_294_967_296;
 
-/// Carries out the events of `reader`, one a line, and prints to `writer` what the target answers
-/// after each: for each connection in rising order `C HEX` where bytes wait, which are then sent,
-/// and `C closed` where it is closing, which is then gone. What was printed before a fault stays.
+/// Carries out the events of `reader`, one a line, and after each prints to `writer` the answers of the target. For
+/// each connection in rising order, `C HEX` is printed if bytes wait, which then count as sent. `C closed` is printed
+/// if it is closing, and it is then gone. What was printed before a fault remains.
 pub fn replay<S: Store, R: Read, W: Write>(
     engine: &mut Engine<S>,
     reader: &mut R,
@@ -29,7 +29,7 @@ pub fn replay<S: Store, R: Read, W: Write>(
     ensures fails { IfErr result (λ fault. IsSound engine.new.target → (s : Setting) → HasSentAll s [] engine.old.target
         → EndsBy (R.remaining reader.old) (R.remaining reader.new) (W.contents writer.old) (W.contents writer.new) s fault) }
 
-    // Of every target, whatever its stores do: of the same lines, by how their commands came out.
+    // For any target, whatever its stores do: the output of the same lines, by how their commands came out.
     ensures came { OnOk result ((s : Setting) → HasSentAll s [] engine.old.target
         → EndsAsCame (R.remaining reader.old) (R.remaining reader.new) (W.contents writer.old) (W.contents writer.new) s engine.new.target) }
     ensures stops { IfErr result (λ fault. (s : Setting) → HasSentAll s [] engine.old.target

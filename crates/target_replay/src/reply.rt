@@ -18,7 +18,7 @@ use media_store::Store;
 use std::alloc::Global;
 use std::str;
 
-/// Carries out an event where it is allowed, and says whether it is.
+/// Carries out an event if it is allowed, and returns whether it is.
 fn act<S: Store>(target: &mut Target<S>, event: &Event) -> Result<bool, Starved>
     requires { connection_in event.now < 64 }
     ensures allowed { IfOk result (λ allowed. (s : Setting) (h : History) → HasSentAll s h target.old
@@ -52,7 +52,7 @@ fn act<S: Store>(target: &mut Target<S>, event: &Event) -> Result<bool, Starved>
     Ok(true)
 }
 
-/// The event of a line, given without its newline, or `None` where it is of another form.
+/// Returns the event of a line, given without its newline, or `None` if it has another form.
 fn event(alloc: Global, bytes: &[u8]) -> Result<Option<Event>, Memory>
     ensures event { IfOk result (λ event. option_map event_view event ≡ event_in bytes.now) }
     ensures in_range { IfOk result (λ event. IfSome event (λ e. connection_in e < 64)) }
@@ -63,8 +63,8 @@ fn event(alloc: Global, bytes: &[u8]) -> Result<Option<Event>, Memory>
     }
 }
 
-/// Carries out a line, given without its newline, and gives what is then printed: `None` where the
-/// line is of another form or breaks a condition.
+/// Carries out a line, given without its newline, and returns what is then printed, or `None` if the line has another
+/// form or breaks a condition.
 pub fn reply<S: Store>(
     alloc: Global,
     target: &mut Target<S>,
