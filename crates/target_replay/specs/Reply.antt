@@ -50,7 +50,7 @@ reply s h line = reply_by s [] h line
 
 -- ---- lines one after the other
 
--- the history, and how the commands of the lines to come come out, line by line; after these, as defined
+-- the history, and how the commands of the next lines come out, line by line; after these, as defined
 pub record Course : Type 0 where
   pub past : History
   pub ahead : List (List Coming)

@@ -72,7 +72,7 @@ impl<S: Store> Engine<S> {
         self.target
     }
 
-    /// Ends the pending line: carries it out, and prints what it prints.
+    /// Carries out the pending line, whose newline came, and prints its output.
     fn end_line<W: Write>(&mut self, writer: &mut W) -> Result<(), ReplayFault>
         requires counts { self.old.number + 1 < 2 ^ 64 }
         ensures reply { OnOk result ((kind : Kind) → IsOf kind self.new.target → (s : Setting) (h : History) → HasSentAll s h self.old.target

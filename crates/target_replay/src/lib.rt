@@ -1,4 +1,4 @@
-//! A replay of recorded lines at an iSCSI target over any store.
+//! A replay of lines of input at an iSCSI target over any store.
 //!
 //! A line of the input opens a connection, brings bytes on it, or says that it has ended. After each line the answers
 //! of the target are printed:
@@ -12,12 +12,11 @@
 //! 0 closed           the target has closed it
 //! ```
 //!
-//! [`replay`] carries out the lines of a reader, with an [`Engine`] that holds the target.
+//! [`replay`] carries out the lines of a reader, with an [`Engine`] that holds the target. Its output is a function:
 //!
-//! - As long as the target is sound, its output is a function of how the target was made and of the lines (the clauses
-//!   `done` and `fails`).
-//! - For any target the output is a function of these and of how commands came out, line by line. The commands of each
-//!   target that is sound came out as defined (`came` and `stops`).
+//! - of how the target was made and of the lines, as long as the target is sound (the clauses `done` and `fails`);
+//! - for any target, of these and of how commands came out, line by line. The commands of each target that is sound
+//!   came out as defined (`came` and `stops`).
 #![tactic(auto)]
 
 mod engine;

@@ -63,8 +63,8 @@ fn event(alloc: Global, bytes: &[u8]) -> Result<Option<Event>, Memory>
     }
 }
 
-/// Carries out a line, given without its newline, and returns what is then printed, or `None` if the line has another
-/// form or breaks a condition.
+/// Carries out a line, given without its newline, and returns what is then printed. Returns `None` if the line has
+/// another form or breaks a condition.
 pub fn reply<S: Store>(
     alloc: Global,
     target: &mut Target<S>,
