@@ -1,10 +1,10 @@
--- The commands and their options, as clap is told of them.
+-- The commands and their options, as clap gets them.
 use Rattle.std.specs.Prelude.{true, codes, Some}
 use Rattle.clap.specs.Simple.{on_top}
 use Rattle.clap.specs.Words.{App, Rule, new_app, new_rule, with_rule, with_subcommand}
 use Rattle.clap.specs.declared.builder.value_parser.ValueParser.TheVariants.{NonEmptyString}
 
--- profile: `--config F`, which each command wants, and F is not empty
+-- profile: `--config F`, which each command needs, and F is not empty
 abbrev pub config_rule : Rule
 config_rule = record (new_rule (codes "config")) { long = Some (codes "config"); required = true; parser = Some NonEmptyString }
 

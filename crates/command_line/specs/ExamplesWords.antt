@@ -1,4 +1,4 @@
--- Words and what they ask for, computed.
+-- Words and the commands that they give, computed.
 use Rattle.std.specs.Prelude.{◌≡◌, ℕ, List, [], ◌∷◌, length, map, replicate, codes, Some, None, refl}
 use Rattle.clap.proofs.OnLiterals.{clap_on_literals}
 use Rattle.command_line.specs.Words.{Command, Replay, Serve, mode_in}
@@ -78,7 +78,7 @@ most : Gives (codes "serve" ∷ codes "--config=F" ∷ codes "--turns=1844674407
 unfolding clap_on_literals
 most = refl
 
--- the largest number, where none is given
+-- the largest number, if none is given
 without_end : Gives (codes "serve" ∷ codes "--config=F" ∷ []) (Serve (codes "F") 18446744073709551615)
 unfolding clap_on_literals
 without_end = refl
@@ -110,7 +110,7 @@ no_configuration : GiveNone (
     ∷ (codes "replay" ∷ codes "--config" ∷ codes "F" ∷ codes "--config" ∷ codes "F" ∷ [])  -- twice
     ∷ (codes "replay" ∷ codes "--config=F" ∷ codes "--config=F" ∷ [])  -- twice in one word
     ∷ (codes "replay" ∷ codes "--config=F" ∷ codes "--config" ∷ codes "F" ∷ [])  -- twice in both
-    ∷ (codes "serve" ∷ codes "--turns" ∷ codes "1" ∷ codes "--config" ∷ codes "F" ∷ codes "--config" ∷ codes "F" ∷ [])  -- twice behind turns
+    ∷ (codes "serve" ∷ codes "--turns" ∷ codes "1" ∷ codes "--config" ∷ codes "F" ∷ codes "--config" ∷ codes "F" ∷ [])  -- twice after turns
     ∷ (codes "replay" ∷ codes "--conf" ∷ codes "F" ∷ [])  -- abbreviated
     ∷ (codes "replay" ∷ codes "--conf=F" ∷ [])  -- abbreviated in one word
     ∷ (codes "replay" ∷ codes "--Config" ∷ codes "F" ∷ [])  -- option of other case
@@ -127,23 +127,23 @@ no_configuration = refl
 -- ---- words too many
 
 words_too_many : GiveNone (
-    (codes "replay" ∷ codes "--config" ∷ codes "F" ∷ codes "--" ∷ [])  -- dashes behind
-    ∷ (codes "replay" ∷ codes "--config=F" ∷ codes "--" ∷ [])  -- dashes behind in one word
+    (codes "replay" ∷ codes "--config" ∷ codes "F" ∷ codes "--" ∷ [])  -- dashes last
+    ∷ (codes "replay" ∷ codes "--config=F" ∷ codes "--" ∷ [])  -- dashes last in one word
     ∷ (codes "replay" ∷ codes "--config" ∷ codes "--" ∷ [])  -- dashes for value
     ∷ (codes "replay" ∷ codes "--config" ∷ codes "F" ∷ codes "--" ∷ codes "F" ∷ [])  -- dashes and word
     ∷ (codes "replay" ∷ codes "--" ∷ codes "--config" ∷ codes "F" ∷ [])  -- dashes before option
     ∷ (codes "replay" ∷ codes "--config" ∷ codes "--" ∷ codes "F" ∷ [])  -- dashes before value
     ∷ (codes "--" ∷ codes "replay" ∷ codes "--config" ∷ codes "F" ∷ [])  -- dashes first
     ∷ (codes "serve" ∷ codes "--config" ∷ codes "F" ∷ codes "--" ∷ codes "--turns" ∷ codes "1" ∷ [])  -- dashes before turns
-    ∷ (codes "replay" ∷ codes "--config" ∷ codes "F" ∷ codes "F" ∷ [])  -- word behind
-    ∷ (codes "replay" ∷ codes "--config" ∷ codes "F" ∷ [] ∷ [])  -- empty behind
-    ∷ (codes "replay" ∷ codes "--config" ∷ codes "F" ∷ codes "-" ∷ [])  -- hyphen behind
+    ∷ (codes "replay" ∷ codes "--config" ∷ codes "F" ∷ codes "F" ∷ [])  -- word last
+    ∷ (codes "replay" ∷ codes "--config" ∷ codes "F" ∷ [] ∷ [])  -- empty word last
+    ∷ (codes "replay" ∷ codes "--config" ∷ codes "F" ∷ codes "-" ∷ [])  -- hyphen last
     ∷ (codes "replay" ∷ codes "F" ∷ [])  -- word for option
     ∷ (codes "replay" ∷ codes "F" ∷ codes "--config" ∷ codes "F" ∷ [])  -- word before option
     ∷ (codes "serve" ∷ codes "F" ∷ [])  -- word for serve
     ∷ (codes "replay" ∷ codes "--config" ∷ codes "F" ∷ codes "--turns" ∷ codes "3" ∷ [])  -- replay turns
     ∷ (codes "replay" ∷ codes "--config" ∷ codes "F" ∷ codes "-v" ∷ [])  -- unknown flag
-    ∷ (codes "serve" ∷ codes "--config" ∷ codes "F" ∷ codes "--turns" ∷ codes "1" ∷ codes "more" ∷ [])  -- word behind turns
+    ∷ (codes "serve" ∷ codes "--config" ∷ codes "F" ∷ codes "--turns" ∷ codes "1" ∷ codes "more" ∷ [])  -- word after turns
     ∷ []
     )
 unfolding clap_on_literals
@@ -180,8 +180,8 @@ no_help : GiveNone (
     ∷ (codes "-h" ∷ [])  -- help short
     ∷ (codes "replay" ∷ codes "--help" ∷ [])  -- help of replay
     ∷ (codes "serve" ∷ codes "--help" ∷ [])  -- help of serve
-    ∷ (codes "replay" ∷ codes "--config" ∷ codes "F" ∷ codes "--help" ∷ [])  -- help behind
-    ∷ (codes "replay" ∷ codes "--config=F" ∷ codes "-h" ∷ [])  -- help short behind
+    ∷ (codes "replay" ∷ codes "--config" ∷ codes "F" ∷ codes "--help" ∷ [])  -- help last
+    ∷ (codes "replay" ∷ codes "--config=F" ∷ codes "-h" ∷ [])  -- help short last
     ∷ (codes "--version" ∷ [])  -- version
     ∷ (codes "-V" ∷ [])  -- version short
     ∷ []

@@ -1,4 +1,4 @@
--- Calls for help, and what they are shown.
+-- Calls for help, and the text that answers them.
 use Rattle.std.specs.Prelude.{ℕ, List, Bool, ◌||◌, ◌++◌, bytes_eq, codes}
 use Rattle.std.specs.List.{list_any}
 
@@ -6,7 +6,7 @@ use Rattle.std.specs.List.{list_any}
 abbrev pub has_word : List ℕ → List (List ℕ) → Bool
 has_word wanted words = list_any (λ word. bytes_eq word wanted) words
 
--- profile: words that are no command call for help where one of them is `--help`, `-h` or `help`
+-- profile: words that are no command call for help if one of them is `--help`, `-h` or `help`
 abbrev pub calls_for_help : List (List ℕ) → Bool
 calls_for_help words = has_word (codes "--help") words || has_word (codes "-h") words || has_word (codes "help") words
 

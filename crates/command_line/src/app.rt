@@ -1,4 +1,4 @@
-//! The commands and their options, as `clap` is told of them.
+//! The commands and their options, as `clap` gets them.
 
 ghost use Rattle.std.specs.Prelude.{◌≡◌, false, IfOk};
 ghost use Rattle.clap.specs.Words.{app_of, rule_of};
@@ -8,7 +8,7 @@ use clap::builder::ValueParser;
 use clap::{Arg, Command};
 use std::alloc::{AllocError, Global};
 
-/// `--config F`.
+/// Returns `--config F`.
 fn config<'a>(alloc: Global) -> Arg<'a>
     ensures rule { rule_of result ≡ config_rule }
     ensures local { result.global ≡ false }
@@ -19,7 +19,7 @@ fn config<'a>(alloc: Global) -> Arg<'a>
         .value_parser(ValueParser::NonEmptyString)
 }
 
-/// `replay` and `serve` with their options. A call for help is no command.
+/// Returns `replay` and `serve` with their options. A call for help is no command.
 pub fn command<'a>(alloc: Global) -> Result<Command<'a>, AllocError>
     ensures { IfOk result (λ command. app_of command ≡ app) }
 {

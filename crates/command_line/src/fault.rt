@@ -5,7 +5,7 @@ use thiserror::Error;
 /// Why words give no command.
 #[derive(Clone, Copy, Debug, PartialEq, Eq, Error)]
 pub enum WordsFault {
-    /// The words are none of the commands, or a call for help.
+    /// The words are no command, or a call for help.
     #[error("the words are no command")]
     Usage,
     /// An allocation failed.

@@ -1,4 +1,4 @@
-//! Calls for help, and what they are shown.
+//! Calls for help, and the text that answers them.
 
 ghost use Rattle.std.specs.Prelude.{◌≡◌, map};
 ghost use Rattle.command_line.specs.Help.{calls_for_help, has_word as is_among, usage_text};
@@ -15,21 +15,21 @@ const USAGE: &str = "targetd 0.1.0\n\
     signal ends it or it has made N turns of its loop. replay carries out the events\n\
     that it reads from standard input. See targetd(8), and targetd.toml(5) for FILE.\n";
 
-/// This word is one of them.
+/// Returns whether this word is one of them.
 fn has_word(words: &[&str], wanted: &str) -> bool
     ensures { result ≡ is_among wanted.now (map (λ word. word.now) words.now) }
 {
     words.contains(&wanted)
 }
 
-/// One of the words is `--help`, `-h` or `help`.
+/// Returns whether one of the words is `--help`, `-h` or `help`.
 pub fn is_help(words: &[&str]) -> bool
     ensures { result ≡ calls_for_help (map (λ word. word.now) words.now) }
 {
     has_word(words, "--help") || has_word(words, "-h") || has_word(words, "help")
 }
 
-/// What a call for help is shown.
+/// Returns the text that answers a call for help.
 #[tactic(auto, unfolding(crate::specs::Help::usage_text))]
 pub fn usage() -> &'static str
     ensures { result.now ≡ usage_text }

@@ -5,12 +5,15 @@
 //! serve --config F [--turns N]
 //! ```
 //!
-//! The options come in any order, each once, and may have their value behind an equals sign. F is
-//! not empty. N is a number in decimal digits, below 2^64.
+//! The options come in any order, each once, and their value may come after an equals sign. F is not empty. N is a
+//! number in decimal digits, below 2^64.
 //!
-//! Promised, and proved: [`mode_of`] gives the command exactly where the words are one, and tells
-//! other words as [`WordsFault::Usage`]. Only where an allocation fails does it give neither. [`is_help`]
-//! tells words that call for help, and [`usage`] is what they are shown. [`as_texts`] gives the words as texts.
+//! These are proved:
+//!
+//! - [`mode_of`] returns the command if the words are one, and otherwise [`WordsFault::Usage`]. Only if an allocation
+//!   fails does it return neither.
+//! - [`is_help`] recognizes words that call for help, and [`usage`] returns the text that answers them.
+//! - [`as_texts`] returns the words as texts.
 #![tactic(auto)]
 
 mod app;

@@ -14,7 +14,7 @@ use clap::ArgMatches;
 use clap::error::ErrorKind;
 use std::alloc::Global;
 
-/// `replay` with the options that were found.
+/// Returns `replay` with the options that were found.
 fn replay<'a>(options: &ArgMatches<'a>) -> Option<Mode<'a>>
     ensures { option_map mode_view result ≡ replay_in (rows_of (found_of options.now)) }
 {
@@ -22,7 +22,7 @@ fn replay<'a>(options: &ArgMatches<'a>) -> Option<Mode<'a>>
     Some(Mode::Replay { config })
 }
 
-/// `serve` with the options that were found.
+/// Returns `serve` with the options that were found.
 fn serve<'a>(options: &ArgMatches<'a>) -> Option<Mode<'a>>
     ensures { option_map mode_view result ≡ serve_in (rows_of (found_of options.now)) }
 {
@@ -31,7 +31,7 @@ fn serve<'a>(options: &ArgMatches<'a>) -> Option<Mode<'a>>
     Some(Mode::Serve { config, turns })
 }
 
-/// The command that was found, with its options.
+/// Returns the command that was found, with its options.
 fn mode_named<'a>(matches: &ArgMatches<'a>) -> Option<Mode<'a>>
     ensures { option_map mode_view result ≡ named_in (subcommand_rows_of matches.now) }
 {
@@ -43,14 +43,14 @@ fn mode_named<'a>(matches: &ArgMatches<'a>) -> Option<Mode<'a>>
     }
 }
 
-/// One of the words is `--`. `clap` would take it behind the last option.
+/// Returns whether one of the words is `--`. `clap` would accept it after the last option.
 fn ends_options(words: &[&str]) -> bool
     ensures { result ≡ has_dashes (map (λ word. word.now) words.now) }
 {
     words.contains(&"--")
 }
 
-/// What `clap` finds in the words.
+/// Returns what `clap` finds in the words.
 fn matches_of<'a>(alloc: Global, words: &'a [&'a str]) -> Result<ArgMatches<'a>, WordsFault>
     ensures { let texts = map (λ word. word.now) words.entry.now in
         MatchResult result (λ matches. (is_taken texts ≡ true) × (subcommand_rows_of matches ≡ subcommand_of app texts))
@@ -68,10 +68,9 @@ fn matches_of<'a>(alloc: Global, words: &'a [&'a str]) -> Result<ArgMatches<'a>,
     }
 }
 
-/// The command that the words behind the program's name give.
+/// Returns the command that the words after the program's name give.
 ///
-/// Words that are no command are [`WordsFault::Usage`], and a failed allocation is
-/// [`WordsFault::Memory`].
+/// Words that are no command are [`WordsFault::Usage`], and a failed allocation is [`WordsFault::Memory`].
 pub fn mode_of<'a>(alloc: Global, words: &'a [&'a str]) -> Result<Mode<'a>, WordsFault>
     ensures { let texts = map (λ word. word.now) words.entry.now in
         MatchResult result (λ mode. mode_in texts ≡ Some (mode_view mode))
