@@ -2,7 +2,7 @@
 use Rattle.std.specs.Prelude.{◌≡◌, ◌⊎◌, ◌≤◌, ◌<◌, ◌==◌, ℕ, List, [], ◌∷◌, Bool, true, false, codes, length}
 use Rattle.call_record.specs.Noted.{Noted}
 
--- own: how many descriptors the standard streams have
+-- own: the number of descriptors of standard streams
 abbrev pub stream_count : ℕ
 stream_count = 3
 
@@ -18,13 +18,13 @@ given number = record { numbers = number ∷ []; bytes = codes "/dev/null"; flag
 abbrev pub refused : Noted
 refused = record { numbers = []; bytes = codes "/dev/null"; flags = false ∷ [] }
 
--- own: how many such files are held for standard output and standard error, and what was told of their opening, the newest
--- first
+-- own: the number of such files held for standard output and standard error, and the record of their opening, the
+-- newest first
 pub record OthersState : Type 0 where
   pub held : ℕ
   pub told : List Noted
 
--- own: whether one is held for standard input, what was told of its opening, and those of the others
+-- own: whether one is held for standard input, the record of its opening, and those of the others
 pub record StreamsState : Type 0 where
   pub has_input : Bool
   pub input_told : List Noted
@@ -56,8 +56,8 @@ pub record AreOthersLacking (others : OthersState) : Type 0 where
   pub standard : AreStreams taken
   pub told : others.told ≡ refused ∷ taken
 
--- own: the descriptors of the standard streams are taken: one file was opened for standard input, and is held where it got
--- that descriptor, and then those of the others
+-- own: the descriptors of the standard streams are taken. One file was opened for standard input, and is held if it got
+-- that descriptor. Then those of the others were opened
 pub record AreTaken (streams : StreamsState) : Type 0 where
   pub number : ℕ
   pub input_told : streams.input_told ≡ given number ∷ []

@@ -20,7 +20,7 @@ const INPUT: u32 = 0;
 /// The file that stands in for a standard stream.
 const NOTHING: &str = "/dev/null";
 
-/// Files that stand in for standard output and standard error, and what the system told of their opening.
+/// Files that stand in for standard output and standard error, and the record of their opening.
 #[derive(Drop)]
 struct Others {
     held: ArrayVec<Option<File>, STREAMS>,
@@ -36,9 +36,9 @@ impl Model for Others {
     ghost view = { λ others. record { held = length others.held.items; told = others.told.calls } };
 }
 
-/// Files that stand in for standard streams that were closed, for as long as they are kept, and what the system told
-/// of their opening. A stream for which one stands in fails as it is used, as one that is closed does: standard input is
-/// open for writing alone, the others for reading.
+/// Files that stand in for standard streams that were closed, for as long as they are kept, and the record of their
+/// opening. A stream with a stand-in fails when it is used, as a closed one does: standard input is open only for
+/// writing, the others only for reading.
 #[derive(Drop)]
 pub struct Streams {
     input: Option<File>,
@@ -92,8 +92,8 @@ impl Others {
         }
     }
 
-    /// Opens files for reading until one got a descriptor that is none of a standard stream, or three are held, and
-    /// holds those before it.
+    /// Opens files for reading until one gets a descriptor that is not of a standard stream, or three are held. Holds
+    /// those before it.
     fn take(rt: &impl Files<File = File>) -> (Others, io::Result<()>)
         ensures taken { OnOk result.1 (AreOthersTaken result.0) }
         ensures lacking { OnErr result.1 (AreOthersLacking result.0) }
@@ -142,8 +142,8 @@ impl Streams {
         }
     }
 
-    /// Takes the descriptors of the standard streams that were closed, so that no file which is opened later gets one
-    /// of them. It fails if the file that stands in for a stream cannot be opened.
+    /// Takes the descriptors of the standard streams that were closed, so that no file that is opened later gets one of
+    /// them. It fails if the file that stands in for a stream cannot be opened.
     pub fn take(rt: &impl Files<File = File>) -> (Streams, io::Result<()>)
         ensures taken { OnOk result.1 (AreTaken result.0) }
         ensures lacking { OnErr result.1 (AreLacking result.0) }
