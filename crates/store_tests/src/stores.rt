@@ -1,5 +1,4 @@
-//! What no contract says: that a file gives back what was written, and which calls a `FailStore`
-//! refuses.
+//! What no contract says: that a file returns what was written, and which calls a `FailStore` refuses.
 
 use media_store::{
     Call, FailStore, FileStore, LyingStore, MemStore, Store, StoreFault, SystemFile, Unknown,
@@ -30,7 +29,7 @@ fn file_gives_back_what_was_written(rt: HostRuntime) -> Result<(), Fail> {
     Ok(())
 }
 
-/// One call of each kind, and which of them succeeded.
+/// Makes one call of each kind, and returns which of them succeeded.
 fn calls<S: Store>(store: &mut S) -> [bool; 5] {
     [
         store.len().is_ok(),

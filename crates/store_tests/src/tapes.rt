@@ -1,5 +1,5 @@
-//! What no contract says of a tape: how often opening it calls its store, and that positioning does not. And that
-//! spacing ends where the standard says, item by item.
+//! What no contract says of a tape: how often opening it calls its store, and that positioning does not. Also that
+//! spacing ends as the standard says, item by item.
 
 use media_store::{FailStore, MemStore};
 use media_tape::{Direction, Located, Over, Spaced, Tape, TapeOpenFault, Written};
@@ -7,12 +7,12 @@ use std::alloc::{AllocError, Global};
 use std::process::Abort;
 use std::test::Fail;
 
-/// So many filemarks are zero bytes, eight for each.
+/// A number of filemarks, which are zero bytes, eight for each.
 const FILEMARKS: u64 = 1000;
 
 const SIZE: usize = 8000;
 
-/// Opens a tape of filemarks whose store passes on so many calls and fails from then on.
+/// Opens a tape of filemarks whose store passes on `passed` calls, and fails from then on.
 fn open(
     alloc: Global,
     passed: u64,
@@ -43,7 +43,7 @@ fn filemarks_are_found_with_no_call_of_the_store(rt: HostRuntime) -> Result<(), 
                     Ok(Spaced::Whole)
                 );
                 assert_eq!(rt; tape.position(), 0);
-                // With two calls every later one fails.
+                // After two calls every later one fails.
                 assert_eq!(rt; tape.erase().is_ok(), passed > 2);
             }
         }
@@ -67,7 +67,7 @@ const TAPES: [&[u32]; 9] = [
 /// No tape has more items, and no record more bytes.
 const MOST: u32 = 12;
 
-/// The item next to a position, and the position past it.
+/// Returns the item next to a position, and the position past it.
 fn next_to(items: &[u32], toward: Direction, at: usize) -> Option<(u32, usize)> {
     match toward {
         Direction::Forward => Some((*items.get(at)?, at.checked_add(1)?)),
@@ -78,7 +78,7 @@ fn next_to(items: &[u32], toward: Direction, at: usize) -> Option<(u32, usize)> 
     }
 }
 
-/// Where spacing ends, item by item, and what it tells (SSC-4 "SPACE (6)").
+/// Returns where spacing ends, item by item, and its outcome (SSC-4 "SPACE (6)").
 fn spaced(
     items: &[u32],
     toward: Direction,
@@ -109,7 +109,7 @@ fn spaced(
     (at, Spaced::Whole)
 }
 
-/// A tape in memory with these items.
+/// Returns a tape in memory with these items.
 fn tape_of(rt: &impl Abort, alloc: Global, items: &[u32]) -> Result<Tape<MemStore>, Fail> {
     let store = MemStore::new(alloc, 0, SIZE)?;
     let mut tape = Tape::open(alloc, store, SIZE as u64, SIZE as u64).map_err(
@@ -127,7 +127,7 @@ fn tape_of(rt: &impl Abort, alloc: Global, items: &[u32]) -> Result<Tape<MemStor
     Ok(tape)
 }
 
-/// What is spaced over, and which way.
+/// What is spaced over, and in which direction.
 const WAYS: [(Direction, Over); 4] = [
     (Direction::Forward, Over::Records),
     (Direction::Forward, Over::Filemarks),
@@ -135,7 +135,7 @@ const WAYS: [(Direction, Over); 4] = [
     (Direction::Backward, Over::Filemarks),
 ];
 
-/// Spaces each way from a position, and asserts that it ends as item by item.
+/// Spaces each way from a position, and asserts that it ends as it does item by item.
 fn space_each_way(
     rt: &impl Abort,
     tape: &mut Tape<MemStore>,
