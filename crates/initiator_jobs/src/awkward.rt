@@ -19,7 +19,7 @@ const BLOCKS: usize = 131_072;
 /// The segments of Data-Ins and Data-Outs, as small as they may be.
 const SEGMENT: usize = 512;
 
-/// So many commands are in a window.
+/// The number of commands in a window.
 const WINDOW: usize = 32;
 
 /// Places at which a stream may begin.
@@ -127,7 +127,7 @@ impl Trial {
         )
     }
 
-    /// A text of about so many bytes, of keys that nobody knows.
+    /// Returns a text of about `length` bytes, of keys that nobody knows.
     fn long_text(&mut self, length: usize) -> Result<Vec<u8>, Fault> {
         let mut all = Vec::with_capacity(self.alloc, length)?;
         for number in 0..length / 64 {
@@ -193,7 +193,7 @@ impl Trial {
     }
 }
 
-/// So many rounds.
+/// Does this many rounds.
 pub fn awkward(alloc: Global, seed: u64, rounds: usize) -> Result<Outcome, Fault> {
     let mut random = Random::new(seed);
     let mut wire = Wire::new(alloc, &mut random, 4 * PLACES)?;

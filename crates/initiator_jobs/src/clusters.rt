@@ -10,7 +10,7 @@ use crate::requests::{Cdb, Command, NO_DATA, READS, WRITES, cdb_6, cdb_10, cdb_1
 use crate::wire::Wire;
 use std::alloc::Global;
 
-/// So many hosts.
+/// The number of hosts.
 const HOSTS: usize = 64;
 
 /// As much as the loop reads at a time.
@@ -44,7 +44,7 @@ impl Starting {
         exchange(&mut self.target, host, &mut self.wire, 8_192, CUT)
     }
 
-    /// A command that asks for so many bytes.
+    /// Sends a command that requests `expected` bytes.
     fn ask(&mut self, host: &mut Host, cdb: Cdb, expected: usize) -> Result<(), Fault> {
         let flags = if expected == 0 { NO_DATA } else { READS };
         let command = Command {
@@ -200,7 +200,7 @@ fn start_all(starting: &mut Starting, hosts: &mut [Host]) -> Result<(), Fault> {
     Ok(())
 }
 
-/// So many times all hosts start, on two targets.
+/// Starts all hosts this many times, on two targets.
 pub fn clusters(alloc: Global, seed: u64, rounds: usize) -> Result<Outcome, Fault> {
     let mut random = Random::new(seed);
     let wire = Wire::new(alloc, &mut random, 131_072)?;

@@ -116,7 +116,7 @@ fn host(
     Ok(host)
 }
 
-/// So many rounds, each of 16 parts.
+/// Does this many rounds, each of 16 parts.
 pub fn copies(alloc: Global, seed: u64, rounds: usize) -> Result<Outcome, Fault> {
     let mut random = Random::new(seed);
     let mut wire = Wire::new(alloc, &mut random, 3 * PLACES)?;

@@ -23,7 +23,7 @@ pub fn name_of(number: usize) -> &'static str {
     NAMES[number % 4]
 }
 
-/// A disk of so many blocks, which has this LUN.
+/// Returns a disk of this many blocks, which has this LUN.
 fn disk(alloc: Global, lun: u8, blocks: usize) -> Result<Unit<MemStore>, Fault> {
     let length = blocks.min(1 << 24) * BLOCK_LENGTH;
     let store = MemStore::new(alloc, length, length)?;
@@ -31,7 +31,7 @@ fn disk(alloc: Global, lun: u8, blocks: usize) -> Result<Unit<MemStore>, Fault> 
     Ok(Unit::disk(alloc, lun.min(15), serial, Disk::open(store)?))
 }
 
-/// A tape of so many bytes, LUN 0.
+/// Returns a tape of this many bytes, LUN 0.
 fn tape(alloc: Global, capacity: usize) -> Result<Unit<MemStore>, Fault> {
     let store = MemStore::new(alloc, 0, capacity)?;
     let serial = Serial::new(String::from_str(alloc, "TAPE")?);
@@ -55,7 +55,7 @@ fn targets(alloc: Global, units: Vec<Units<MemStore>>) -> Result<Targets, Fault>
     Ok(Target::new(alloc, config, units)?)
 }
 
-/// So many targets, each with a disk of so many blocks.
+/// Returns `count` targets, each with a disk of this many blocks.
 pub fn disks(alloc: Global, count: usize, blocks: usize) -> Result<Targets, Fault> {
     let mut all = Vec::new(alloc);
     for _ in 0..count {
@@ -66,7 +66,7 @@ pub fn disks(alloc: Global, count: usize, blocks: usize) -> Result<Targets, Faul
     targets(alloc, all)
 }
 
-/// A target with a tape of so many bytes.
+/// Returns a target with a tape of this many bytes.
 pub fn one_tape(alloc: Global, capacity: usize) -> Result<Targets, Fault> {
     let mut units = Vec::new(alloc);
     units.push(tape(alloc, capacity)?)?;

@@ -2,7 +2,7 @@
 
 ghost use Rattle.std.specs.Prelude.{◌<◌, ◌≤◌, length};
 
-/// So many bytes are mixed at a time: two words into each of four lanes.
+/// The number of bytes mixed at a time: two words into each of four lanes.
 const BLOCK: usize = 64;
 
 /// An odd number with bits all over.
@@ -12,7 +12,7 @@ const FACTOR: u64 = 0x9e37_79b9_7f4a_7c15;
 #[derive(Clone, Copy)]
 pub struct Digest {
     lanes: [u64; 4],
-    /// What came behind the last whole block.
+    /// The bytes after the last whole block.
     begun: [u8; BLOCK],
     count: usize,
     total: u64,
@@ -69,7 +69,7 @@ impl Digest {
         }
     }
 
-    /// Adds bytes behind those of the block that has begun, as far as there is room: how many.
+    /// Adds bytes to those of the block that has begun, as far as there is room, and returns their number.
     fn fill(&mut self, bytes: &[u8]) -> usize
         ensures { result ≤ length bytes.now }
     {

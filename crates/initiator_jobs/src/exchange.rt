@@ -5,10 +5,10 @@ use crate::fault::Fault;
 use crate::host::Host;
 use crate::wire::Wire;
 
-/// The loop reads so many bytes at most.
+/// The most bytes that the loop reads at a time.
 const MOST_READ: usize = 65_536;
 
-/// So many exchanges are enough for any command.
+/// The number of exchanges that is enough for any command.
 const MOST_EXCHANGES: usize = 64;
 
 /// A connection is opened under a number.
@@ -56,7 +56,7 @@ fn bring_piece(target: &mut Targets, c: usize, bytes: &[u8]) -> Result<(), Fault
     Ok(())
 }
 
-/// Brings a stream that comes in pieces of so many bytes.
+/// Brings a stream in pieces of `cut` bytes.
 pub fn bring(target: &mut Targets, c: usize, stream: &[u8], cut: usize) -> Result<(), Fault> {
     let mut rest = stream;
     for _ in 0..stream.len() {
@@ -88,7 +88,7 @@ pub fn drain(target: &mut Targets, host: &mut Host) -> Result<(), Fault> {
     Ok(())
 }
 
-/// Brings the stream, and what its commands are asked for in Data-Outs of so many bytes, until all is answered.
+/// Brings the stream and the data that is asked for, in Data-Outs of `segment` bytes, until all is answered.
 pub fn exchange(
     target: &mut Targets,
     host: &mut Host,
@@ -112,7 +112,7 @@ pub fn exchange(
     }
 }
 
-/// Opens a connection and logs in to a target, for Data-Ins of so many bytes.
+/// Opens a connection and logs in to a target, for Data-Ins of `segment` bytes.
 pub fn log_in(
     target: &mut Targets,
     host: &mut Host,

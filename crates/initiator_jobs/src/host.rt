@@ -104,7 +104,7 @@ impl Host {
         self.expect();
     }
 
-    /// The data that was asked for comes next, in Data-Outs of so many bytes.
+    /// Lays the data that was asked for next, in Data-Outs of `segment` bytes.
     pub fn lay_asked(&mut self, wire: &mut Wire, segment: usize) {
         let asked = mem::replace(&mut self.answers.asked, Vec::new(self.alloc));
         for part in asked.iter() {
@@ -112,7 +112,7 @@ impl Host {
         }
     }
 
-    /// A login to a target of this name comes next, for Data-Ins of so many bytes.
+    /// Lays a login to a target of this name next, for Data-Ins of `segment` bytes.
     pub fn lay_login(
         &mut self,
         wire: &mut Wire,

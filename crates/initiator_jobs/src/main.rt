@@ -1,7 +1,7 @@
 //! What hosts do all day, on targets in memory, so that it can be timed.
 //!
-//! `initiator_jobs JOB SEED ROUNDS` does a job so many times over, on data that the seed decides, and prints its name, a
-//! digest of all bytes that the target answered, and how many answers there were: the same at each run.
+//! `initiator_jobs JOB SEED ROUNDS` does a job for ROUNDS rounds, on data that the seed decides. It prints its name, a
+//! digest of all bytes that the target answered, and the number of answers: the same at each run.
 //!
 //! ```text
 //! machines   READs and WRITEs of 4 KiB at random places, served by the loop
@@ -54,7 +54,7 @@ const JOBS: [&str; 7] = [
     "machines", "copies", "crowds", "clusters", "tapes", "awkward", "hosts",
 ];
 
-/// Does a job so many times over, and prints its digest.
+/// Does a job for this many rounds, and prints its digest.
 fn run_job(rt: &HostRuntime, job: &str, seed: u64, rounds: usize) -> Result<(), Fault> {
     let alloc = rt.alloc();
     let outcome = match job {

@@ -29,7 +29,7 @@ pub struct Peer {
     wire: Wire,
     random: Random,
     work: Work,
-    /// So many rounds are left to do.
+    /// The number of rounds left to do.
     left: usize,
     /// The blocks of its disk.
     blocks: usize,
@@ -40,7 +40,7 @@ pub struct Peer {
 }
 
 impl Peer {
-    /// An initiator that is to log in to a target, and to do so many rounds of its work there.
+    /// Returns an initiator that is to log in to a target, and to do `rounds` rounds of its work there.
     pub fn new(
         mut host: Host,
         mut wire: Wire,
@@ -153,7 +153,7 @@ impl Peer {
         }
     }
 
-    /// So many short READs and WRITEs come next: seven READs for three WRITEs, most of them of 4 KiB.
+    /// Lays `depth` short READs and WRITEs next: seven READs for three WRITEs, most of them of 4 KiB.
     fn lay_short(&mut self, depth: usize) {
         for _ in 0..depth {
             let blocks = if self.random.once_in(16) {

@@ -14,7 +14,7 @@ use iscsi_ports::{Accepted, IoResult, Named, PortFault, Ports};
 #[derive(Drop)]
 pub struct Peers {
     peers: Vec<Peer>,
-    /// So many were accepted.
+    /// The number accepted so far.
     accepted: usize,
     /// Nothing was asked of them yet.
     tells: bool,

@@ -41,7 +41,7 @@ impl Random {
         (self.number() % end as u64) as usize
     }
 
-    /// So it is once in so many times.
+    /// Returns `true` once in this many times.
     pub fn once_in(&mut self, times: usize) -> bool {
         self.below(times) == 0
     }

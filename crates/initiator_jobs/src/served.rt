@@ -50,7 +50,7 @@ fn serve(alloc: Global, crowd: &Crowd, seed: u64, rounds: usize) -> Result<Outco
     peers.outcome()
 }
 
-/// The disks of virtual machines: one host with a disk of 128 MiB, so many rounds of 1, 8 or 32 commands.
+/// Serves the disks of virtual machines: one host with a disk of 128 MiB, in rounds of 1, 8 or 32 commands.
 pub fn machines(alloc: Global, seed: u64, rounds: usize) -> Result<Outcome, Fault> {
     let crowd = Crowd {
         hosts: 1,
@@ -62,7 +62,7 @@ pub fn machines(alloc: Global, seed: u64, rounds: usize) -> Result<Outcome, Faul
     serve(alloc, &crowd, seed, rounds)
 }
 
-/// Sixty-four hosts on four targets, each with a disk of 32 MiB: so many rounds of eight short commands, or of long ones.
+/// Serves 64 hosts on four targets, each with a disk of 32 MiB, in rounds of eight short commands, or of long ones.
 pub fn crowds(alloc: Global, seed: u64, rounds: usize) -> Result<Outcome, Fault> {
     let crowd = Crowd {
         hosts: 64,

@@ -10,13 +10,13 @@ use crate::requests::{Cdb, Command, NO_DATA, READS, WRITES, cdb_6, cdb_10, cdb_l
 use crate::wire::Wire;
 use std::alloc::Global;
 
-/// So many items are written in a round: records, and filemarks between them.
+/// The number of items written in a round: records, and filemarks between them.
 const ITEMS: usize = 1_000;
 
-/// So many commands are in flight at most.
+/// The most commands in flight.
 const DEPTH: usize = 16;
 
-/// A record has so many bytes at most.
+/// The most bytes of a record.
 const LONGEST: usize = 65_536;
 
 /// Places at which a stream may begin.
@@ -39,9 +39,9 @@ struct Backup {
     host: Host,
     wire: Wire,
     random: Random,
-    /// So many commands wait to be sent.
+    /// The number of commands that wait to be sent.
     laid: usize,
-    /// So many items were written.
+    /// The number of items written.
     items: usize,
 }
 
@@ -154,7 +154,7 @@ impl Backup {
     }
 }
 
-/// So many rounds of 1,000 items and more, read back, and places looked for.
+/// Does this many rounds of 1,000 items and more, which are read back, and in which places are looked for.
 pub fn tapes(alloc: Global, seed: u64, rounds: usize) -> Result<Outcome, Fault> {
     let mut random = Random::new(seed);
     let mut wire = Wire::new(alloc, &mut random, 4 * PLACES)?;

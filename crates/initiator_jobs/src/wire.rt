@@ -7,8 +7,8 @@ use std::alloc::{AllocError, Global};
 /// The length of a header in bytes.
 pub const HEADER_LENGTH: usize = 48;
 
-/// Random bytes. A stream of PDUs lies somewhere among them: its headers are laid over what is there, and what stands
-/// behind each is its data.
+/// Random bytes. A stream of PDUs lies somewhere among them: its headers are laid over what is there, and what comes
+/// after each is its data.
 #[derive(Drop)]
 pub struct Wire {
     bytes: Vec<u8>,
@@ -17,7 +17,7 @@ pub struct Wire {
 }
 
 impl Wire {
-    /// So many random bytes.
+    /// Returns `length` random bytes.
     pub fn new(alloc: Global, random: &mut Random, length: usize) -> Result<Wire, AllocError> {
         let mut bytes = Vec::with_capacity(alloc, length)?;
         for _ in 0..length / 8 {
@@ -36,12 +36,12 @@ impl Wire {
         self.to = self.from;
     }
 
-    /// The stream goes on behind what was in it, with nothing in it.
+    /// Continues the stream after what was in it, with nothing in it.
     pub fn go_on(&mut self) {
         self.from = self.to;
     }
 
-    /// There is room for a PDU with so much data.
+    /// Returns whether there is room for a PDU with this much data.
     pub fn has_room(&self, data: usize) -> bool {
         data.saturating_add(HEADER_LENGTH + 3) <= self.bytes.len().saturating_sub(self.to)
     }
@@ -56,7 +56,7 @@ impl Wire {
         }
     }
 
-    /// A PDU comes next in the stream, with so many of the random bytes as its data.
+    /// Lays a PDU next in the stream, with `data` of the random bytes as its data.
     pub fn lay(&mut self, header: &Header, data: usize) {
         self.put(header);
         let padded = data.saturating_add(3) / 4;
