@@ -15,7 +15,6 @@ const USAGE: &str = "targetd 0.1.0\n\
     signal ends it or it has made N turns of its loop. replay carries out the events\n\
     that it reads from standard input. See targetd(8), and targetd.toml(5) for FILE.\n";
 
-/// Returns whether this word is one of them.
 fn has_word(words: &[&str], wanted: &str) -> bool
     ensures { result ≡ is_among wanted.now (map (λ word. word.now) words.now) }
 {

@@ -27,7 +27,7 @@
 //! - if an allocation failed, nothing changes.
 //!
 //! A call reports a fault only if the store's count of failures rose in it. No call of the store fails if it is honest
-//! and steady, and has room for the capacity, as one in memory.
+//! and steady, and has room for the capacity, as one in memory is.
 #![tactic(auto)]
 
 mod fault;

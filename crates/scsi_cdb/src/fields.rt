@@ -298,7 +298,6 @@ fn write_same(byte_1: u8, range: AnyRange) -> Result<DiskCommand, FieldFault>
     }
 }
 
-/// Reads COMPARE AND WRITE.
 fn compare_and_write(bytes: &[u8; 16]) -> Result<DiskCommand, FieldFault>
     ensures { result ≡ compare_and_write_of (slice_index bytes.now 1) (range_compared bytes.now) }
 {

@@ -207,7 +207,6 @@ impl Operation {
     }
 }
 
-/// Returns a row, as the table has it.
 fn make_row(
     operation: Operation,
     passes_attention: bool,

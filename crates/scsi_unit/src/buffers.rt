@@ -12,8 +12,7 @@ use std::alloc::{AllocError, Global};
 use std::marker::Model;
 
 /// The most room of a short buffer; a connection keeps no more than this for its answers. The buffer of a short READ
-/// may become that of the answers. A long one would then be given back to the system, and have to be made and filled
-/// anew.
+/// may become that of the answers. A long one is then given back to the system, to be made and filled anew.
 const SHORT: usize = 65_536;
 
 /// The most short buffers that are kept.

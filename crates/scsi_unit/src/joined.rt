@@ -198,7 +198,6 @@ fn raise_each(joined: &mut [Joined], nexus: &Nexus, is_same: bool, attention: At
     }
 }
 
-/// Establishes an attention for the nexus.
 #[tactic(auto, unfolding(crate::specs::Joined::raised_for))]
 fn raise(joined: &mut [Joined], nexus: &Nexus, attention: Attention)
     ensures { joined.new ≡ raised_for nexus.now attention joined.old }
@@ -206,7 +205,6 @@ fn raise(joined: &mut [Joined], nexus: &Nexus, attention: Attention)
     raise_each(joined, nexus, true, attention);
 }
 
-/// Establishes the attention for all but this nexus.
 #[tactic(auto, unfolding(crate::specs::Joined::raised_for_others))]
 fn raise_for_others(joined: &mut [Joined], nexus: &Nexus, attention: Attention)
     ensures { joined.new ≡ raised_for_others nexus.now attention joined.old }
@@ -214,7 +212,6 @@ fn raise_for_others(joined: &mut [Joined], nexus: &Nexus, attention: Attention)
     raise_each(joined, nexus, false, attention);
 }
 
-/// Establishes the attention for every nexus.
 #[tactic(auto, unfolding(crate::specs::Joined::raised_for_all))]
 fn raise_for_all(joined: &mut [Joined], attention: Attention)
     ensures { joined.new ≡ raised_for_all attention joined.old }

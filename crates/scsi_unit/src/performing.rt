@@ -270,7 +270,7 @@ impl<S: Store> Unit<S> {
         }
     }
 
-    /// Performs a command to the unit with this data. The data that it returns lies in a buffer of `used`, if there is
+    /// Performs a command on the unit with this data. The data that it returns lies in a buffer of `used`, if there is
     /// one. If an allocation fails, nothing changes.
     #[tactic(auto, unfolding(crate::specs::Unit::performed_as, crate::specs::Unit::touch_at))]
     pub(crate) fn perform_with(

@@ -64,7 +64,6 @@ fn join_each<S: Store>(units: &mut [Unit<S>], nexus: &Nexus) -> Result<(), Memor
     Ok(())
 }
 
-/// Returns the numbers of units.
 fn numbers<S: Store>(alloc: Global, units: &[Unit<S>]) -> Result<Vec<u8>, Memory>
     ensures { IfOk result (λ numbers. numbers.items ≡ numbers_of units.now) }
 {

@@ -1,7 +1,7 @@
 //! The descriptors 0 to 2, which belong to the standard streams, and which nothing else may get.
 //!
 //! A program may be started with one of them closed. The system gives the next file that is opened the lowest free
-//! number. If that is a disk, the output to a standard stream would be written into it:
+//! number. If that file is a disk, the output to a standard stream would be written into it:
 //!
 //! ```text
 //! 2 is closed     Streams::take opens /dev/null as 2, and holds it     a disk is opened as 3 or above

@@ -16,7 +16,6 @@ fn has_twin(units: &[UnitConfiguration], unit: &UnitConfiguration) -> bool
     units.iter().any(|other| other.lun == unit.lun)
 }
 
-/// Returns whether the units of the target have different LUNs.
 fn has_distinct_luns(target: &TargetConfiguration) -> bool
     ensures { result ≡ are_luns_distinct (target_view target.now) }
 {
@@ -36,7 +35,6 @@ fn are_with_zero(units: &[UnitConfiguration]) -> bool
     units.iter().any(|unit| unit.lun == 0)
 }
 
-/// Returns whether a unit of the target has LUN 0.
 fn has_lun_zero(target: &TargetConfiguration) -> bool
     ensures { result ≡ is_lun_zero_there (target_view target.now) }
 {
@@ -50,7 +48,6 @@ fn has_namesake(targets: &[TargetConfiguration], target: &TargetConfiguration) -
     targets.iter().any(|other| other.name == target.name)
 }
 
-/// Returns whether the targets have different names.
 fn have_distinct_names(targets: &[TargetConfiguration]) -> bool
     ensures { result ≡ is_distinct bytes_eq (names_of (targets_view targets.now)) }
 {
@@ -62,7 +59,6 @@ fn have_distinct_names(targets: &[TargetConfiguration]) -> bool
     true
 }
 
-/// Returns whether the units of each target have different LUNs.
 fn have_distinct_luns(targets: &[TargetConfiguration]) -> bool
     ensures { result ≡ list_all (λ target. are_luns_distinct (target_view target)) targets.now }
 {
@@ -80,7 +76,6 @@ fn path_of(medium: &MediumConfiguration) -> Option<&String>
     }
 }
 
-/// Returns whether both units are in one file.
 fn share_file(unit: &UnitConfiguration, other: &UnitConfiguration) -> bool
     ensures { result ≡ is_file_shared (unit_view unit.now) (unit_view other.now) }
 {
@@ -118,7 +113,6 @@ fn is_apart(units: &[UnitConfiguration], behind: &[TargetConfiguration]) -> bool
     true
 }
 
-/// Returns whether no two units are in one file.
 fn have_distinct_files(targets: &[TargetConfiguration]) -> bool
     ensures { result ≡ are_files_distinct (targets_view targets.now) }
 {

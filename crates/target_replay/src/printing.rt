@@ -107,6 +107,7 @@ pub fn print_all<W: Write>(text: &[u8], writer: &mut W) -> Result<(), ReplayFaul
     ensures fault { IfErr result (λ fault. fault ≡ ReplayFault.Output) }
 {
     let mut rest = text;
+    // The bound makes the loop end, even if every write is interrupted.
     for _ in 0..u64::MAX {
         if rest.is_empty() {
             break;
