@@ -3,7 +3,9 @@
 import random
 import signal
 import threading
+from concurrent.futures import ThreadPoolExecutor
 
+from sockets.ahead import commands
 from sockets.loopback import (CONNECTIONS, READY_AGAIN, answer_of, connect, disk_file, held_clients, is_answered,
                               is_answered_at_last, read, read_10, reset, serving, writing)
 from wire import notation, pdu
@@ -13,6 +15,8 @@ BLOCKS = 512  # of a READ: 256 KiB, which goes in one PDU
 SHORT = 128  # blocks of a READ of 64 KiB
 QUEUED = 30  # commands that a session may have unanswered, and some less
 TURNS = 200  # more than the logins take, and fewer than all READs of eight
+TURNS_OF_ALL = 700  # the same of 24 that read much and 16 that ask for little
+MOST_WAITED = 64  # turns
 
 
 def logged_in(address, number):
@@ -106,6 +110,54 @@ def gives_each_of_8_that_read_much_its_turn():
         assert 4 <= min(counts) and max(counts) < QUEUED, counts
 
 
+def one_read(client):
+    """Reads 64 KiB, so that much is sent to the client at once."""
+    client.sendall(reads(1, SHORT))
+    assert len(answer_of(client)[0]) == 512 * SHORT
+    return client
+
+
+def lets_nobody_wait_for_more_than_64_turns():
+    with disk_file(bytes(LENGTH)) as (_, units), \
+            serving("127.0.0.1:0", "--turns", str(TURNS_OF_ALL), units=units) as (process, address):
+        much = [one_read(logged_in(address, number)) for number in range(24)]
+        little = {logged_in(address, 24 + n): 20 * (n + 1) for n in range(16)}
+        clients = [*much, *little]
+        counts = [0] * len(clients)
+        readers = [threading.Thread(target=counted, args=(client, counts, n)) for n, client in enumerate(clients)]
+        for reader in readers:
+            reader.start()
+        process.send_signal(signal.SIGSTOP)
+        for client in much:
+            client.sendall(reads(QUEUED, SHORT, 126))
+        for client, count in little.items():
+            client.sendall(commands(count))
+        process.send_signal(signal.SIGCONT)
+        for reader in readers:
+            reader.join()
+        # A turn reads of one that reads much, so they tell the turns. It reads of each other one, whose answers leave
+        # once all its commands are done.
+        turns = sum(counts[:len(much)])
+        told = [(count, answered) for count, answered in zip(little.values(), counts[len(much):])
+                if count + MOST_WAITED <= turns]
+        assert max(counts[:len(much)]) - min(counts[:len(much)]) <= 2, counts
+        assert len(told) >= 4 and max(counts[:len(much)]) < QUEUED, counts
+        assert all(count == answered for count, answered in told), (turns, told)
+
+
+def answers_64_that_read_much_and_little_by_turns():
+    content = random.Random(14).randbytes(LENGTH)
+    lengths = [SHORT, 1, BLOCKS, 1, 1, 2 * BLOCKS, SHORT - 1, SHORT, 8, SHORT, 1, BLOCKS]
+    wanted = [(7 * n, blocks) for n, blocks in enumerate(lengths)]
+    with disk_file(content) as (_, units), serving(units=units) as (_, address):
+        clients = [logged_in(address, number) for number in range(CONNECTIONS)]
+        for client in clients:
+            client.sendall(b"".join(read_10(125 + n, *one) for n, one in enumerate(wanted)))
+        for at, blocks in wanted:
+            for number, client in enumerate(clients):
+                assert answer_of(client) == (content[512 * at:512 * (at + blocks)], 0, b""), (number, at, blocks)
+
+
 def writes_much_among_those_that_read_much():
     chance = random.Random(12)
     front = chance.randbytes(512 * BLOCKS)
@@ -124,6 +176,35 @@ def writes_much_among_those_that_read_much():
                 assert answer_of(client) == (front, 0, b"")
 
 
+def writes_on(client, content, start):
+    """Writes 256 KiB and 1 MiB from this block of a disk on. The statuses."""
+    told, at = [], start
+    for n, blocks in enumerate((BLOCKS, 4 * BLOCKS)):
+        *_, status = writing(client, 125 + n, at, content[512 * at:512 * (at + blocks)])
+        told.append(status)
+        at += blocks
+    return told
+
+
+def writes_for_8_at_once_among_those_that_read_much():
+    chance, own = random.Random(15), 5 * BLOCKS  # blocks that each of them writes
+    content = chance.randbytes(512 * 9 * own)
+    with disk_file(content[:LENGTH] + bytes(len(content) - LENGTH)) as (path, units), \
+            serving(units=units) as (_, address), ThreadPoolExecutor(8) as pool:
+        readers = [logged_in(address, number) for number in range(56)]
+        writers = [logged_in(address, 56 + number) for number in range(8)]
+        for client in readers:
+            client.sendall(reads(3, 4 * BLOCKS))
+        told = [pool.submit(writes_on, writer, content, (n + 1) * own) for n, writer in enumerate(writers)]
+        for _ in range(3):
+            for number, client in enumerate(readers):
+                assert answer_of(client) == (content[:LENGTH], 0, b""), number
+        assert [one.result() for one in told] == [[0, 0]] * 8
+        found = path.read_bytes()
+        assert found[:LENGTH] == content[:LENGTH] and found[LENGTH:512 * own] == bytes(512 * own - LENGTH)
+        assert found[512 * own:] == content[512 * own:]
+
+
 def logs_in_one_after_the_other_beside_those_that_read_much():
     with disk_file(bytes(LENGTH)) as (_, units), serving(units=units) as (_, address):
         much = [logged_in(address, number) for number in range(40)]
@@ -138,6 +219,9 @@ CHECKS = [
     answers_each_of_64_that_read_much,
     answers_one_that_asks_for_little_beside_63_that_read_much,
     gives_each_of_8_that_read_much_its_turn,
+    lets_nobody_wait_for_more_than_64_turns,
+    answers_64_that_read_much_and_little_by_turns,
     writes_much_among_those_that_read_much,
+    writes_for_8_at_once_among_those_that_read_much,
     logs_in_one_after_the_other_beside_those_that_read_much,
 ]
