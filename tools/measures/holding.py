@@ -1,5 +1,5 @@
 """The parts of tools/bench that measure what data makes a server hold: data that it asked for and that has not come, data
-of sessions that have ended, and answers that nobody reads."""
+of sessions that have ended, answers that nobody reads, and those of many READs at once."""
 
 import tempfile
 import time
@@ -12,6 +12,8 @@ from measures.ends import BLOCK, of_targetd, resident, settle, units
 from measures.one_session import MEBIBYTE, Session
 from measures.rows import OURS, head, number, ratios, row, spread
 
+# What 64 connections READ with two in flight on each, and the aim in MiB.
+FLIGHT, READ_LENGTHS, FLIGHT_AIM = {"connections": 64, "window": 2}, (262144, MEBIBYTE), 16
 WRITES = {"kind": "write", "length": MEBIBYTE, "window": 31}
 # Sessions that send the headers of WRITEs, and the aims in MiB and for the longest wait in milliseconds.
 ASKED, HEADERS_AIM, WAIT_AIM = 32, 32, 20
@@ -24,6 +26,50 @@ LENGTHS, PARTS_AIM, BESIDE = (512, 4096, 16384, 65536, 262144), 2, 64
 def names_of(bench):
     """What the servers are called that are measured here."""
     return [*bench.programs, *(["tgt"] if bench.has_tgt else [])]
+
+
+def count_anew(pid):
+    """Lets the system count the most memory of a process from now on (proc(5), clear_refs)."""
+    Path(f"/proc/{pid}/clear_refs").write_text("5", encoding="ascii")
+
+
+def most_resident(pid):
+    """The most bytes of memory that a process has had since (proc(5), VmHWM)."""
+    lines = Path(f"/proc/{pid}/status").read_text(encoding="ascii").splitlines()
+    return next(int(line.split()[1]) * 1024 for line in lines if line.startswith("VmHWM:"))
+
+
+def in_flight(bench, length):
+    """How many MiB each server has at the most above those of idle sessions, while these READ: at all, and in the second
+    half of the time, when each session has been sent much before."""
+    found = {}
+    with bench.targets(with_files=True) as targets:
+        for name, served in targets.items():
+            load = {"length": length, "milliseconds": bench.pace.milliseconds, **FLIGHT}
+            bench.ends.ask(served, kind="write-on", length=65536, count=16)  # so that what is read was used before
+            with bench.ends.held(served, **load) as held:
+                settle(served.pid)
+                before, most = resident(served.pid), []
+                held.begin()
+                for wait in (partial(time.sleep, bench.pace.milliseconds / 2000), held.line):
+                    count_anew(served.pid)
+                    wait()
+                    most.append((most_resident(served.pid) - before) / MEBIBYTE)
+                found[name] = (max(most), most[1])
+    return found
+
+
+def flight(bench):
+    """READs on 64 connections, two in flight on each: the most memory meanwhile."""
+    head("2 in flight on each of 64 connections", "Server", "MiB at the most above idle", "In the second half", "Aim")
+    for length in READ_LENGTHS:
+        rounds = bench.in_turns({length: partial(in_flight, bench, length)}, TURNS)[length]
+        for name in rounds[0]:
+            most, later = ([found[name][k] for found in rounds] for k in range(2))
+            what = f"READ of {length >> 10} KiB"
+            row(what, name, spread(most), spread(later),
+                bench.aims.judged(f"Memory of {name}, {what}, {FLIGHT['window']} on each of {FLIGHT['connections']} connections",
+                                  most, FLIGHT_AIM, "MiB") if name.startswith(OURS) else "")
 
 
 def headers_of(bench, name):

@@ -6,7 +6,7 @@ from functools import partial
 from measures.busy import fairness
 from measures.ends import BLOCK, SIZE, processor_seconds, ran, resident, settle
 from measures.far import far
-from measures.holding import headers, parts, unread, written
+from measures.holding import flight, headers, parts, unread, written
 from measures.requests import requests
 from measures.rows import FIGURES, OURS, figures, head, ratios, row, spread
 from measures.tape_parts import opening, reading, spacing, tape
@@ -174,6 +174,6 @@ def initiators(bench):
 
 
 PARTS = {"requests": requests, "connections": connections, "neighbours": neighbours, "fairness": fairness,
-         "memory": memory, "headers": headers, "written": written, "parts": parts, "unread": unread, "tape": tape,
-         "spacing": spacing, "opening": opening, "reading": reading, "far": far, "logins": logging_in,
+         "memory": memory, "flight": flight, "headers": headers, "written": written, "parts": parts, "unread": unread,
+         "tape": tape, "spacing": spacing, "opening": opening, "reading": reading, "far": far, "logins": logging_in,
          "tgt": initiators}

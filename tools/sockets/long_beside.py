@@ -235,33 +235,46 @@ def waits_for_those_that_read_nothing_or_byte_by_byte_beside_others_that_read_mu
                 client.sendall(reads(MANY, WHOLE))
             streams = [Stream(client, b"".join(read(client, 1) for _ in range(SLOWLY))) for client in slow]
         assert all(count > 0 and told == 0 for count, told in done), done
+        # The turn of those that are stalled comes too, and nothing comes of it.
+        one = one_read(logged_in(address, 20))
+        for number in range(MANY):
+            one.sendall(reads(1, SHORT, 126 + number))
+            assert answer_of(one) == (content[:512 * SHORT], 0, b""), number
         for client in silent + streams:
             for number in range(MANY):
                 assert answer_of(client) == (content, 0, b""), number
 
 
+def ends_out_of_turn(process, address, content, count):
+    """All of 16 that read much are ready, and some have ended, while it is the turn of one of them. Each has this number of
+    READs to be done."""
+    alone = descriptors_of(process)
+    clients = [one_read(logged_in(address, number)) for number in range(16)]
+    steady, halves, closed, gone = (clients[n::4] for n in range(4))
+    process.send_signal(signal.SIGSTOP)
+    for client in clients:
+        client.sendall(reads(count, SHORT, 126))
+    for those, end in ((halves, half_close), (closed, socket.socket.close), (gone, reset)):
+        for client in those:
+            end(client)
+    process.send_signal(signal.SIGCONT)
+    for client in steady + halves:
+        for number in range(count):
+            assert answer_of(client) == (content[:512 * SHORT], 0, b""), (count, number)
+    assert all(is_closed(client) for client in halves), count
+    assert has_at_last(process, alone + len(steady)), count
+    for client in steady:
+        client.sendall(ready(126 + count))
+        assert answer_of(client) == (b"", 0, b""), count
+        client.close()
+    assert has_at_last(process, alone), count
+
+
 def sees_that_peers_end_while_it_is_not_their_turn():
     content = random.Random(18).randbytes(LENGTH)
     with disk_file(content) as (_, units), serving(units=units) as (process, address):
-        alone = descriptors_of(process)
-        clients = [one_read(logged_in(address, number)) for number in range(16)]
-        steady, halves, closed, gone = (clients[n::4] for n in range(4))
-        # All are long, and it is the turn of none of them but one when they are ready and have ended.
-        process.send_signal(signal.SIGSTOP)
-        for client in clients:
-            client.sendall(reads(MANY, SHORT, 126))
-        for those, end in ((halves, half_close), (closed, socket.socket.close), (gone, reset)):
-            for client in those:
-                end(client)
-        process.send_signal(signal.SIGCONT)
-        for client in steady + halves:
-            for number in range(MANY):
-                assert answer_of(client) == (content[:512 * SHORT], 0, b""), number
-        assert all(is_closed(client) for client in halves)
-        assert has_at_last(process, alone + len(steady))
-        for client in steady:
-            client.sendall(ready(126 + MANY))
-            assert answer_of(client) == (b"", 0, b"")
+        for count in (1, 2, MANY):
+            ends_out_of_turn(process, address, content, count)
 
 
 def connects_and_resets(address, is_over, count):
