@@ -16,6 +16,12 @@ IsNoLonger wait None = ⊤
 IsNoLonger None (Some limit) = ⊥
 IsNoLonger (Some time) (Some limit) = time ≤ limit
 
+-- for how long the last poll waited that asked
+abbrev pub waited_in : List Call → Option ℕ
+waited_in [] = None
+waited_in (Polling wait answer ∷ earlier) = wait
+waited_in (call ∷ earlier) = waited_in earlier
+
 -- own: so many polls in a row were last answered without asking
 abbrev pub unasked_in : List Call → ℕ
 unasked_in [] = 0

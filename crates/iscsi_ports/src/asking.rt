@@ -1,6 +1,6 @@
 //! When ports over sockets ask the system, and when they put off a write.
 
-ghost use Rattle.std.specs.Prelude.{◌≡◌, ◌≤◌, option_map};
+ghost use Rattle.std.specs.Prelude.{◌≡◌, ◌≤◌, true, false, option_map};
 ghost use Rattle.std.specs.Duration.{as_nanos};
 ghost use Rattle.iscsi_ports.specs.Readiness as ready;
 ghost use Rattle.iscsi_ports.specs.Polls.{wait_for};
@@ -9,7 +9,7 @@ ghost use Rattle.iscsi_ports.specs.Asking as asking;
 use crate::socket_failure::SocketFailure;
 use std::time::Duration;
 
-/// For how many seconds a poll waits at most where an accept is to be tried again.
+/// For how many seconds a poll waits at most where an accept is to be tried again, or a connection lingers.
 const SHORTLY: u64 = 1;
 
 /// So many polls in a row at most are answered without asking the system.
@@ -80,6 +80,13 @@ pub(crate) fn to_wait(busy: bool, refused: bool, wait: Option<Duration>) -> Opti
     if !refused {
         return wait;
     }
+    shortly(wait)
+}
+
+/// Returns this wait, but no more than [`SHORTLY`].
+pub(crate) fn shortly(wait: Option<Duration>) -> Option<Duration>
+    ensures { option_map as_nanos result ≡ wait_for false true (option_map as_nanos wait) }
+{
     let shortly = Duration::from_secs(SHORTLY);
     Some(wait.map_or(shortly, |limit| limit.min(shortly)))
 }

@@ -5,18 +5,22 @@
 //! writing first, then what its peer sends is read and thrown away until the peer ends too, within a bound
 //! of bytes and of turns, and only then it is closed.
 
-ghost use Rattle.std.specs.Prelude.{◌≡◌, ◌≢◌, ◌≤◌, ◌<◌, ℕ, true, length, replicate, is_none, None, Some, option_map, IfOk, IfSome};
+ghost use Rattle.std.specs.Prelude.{◌≡◌, ◌≢◌, ◌≤◌, ℕ, true, false, [], length, replicate, is_none, Some, None, option_map, is_some, ◌∷◌, IfOk, IfSome};
 ghost use Rattle.std.specs.List.{list_all};
 ghost use Rattle.std.specs.Duration.{as_nanos};
 ghost use Rattle.iscsi_ports.specs.Polls.{IsNoLonger};
-ghost use Rattle.iscsi_ports.specs.Lingering.{place_of, place_to_take, turns_later, Drains};
+ghost use Rattle.iscsi_ports.specs.Lingering.{place_of, place_to_take, left_of, left_at_first, turns_later, turns_for, is_at_once, Shutting, Begins, IsDrained, AreDrained};
+ghost use Rattle.iscsi_ports.specs.Lingering as lingering;
 
+use crate::asking::{gave, shortly};
+use crate::lingering_notes::LingeringNotes;
 use crate::places::free_places;
+use crate::socket_failure::SocketFailure;
+use crate::stream_calls::drain_from;
 use connection_numbers::CONNECTIONS;
 use mio::net::TcpStream;
 use mio::{Interest, Registry, Token};
 use std::alloc::{AllocError, Global};
-use std::io::{ErrorKind, Read};
 use std::net::Shutdown;
 use std::time::Duration;
 
@@ -35,20 +39,6 @@ const MOST_TURNS: u32 = 1_048_576;
 /// A turn that waited and met no event counts as so many, so that one whose peer is silent stays for 32.
 const IDLE_TURNS: u32 = 32_768;
 
-/// For how many seconds a turn waits at most while there is one.
-const SHORTLY: u64 = 1;
-
-/// What a read of one came to.
-#[derive(Clone, Copy, Debug, PartialEq, Eq)]
-enum Drained {
-    /// There may be more.
-    Bytes,
-    /// Nothing has come.
-    Nothing,
-    /// Its peer has ended too, or failed, or it is no longer waited for.
-    Over,
-}
-
 /// A connection that is shut for writing.
 #[derive(Drop)]
 struct LingeringSocket {
@@ -59,17 +49,24 @@ struct LingeringSocket {
 }
 
 impl LingeringSocket {
-    /// Shuts a connection for writing. None where that fails, since its peer is gone.
-    fn new(registry: &Registry, mut stream: TcpStream) -> Option<LingeringSocket>
-        ensures { IfSome result (λ socket. (socket.bytes ≡ 16777216) × (socket.turns ≡ 1048576)) }
+    /// Shuts a connection for writing, and notes whether it is kept in this place. None where that fails, since its
+    /// peer is gone.
+    fn new(
+        registry: &Registry,
+        mut stream: TcpStream,
+        place: usize,
+        notes: &mut LingeringNotes,
+    ) -> Option<LingeringSocket>
+        ensures noted { notes.new ≡ Shutting place (is_some result) ∷ notes.old }
+        ensures left { IfSome result (λ socket. left_of socket ≡ left_at_first) }
     {
-        if stream.shutdown(Shutdown::Write).is_err() {
-            return None;
-        }
-        if registry
-            .reregister(&mut stream, Token(LINGERING), Interest::READABLE)
-            .is_err()
-        {
+        let token = Token(LINGERING);
+        let is_kept = stream.shutdown(Shutdown::Write).is_ok()
+            && registry
+                .reregister(&mut stream, token, Interest::READABLE)
+                .is_ok();
+        notes.shut(place, is_kept);
+        if !is_kept {
             return None;
         }
         Some(LingeringSocket {
@@ -78,42 +75,44 @@ impl LingeringSocket {
             turns: MOST_TURNS,
         })
     }
+}
 
-    /// Reads a piece and throws it away.
-    fn drain(&mut self, buffer: &mut [u8]) -> Drained
-        ensures bytes { result ≡ Drained.Bytes → self.new.bytes < self.old.bytes }
-        ensures less { self.new.bytes ≤ self.old.bytes }
-        ensures turns { self.new.turns ≡ self.old.turns }
-    {
-        match self.stream.read(buffer) {
-            Ok(0) => Drained::Over,
-            Ok(count) => {
-                self.bytes = self.bytes.saturating_sub(count);
-                if self.bytes == 0 {
-                    return Drained::Over;
-                }
-                Drained::Bytes
-            }
-            Err(error) => match error.kind() {
-                ErrorKind::WouldBlock | ErrorKind::Interrupted => Drained::Nothing,
-                _ => Drained::Over,
-            },
-        }
+/// Returns how many bytes are still read of one after a read of it. None where it is over: its peer has ended too,
+/// or failed, or it is no longer waited for.
+fn bytes_after(answer: Result<usize, SocketFailure>, bytes: usize) -> Option<usize>
+    ensures { result ≡ lingering.bytes_after answer bytes }
+{
+    match answer {
+        Ok(count) if 0 < count && count < bytes => Some(bytes - count),
+        Err(SocketFailure::WouldWait | SocketFailure::Interrupted) => Some(bytes),
+        Ok(_) | Err(_) => None,
     }
 }
 
-/// Reads a piece of the one in this place, and closes it where it is over. Whether it may have more.
-fn drain_place(place: &mut Option<LingeringSocket>, buffer: &mut [u8]) -> bool
-    ensures { Drains place.old place.new }
+/// Reads a piece of the one in this place, throws it away, and closes the one that is over. Whether it may have more.
+fn drain_place(
+    place: &mut Option<LingeringSocket>,
+    number: usize,
+    notes: &mut LingeringNotes,
+    buffer: &mut [u8],
+) -> bool
+    ensures { IsDrained number place.old place.new notes.old notes.new result }
 {
-    let drained = match place {
-        Some(socket) => socket.drain(buffer),
-        None => return false,
+    let Some(socket) = place else {
+        return false;
     };
-    if drained == Drained::Over {
-        *place = None;
+    let answer = drain_from(&mut socket.stream, buffer);
+    notes.drained(number, answer);
+    match bytes_after(answer, socket.bytes) {
+        Some(bytes) => {
+            socket.bytes = bytes;
+            gave(answer)
+        }
+        None => {
+            *place = None;
+            false
+        }
     }
-    drained == Drained::Bytes
 }
 
 /// Counts so many turns of the one in this place, and closes it where none are left.
@@ -133,8 +132,7 @@ fn count_place(place: &mut Option<LingeringSocket>, turns: u32)
 /// As how many a turn counts that waited for so long.
 pub(crate) fn turns_of(wait: Option<Duration>, met_event: bool) -> u32
     ensures some { 1 ≤ result }
-    ensures most { result ≤ 32768 }
-    ensures busy { met_event ≡ true → result ≡ 1 }
+    ensures value { result ≡ turns_for (option_map as_nanos wait) met_event }
 {
     if met_event || wait == Some(Duration::ZERO) {
         1
@@ -147,16 +145,19 @@ pub(crate) fn turns_of(wait: Option<Duration>, met_event: bool) -> u32
 #[derive(Drop)]
 pub(crate) struct LingeringSockets {
     places: Vec<Option<LingeringSocket>>,
+    notes: LingeringNotes,
     ghost places_are_65: { length places.items ≡ 65 },
 }
 
 impl LingeringSockets {
     /// None.
     pub(crate) fn new(alloc: Global) -> Result<LingeringSockets, AllocError>
-        ensures { IfOk result (λ sockets. sockets.places.items ≡ replicate 65 None) }
+        ensures places { IfOk result (λ sockets. sockets.places.items ≡ replicate 65 None) }
+        ensures notes { IfOk result (λ sockets. sockets.notes ≡ []) }
     {
         Ok(LingeringSockets {
             places: free_places(alloc)?,
+            notes: LingeringNotes::new(),
         })
     }
 
@@ -181,24 +182,23 @@ impl LingeringSockets {
 
     /// Shuts a connection for writing, and keeps it until its peer ends.
     pub(crate) fn begin(&mut self, registry: &Registry, stream: TcpStream)
-        ensures begins { IfSome (place_of (place_to_take self.old.places.items) self.new.places.items)
-            (λ socket. (socket.bytes ≡ 16777216) × (socket.turns ≡ 1048576)) }
+        ensures begins { Begins self.old.places.items self.new.places.items self.old.notes self.new.notes }
         ensures others { (d : ℕ) → d ≢ place_to_take self.old.places.items
             → place_of d self.new.places.items ≡ place_of d self.old.places.items }
     {
         let place = self.free_place();
-        self.places[place] = LingeringSocket::new(registry, stream);
+        self.places[place] = LingeringSocket::new(registry, stream, place, &mut self.notes);
     }
 
     /// Reads a piece of each, and closes those that are over. Whether one may have more.
     fn drain_all(&mut self) -> bool
-        ensures { (d : ℕ) → Drains (place_of d self.old.places.items) (place_of d self.new.places.items) }
+        ensures { AreDrained 65 self.old.places.items self.new.places.items self.old.notes self.new.notes result }
     {
         let mut buffer = [0; PIECE];
         let mut has_more = false;
         for place in 0..CONNECTIONS + 1 {
-            let more = drain_place(&mut self.places[place], &mut buffer);
-            has_more = has_more || more;
+            let more = drain_place(&mut self.places[place], place, &mut self.notes, &mut buffer);
+            has_more |= more;
         }
         has_more
     }
@@ -207,7 +207,9 @@ impl LingeringSockets {
     pub(crate) fn drain(&mut self, wait: Option<Duration>) -> Option<Duration>
         ensures no_longer { IsNoLonger (option_map as_nanos result) (option_map as_nanos wait) }
         ensures as_told { list_all is_none self.old.places.items ≡ true → result ≡ wait }
-        ensures drains { (d : ℕ) → Drains (place_of d self.old.places.items) (place_of d self.new.places.items) }
+        ensures shortly { list_all is_none self.old.places.items ≡ false → IsNoLonger (option_map as_nanos result) (Some 1000000000) }
+        ensures drains { AreDrained 65 self.old.places.items self.new.places.items self.old.notes self.new.notes
+            (is_at_once (option_map as_nanos result)) }
     {
         if self.is_empty() {
             return wait;
@@ -215,13 +217,13 @@ impl LingeringSockets {
         if self.drain_all() {
             return Some(Duration::ZERO);
         }
-        let shortly = Duration::from_secs(SHORTLY);
-        Some(wait.map_or(shortly, |limit| limit.min(shortly)))
+        shortly(wait)
     }
 
     /// Counts so many turns of each, and closes those that have stayed for all of theirs.
     pub(crate) fn count_turns(&mut self, turns: u32)
-        ensures { (d : ℕ) → place_of d self.new.places.items ≡ turns_later turns (place_of d self.old.places.items) }
+        ensures counts { (d : ℕ) → place_of d self.new.places.items ≡ turns_later turns (place_of d self.old.places.items) }
+        ensures notes { self.new.notes ≡ self.old.notes }
     {
         for place in 0..CONNECTIONS + 1 {
             count_place(&mut self.places[place], turns);

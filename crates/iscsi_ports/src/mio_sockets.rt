@@ -2,18 +2,18 @@
 //!
 //! No contract says what a socket gives and takes, so whether each note is true is seen here by eye.
 
-ghost use Rattle.std.specs.Prelude.{◌≡◌, ◌≢◌, ◌≤◌, ◌-◌, ◌∷◌, [], ℕ, true, false, fold, length, slice_index_or, Option, None, is_none, option_map, Ok, IsSome, IfOk, OnOk, OnErr};
+ghost use Rattle.std.specs.Prelude.{◌≡◌, ◌≢◌, ◌≤◌, ◌-◌, ◌∷◌, [], ℕ, true, false, not, ◌==◌, fold, length, slice_index_or, Option, Some, None, is_none, option_map, Ok, IsSome, IfOk, OnOk, OnErr};
 ghost use Rattle.std.specs.Net.Socket.{socket_ip, socket_port};
 ghost use Rattle.std.specs.Result.{IsErrOf};
 ghost use Rattle.std.specs.Net.Grammar.{IsSocketText};
 ghost use Rattle.std.specs.declared.net.socket_addr.SocketAddr.{SocketAddr};
 ghost use Rattle.iscsi_ports.specs.Calls.{Accepting, Closing, Listening, Located, Polling, ip_octets, named_by, token_after};
-ghost use Rattle.iscsi_ports.specs.Lingering.{place_of, place_to_take, turns_left};
+ghost use Rattle.iscsi_ports.specs.Lingering.{place_of, place_to_take, turns_left, is_at_once, Begins, AreDrained, Lingers};
 ghost use Rattle.iscsi_ports.specs.Readiness.{after_event};
 ghost use Rattle.iscsi_ports.specs.Turns.{Names, IsNamed};
 ghost use Rattle.mio.specs.Events.{items};
 ghost use Rattle.iscsi_ports.specs.ReadBuffer.{IsAccounted, AreDropped, ahead_on};
-ghost use Rattle.iscsi_ports.specs.Polls.{IsNoLonger};
+ghost use Rattle.iscsi_ports.specs.Polls.{IsNoLonger, waited_in};
 ghost use Rattle.std.specs.Duration.{as_nanos};
 ghost use Rattle.std.specs.List.{list_all};
 
@@ -133,8 +133,16 @@ impl SocketCalls for MioSockets {
         ensures seen { OnOk result (Names (fold after_event readiness.old (items self.new.events)) readiness.new) }
         ensures turn { OnOk result (IsNamed readiness.old readiness.new) }
         ensures unseen { OnErr result (readiness.new ≡ readiness.old) }
+        ensures shortly { list_all is_none self.old.lingering.places.items ≡ false
+            → IsNoLonger (waited_in (⟦<MioSockets as SocketCalls>⟧.calls self.new)) (Some 1000000000) }
         ensures lingering { OnOk result ((d : ℕ) → turns_left (place_of d self.new.lingering.places.items)
             ≤ turns_left (place_of d self.old.lingering.places.items) - 1) }
+        ensures lingers { OnOk result (Lingers (waited_in (⟦<MioSockets as SocketCalls>⟧.calls self.new))
+            (not (length (items self.new.events) == 0)) self.old.lingering.places.items self.new.lingering.places.items
+            self.old.lingering.notes self.new.lingering.notes) }
+        ensures drained { OnErr result (AreDrained 65 self.old.lingering.places.items self.new.lingering.places.items
+            self.old.lingering.notes self.new.lingering.notes
+            (is_at_once (waited_in (⟦<MioSockets as SocketCalls>⟧.calls self.new)))) }
     {
         let wait = self.lingering.drain(wait);
         if let Err(error) = self.poll.poll(&mut self.events, wait) {
@@ -223,6 +231,8 @@ impl SocketCalls for MioSockets {
         requires { c ≤ 64 }
         ensures noted { ⟦<MioSockets as SocketCalls>⟧.calls self.new ≡ Closing c (ahead_on c self.old.ahead.items) ∷ ⟦<MioSockets as SocketCalls>⟧.calls self.old }
         ensures closed { slice_index_or self.new.streams.items c None ≡ None }
+        ensures begins { IsSome (slice_index_or self.old.streams.items c None) → Begins self.old.lingering.places.items
+            self.new.lingering.places.items self.old.lingering.notes self.new.lingering.notes }
         ensures others { (d : ℕ) → d ≢ place_to_take self.old.lingering.places.items
             → place_of d self.new.lingering.places.items ≡ place_of d self.old.lingering.places.items }
     {

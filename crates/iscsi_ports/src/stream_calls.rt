@@ -58,3 +58,13 @@ pub(crate) fn write_to(
         _ => Err(SocketFailure::Broken),
     }
 }
+
+/// Reads a piece of a connection that lingers.
+pub(crate) fn drain_from(stream: &mut TcpStream, buffer: &mut [u8]) -> Result<usize, SocketFailure>
+    ensures { WritesAtMost result buffer.new }
+{
+    match stream.read(buffer) {
+        Ok(count) => Ok(count),
+        Err(error) => Err(socket_failure(&error)),
+    }
+}
