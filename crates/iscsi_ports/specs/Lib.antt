@@ -8,6 +8,7 @@ pub mod ReadBuffer
 pub mod Flags
 pub mod Turns
 pub mod Readiness
+pub mod Events
 pub mod Polls
 pub mod Asking
 pub mod Lingering

@@ -69,13 +69,6 @@ pub record Names (before after : Readiness) : Type 0 where
   pub listener : after.named.listener ≡ before.ready.listener
   pub connections : TakesTurn before.ready.connections before.turns after.turns after.named.connections
 
--- own: polls as it makes known who is ready
-pub record IsNamed (before after : Readiness) : Type 0 where
-  pub seen : Readiness
-  pub long : seen.turns.long ≡ before.turns.long
-  pub cursor : seen.turns.cursor ≡ before.turns.cursor
-  pub names : Names seen after
-
 -- ---- that it is fair
 
 -- how many polls may name others first

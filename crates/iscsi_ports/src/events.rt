@@ -3,7 +3,7 @@
 ghost use Rattle.std.specs.Prelude.{◌≡◌, fold};
 ghost use Rattle.mio.specs.Events.{items};
 ghost use Rattle.iscsi_ports.specs.Readiness.{after_event};
-ghost use Rattle.iscsi_ports.specs.Turns.{Names, IsNamed};
+ghost use Rattle.iscsi_ports.specs.Events.{IsNamed};
 
 use crate::readiness::{Readiness, ReadyEvent};
 use crate::watching::LISTENER;
@@ -40,8 +40,7 @@ fn see_all(readiness: &mut Readiness, events: &Events)
 
 /// Takes note of all events, and names those whose turn it is of those that are ready.
 pub(crate) fn name_ready(readiness: &mut Readiness, events: &Events)
-    ensures seen { Names (fold after_event readiness.old (items events.now)) readiness.new }
-    ensures turn { IsNamed readiness.old readiness.new }
+    ensures { IsNamed (items events.now) readiness.old readiness.new }
 {
     see_all(readiness, events);
     readiness.name();

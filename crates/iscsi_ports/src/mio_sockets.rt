@@ -2,15 +2,14 @@
 //!
 //! No contract says what a socket gives and takes, so whether each note is true is seen here by eye.
 
-ghost use Rattle.std.specs.Prelude.{◌≡◌, ◌≢◌, ◌≤◌, ◌-◌, ◌∷◌, [], ℕ, true, false, not, ◌==◌, fold, length, slice_index_or, Option, Some, None, is_none, option_map, Ok, IsSome, IfOk, OnOk, OnErr};
+ghost use Rattle.std.specs.Prelude.{◌≡◌, ◌≢◌, ◌≤◌, ◌-◌, ◌∷◌, [], ℕ, true, false, not, ◌==◌, length, slice_index_or, Option, Some, None, is_none, option_map, Ok, IsSome, IfOk, OnOk, OnErr};
 ghost use Rattle.std.specs.Net.Socket.{socket_ip, socket_port};
 ghost use Rattle.std.specs.Result.{IsErrOf};
 ghost use Rattle.std.specs.Net.Grammar.{IsSocketText};
 ghost use Rattle.std.specs.declared.net.socket_addr.SocketAddr.{SocketAddr};
 ghost use Rattle.iscsi_ports.specs.Calls.{Accepting, Closing, Listening, Located, Polling, ip_octets, named_by, token_after};
 ghost use Rattle.iscsi_ports.specs.Lingering.{place_of, place_to_take, turns_left, is_at_once, Begins, AreDrained, Lingers};
-ghost use Rattle.iscsi_ports.specs.Readiness.{after_event};
-ghost use Rattle.iscsi_ports.specs.Turns.{Names, IsNamed};
+ghost use Rattle.iscsi_ports.specs.Events.{IsNamed};
 ghost use Rattle.mio.specs.Events.{items};
 ghost use Rattle.iscsi_ports.specs.ReadBuffer.{IsAccounted, AreDropped, ahead_on};
 ghost use Rattle.iscsi_ports.specs.Polls.{IsNoLonger, waited_in};
@@ -121,6 +120,8 @@ impl SocketCalls for MioSockets {
 
     ghost ahead = { λ sockets c. ahead_on c sockets.ahead.items };
 
+    ghost events = { λ sockets. items sockets.events };
+
     fn poll(
         &mut self,
         readiness: &mut Readiness,
@@ -130,8 +131,7 @@ impl SocketCalls for MioSockets {
             × (list_all is_none self.old.lingering.places.items ≡ true → handed ≡ option_map as_nanos wait)
             × (⟦<MioSockets as SocketCalls>⟧.calls self.new
             ≡ Polling handed (named_by result readiness.new.named) ∷ ⟦<MioSockets as SocketCalls>⟧.calls self.old) }
-        ensures seen { OnOk result (Names (fold after_event readiness.old (items self.new.events)) readiness.new) }
-        ensures turn { OnOk result (IsNamed readiness.old readiness.new) }
+        ensures turn { OnOk result (IsNamed (⟦<MioSockets as SocketCalls>⟧.events self.new) readiness.old readiness.new) }
         ensures unseen { OnErr result (readiness.new ≡ readiness.old) }
         ensures shortly { list_all is_none self.old.lingering.places.items ≡ false
             → IsNoLonger (waited_in (⟦<MioSockets as SocketCalls>⟧.calls self.new)) (Some 1000000000) }

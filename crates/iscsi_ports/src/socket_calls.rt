@@ -1,6 +1,6 @@
 //! The calls of the system on a listener and its connections.
 
-ghost use Rattle.std.specs.Prelude.{◌≡◌, ◌<◌, ◌≤◌, ◌++◌, ◌∷◌, ℕ, List, [], length, Option, option_map, OnOk};
+ghost use Rattle.std.specs.Prelude.{◌≡◌, ◌<◌, ◌≤◌, ◌++◌, ◌∷◌, ℕ, List, [], length, Option, option_map, OnOk, OnErr};
 ghost use Rattle.std.specs.Duration.{as_nanos};
 ghost use Rattle.std.specs.Io.{WritesAtMost};
 ghost use Rattle.iscsi_ports.specs.Log.{Read};
@@ -8,7 +8,8 @@ ghost use Rattle.iscsi_ports.specs.Calls.{Call, Polling, Naming, Accepting, Writ
 ghost use Rattle.iscsi_ports.specs.ReadBuffer.{given, handed, AreDropped};
 ghost use Rattle.iscsi_ports.specs.Polls.{IsNoLonger, unasked_in};
 ghost use Rattle.iscsi_ports.specs.Readiness.{after_write, IsReadBy};
-ghost use Rattle.iscsi_ports.specs.Turns.{IsNamed};
+ghost use Rattle.iscsi_ports.specs.Events.{IsNamed};
+ghost use Rattle.mio.specs.declared.event.event.Event.{Event};
 
 use crate::readiness::Readiness;
 use crate::results::Named;
@@ -20,10 +21,13 @@ use std::time::Duration;
 ///
 /// A connection is kept under the number under which it was accepted, 64 among them. A read may take more
 /// from the system than there is room for: the rest is `ahead`, and later reads get it first, with no call.
+/// `events` are those of the last poll.
 pub trait SocketCalls {
     ghost calls: { Self → List Call };
 
     ghost ahead: { Self → ℕ → List ℕ };
+
+    ghost events: { Self → List Event };
 
     /// Waits for an event, no longer than this where a time is given, makes known who is ready, and names
     /// those whose turn it is.
@@ -32,7 +36,8 @@ pub trait SocketCalls {
         readiness: &mut Readiness,
         wait: Option<Duration>,
     ) -> Result<(), SocketFailure>
-        ensures turn { OnOk result (IsNamed readiness.old readiness.new) }
+        ensures turn { OnOk result (IsNamed (events self.new) readiness.old readiness.new) }
+        ensures unseen { OnErr result (readiness.new ≡ readiness.old) }
         ensures noted { (handed : Option ℕ) × IsNoLonger handed (option_map as_nanos wait)
             × (calls self.new ≡ Polling handed (named_by result readiness.new.named) ∷ calls self.old) };
 

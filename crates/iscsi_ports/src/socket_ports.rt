@@ -1,6 +1,6 @@
 //! Ports over sockets.
 
-ghost use Rattle.std.specs.Prelude.{◌≡◌, ◌<◌, ◌≤◌, ◌∷◌, ◌++◌, ℕ, List, [], Bool, true, false, length, Option, None, option_map, Result, IfOk, OnOk};
+ghost use Rattle.std.specs.Prelude.{◌≡◌, ◌<◌, ◌≤◌, ◌∷◌, ◌++◌, ℕ, List, [], Bool, true, false, length, Option, None, option_map, Result, IfOk, OnOk, OnErr};
 ghost use Rattle.std.specs.Duration.{as_nanos};
 ghost use Rattle.std.specs.Io.{WritesAtMost};
 ghost use Rattle.std.specs.Net.Socket.{socket_ip, socket_port};
@@ -15,7 +15,8 @@ ghost use Rattle.iscsi_ports.specs.Readiness.{forgotten, IsReadBy};
 ghost use Rattle.iscsi_ports.specs.Polls.{IsNoLonger};
 ghost use Rattle.iscsi_ports.specs.Asking as asking;
 ghost use Rattle.iscsi_ports.specs.Asking.{asks_now, wait_now, AsksInTime, after_asking, after_naming, after_accepting, after_reading, after_offering, after_writing, rested};
-ghost use Rattle.iscsi_ports.specs.Turns.{Names, IsNamed, IsFair};
+ghost use Rattle.iscsi_ports.specs.Turns.{Names, IsFair};
+ghost use Rattle.iscsi_ports.specs.Events.{IsNamed};
 
 use crate::asking::{
     MOST_UNASKED, carried_after, gave, goes_on, is_due, is_put_off, is_refused, is_to_go_on,
@@ -236,7 +237,9 @@ impl<K: SocketCalls + Drop> Ports for SocketPorts<K> {
         ensures after_naming { asks_now self.new.stopwatch.has_passed self.old ≡ false
             → self.new ≡ after_naming self.new.sockets self.new.readiness self.new.stopwatch self.old }
         ensures known { asks_now self.new.stopwatch.has_passed self.old ≡ false → Names (rested self.old) self.new.readiness }
-        ensures turn { OnOk result (IsNamed (rested self.old) self.new.readiness) }
+        ensures turn { asks_now self.new.stopwatch.has_passed self.old ≡ true
+            → OnOk result (IsNamed (K.events self.new.sockets) (rested self.old) self.new.readiness) }
+        ensures unseen { OnErr result (self.new.readiness ≡ rested self.old) }
         ensures named { IfOk result (λ named. named ≡ self.new.readiness.named) }
         ensures fair { OnOk result (IsFair self.old.readiness self.new.readiness) }
         ensures in_time { AsksInTime (K.calls self.old.sockets) self.old → AsksInTime (K.calls self.new.sockets) self.new }
