@@ -1,5 +1,5 @@
 # Pitsagul: each target works from a fresh clone on a machine with the Rattle kit (the command rt).
-.PHONY: demo demo-unproved demo-proved build install uninstall test clients linux bench clean
+.PHONY: demo demo-unproved demo-proved build install uninstall package test clients linux bench clean
 
 # Which demo `make demo` is: unproved takes one to three minutes, proved proves every crate first.
 DEMO = unproved
@@ -31,6 +31,11 @@ install:
 uninstall:
 	@./tools/install --remove "$(PREFIX)" "$(DESTDIR)"
 
+# Makes a Debian package of the program, and an archive for other systems, in out/.
+package:
+	@test -x $(PROGRAM) || { echo "there is no $(PROGRAM): run 'make build' first"; exit 1; }
+	@./tools/package "$(PROGRAM)"
+
 # The gate: the proofs, the wrong bodies, the cases, sockets, initiators, failing calls, the pages. On four processors
 # it takes 30 to 70 minutes, by their speed.
 test:
@@ -58,4 +63,4 @@ bench:
 
 clean:
 	@echo "== removing what was built"
-	rm -rf crates/*/out tools/out tools/__pycache__ tools/*/__pycache__
+	rm -rf out crates/*/out tools/out tools/__pycache__ tools/*/__pycache__
