@@ -21,15 +21,15 @@ def added(archive, path, name, moment):
         archive.addfile(one)
 
 
-def archive_of(program, moment, room, out):
-    """Makes the archive in a folder. Gives its path."""
+def archive_of(program, origin, moment, room, out):
+    """Makes the archive, with the lines that say what the program was built from. Gives its path."""
     name = f"targetd-{version()}-x86_64"
     folder, path, held = room / name, out / f"{name}.tar.gz", io.BytesIO()
     files.installed(program, "/usr/local", folder)
     files.put(folder / "install", (SOURCES / "install-archive").read_bytes(), executable=True)
-    for page in ("copyright", "changelog"):
-        files.put(folder / "usr/local/share/doc/targetd" / page,
-                  (SOURCES / page if page == "copyright" else TOP / "CHANGELOG.md").read_bytes())
+    for page, data in (("built-from", origin), ("copyright", (SOURCES / "copyright").read_bytes()),
+                       ("changelog", (TOP / "CHANGELOG.md").read_bytes())):
+        files.put(folder / "usr/local/share/doc/targetd" / page, data)
     files.settle(folder, moment)
     with tarfile.open(fileobj=held, mode="w", format=tarfile.USTAR_FORMAT) as archive:
         for one in files.all_below(folder):

@@ -1,9 +1,10 @@
-"""The program of a package: its version, what it needs of the system, and whether it was built of the sources as they are."""
+"""The program of a package: its version, what it needs of the system, and what it was built from."""
 
-import hashlib
 import re
 import subprocess
 from pathlib import Path
+
+from running import sources
 
 TOP = Path(__file__).resolve().parents[2]
 BUILT = TOP / "crates/targetd/out/targetd"  # where `make build` leaves it
@@ -19,11 +20,6 @@ class Unfit(Exception):
 def version():
     """The version that the sources have."""
     return re.search(r'"targetd (\d+\.\d+\.\d+)\\n', USAGE.read_text(encoding="utf-8"))[1]
-
-
-def digest(path):
-    """The SHA-256 of a file, in hex."""
-    return hashlib.sha256(path.read_bytes()).hexdigest()
 
 
 def told(*words):
@@ -51,3 +47,20 @@ def checked(program):
     first = told(program, "--help").partition("\n")[0]
     if first != f"targetd {version()}":
         raise Unfit(f"{program} says {first!r} to --help, and the sources are of version {version()}")
+
+
+def crates():
+    """The crates of which the program is built, by crates.txt."""
+    lines = [line.partition(":") for line in (TOP / "crates.txt").read_text(encoding="ascii").splitlines()]
+    below, found = {name: others.split() for name, colon, others in lines if colon}, ["targetd"]
+    for name in found:
+        found += [other for other in below.get(name, []) if other in below and other not in found]
+    return found
+
+
+def built_from(program):
+    """What a program was built from. Fails where `make build` left it, and the sources are others now."""
+    noted, now = sources.noted(program), sources.digest_of(TOP, crates())
+    if program == BUILT and noted.get("sources") != now:
+        raise Unfit(f"{program} is not known to be built from the sources as they are: 'make build' builds it")
+    return {"sources": sources.UNKNOWN, "kit": sources.UNKNOWN, **noted, "program": sources.digest(program)}

@@ -29,12 +29,13 @@ def changelog(moment):
             f"new.\n\n -- {MAINTAINER}  {email.utils.formatdate(moment)}\n").encode("ascii")
 
 
-def add_files(folder, program, moment):
+def add_files(folder, program, origin, moment):
     """Puts the files of the package below a folder."""
     files.installed(program, "/usr", folder)
     files.pack_pages(folder)
     files.name_python(folder)
     files.put(folder / CONFFILE, (SOURCES / "targetd.toml").read_bytes())
+    files.put(folder / DOC / "built-from", origin)
     files.put(folder / DOC / "copyright", (SOURCES / "copyright").read_bytes())
     files.put(folder / DOC / "changelog.gz", files.packed((TOP / "CHANGELOG.md").read_bytes()))
     files.put(folder / DOC / "changelog.Debian.gz", files.packed(changelog(moment)))
@@ -43,7 +44,8 @@ def add_files(folder, program, moment):
 
 def control(program, size):
     """The fields of the package."""
-    fields = {"VERSION": number(), "ARCHITECTURE": ARCHITECTURE, "MAINTAINER": MAINTAINER, "SIZE": size, "DEPENDS": depends(program)}
+    fields = {"VERSION": number(), "ARCHITECTURE": ARCHITECTURE, "MAINTAINER": MAINTAINER, "SIZE": size,
+              "DEPENDS": depends(program)}
     text = (SOURCES / "control.in").read_text(encoding="utf-8")
     return re.sub("@([A-Z]+)@", lambda found: str(fields[found[1]]), text).encode("utf-8")
 
@@ -55,10 +57,10 @@ def sums(folder):
                    if str(path.relative_to(folder)) != CONFFILE).encode("ascii")
 
 
-def package(program, moment, room, out):
-    """Makes the package in a folder. Gives its path."""
+def package(program, origin, moment, room, out):
+    """Makes the package, with the lines that say what the program was built from. Gives its path."""
     folder, path = room / "debian", out / f"targetd_{number()}_{ARCHITECTURE}.deb"
-    add_files(folder, program, moment)
+    add_files(folder, program, origin, moment)
     data = {"control": control(program, files.size_of(folder)), "conffiles": f"/{CONFFILE}\n".encode(), "md5sums": sums(folder)}
     for name, content in data.items():
         files.put(folder / "DEBIAN" / name, content)
