@@ -13,7 +13,7 @@ calls_for_help words = has_word (codes "--help") words || has_word (codes "-h") 
 -- profile: the program with its version, and its commands
 unfoldable pub usage_text : List ℕ
 usage_text =
-    codes "targetd 0.1.0\n"
+    codes "targetd 1.0.0\n"
     ++ codes "An iSCSI target (RFC 7143) for disks and tape drives.\n"
     ++ codes "\n"
     ++ codes "Usage:\n"

@@ -4,7 +4,7 @@ ghost use Rattle.std.specs.Prelude.{◌≡◌, map};
 ghost use Rattle.command_line.specs.Help.{calls_for_help, has_word as is_among, usage_text};
 
 /// The program with its version, and its commands.
-const USAGE: &str = "targetd 0.1.0\n\
+const USAGE: &str = "targetd 1.0.0\n\
     An iSCSI target (RFC 7143) for disks and tape drives.\n\
     \n\
     Usage:\n\
