@@ -28,9 +28,9 @@ def calls_of(top):
     """Calls of each tool that print something, and the exit status of each."""
     (top / "my.toml").write_text(SOUND, encoding="utf-8")
     (top / "tape").write_bytes(item(b"ab") + b"\0")
-    return [(["explain-config", top / "my.toml"], (0,)), (["explain-config", "--help"], (0,)), (["stop", "--help"], (0,)),
-            (["mend-tape", top / "tape"], (1,)), (["mend-tape", "--help"], (0,)), (["status"], (0, 1, 3, 4)),
-            (["status", "--json"], (0, 1, 3, 4))]
+    return [(["explain-config", top / "my.toml"], (0,)), (["explain-config", "--help"], (0,)), (["import", "--help"], (0,)),
+            (["stop", "--help"], (0,)), (["mend-tape", top / "tape"], (1,)), (["mend-tape", "--help"], (0,)),
+            (["status"], (0, 1, 3, 4)), (["status", "--json"], (0, 1, 3, 4))]
 
 
 def printed_on(stream, top, words):

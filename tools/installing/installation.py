@@ -13,8 +13,8 @@ TOP = Path(__file__).resolve().parents[2]
 PROGRAM = Path(sys.argv[1] if len(sys.argv) > 1 else TOP / "crates/targetd/out/targetd").resolve()
 LIMIT = 20  # seconds that anything here may take, but the demo
 
-COMMANDS = ("explain-config", "mend-tape", "status", "stop")
-EXPLAIN, MEND, STATUS, STOP = (f"bin/targetd-{command}" for command in COMMANDS)
+COMMANDS = ("explain-config", "import", "mend-tape", "status", "stop")
+EXPLAIN, IMPORT, MEND, STATUS, STOP = (f"bin/targetd-{command}" for command in COMMANDS)
 # A configuration with one unit.
 SOUND = ('listen = "127.0.0.1:0"\n[[target]]\nname = "t"\n'
          '[[target.unit]]\nlun = 0\nkind = "disk"\nserial = "A"\nblocks = 8\n')
