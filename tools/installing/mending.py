@@ -1,13 +1,18 @@
-"""targetd-mend-tape: what it says of a tape's file, and where it cuts it."""
+"""targetd-mend-tape: what it says of a tape's file, the records that it gives, and where it cuts it."""
 
 import fcntl
+import io
 import os
 import random
+import re
 import resource
 import signal
 import struct
+import subprocess
+import sys
+import tarfile
 
-from installing.installation import LIMIT, MEND, installed, ran
+from installing.installation import LIMIT, MEND, TOP, installed, ran
 from running import server
 from sockets.tape_files import CAPACITY, UNITS, item
 
@@ -178,6 +183,79 @@ def looks_at_no_file_that_is_locked_or_cannot_be_opened():
         assert told(top, "--help")[0] == 0
 
 
+def given(top, *words, stdout=subprocess.PIPE):
+    """The status of targetd-mend-tape, the bytes that it gives, and its fault."""
+    ended = subprocess.run([top / MEND, *map(str, words)], stdout=stdout, stderr=subprocess.PIPE, timeout=LIMIT, check=False)
+    return ended.returncode, ended.stdout, ended.stderr.decode("utf-8")
+
+
+def lists_and_gives_each_item_also_of_a_torn_tape():
+    every = [b"ab", b"", RECORD, b"", b""]  # of WHOLE
+    with installed() as top:
+        path = top / "tape"
+        for end, status in ((b"", 0), (item(RECORD)[:-1], 1)):
+            path.write_bytes(WHOLE + end)
+            found = told(top, "--list", path)
+            assert found[0] == status and found[2] == "" and found[1][5:] == told(top, path)[1], found
+            place = 4
+            for number, data in enumerate(every):
+                kind = "record" if data else "filemark"
+                assert found[1][number] == f"{number} {kind} {len(data)} {place}", found
+                assert WHOLE[place:place + len(data)] == data
+                assert given(top, "--extract", number, path) == (0, data, ""), number
+                place += len(data) + 8
+            for number in (5, 10 ** 18):
+                assert given(top, "--extract", number, path) == (
+                    1, b"", f"{path}: there is no item {number} that is whole\n"), number
+        path.write_bytes(b"")
+        assert told(top, "--list", path) == (0, [f"{path}: 0 records and 0 filemarks in 0 bytes"], "")
+        assert given(top, "--extract", 0, path)[:2] == (1, b"")
+
+
+def gives_bytes_as_they_are_and_tells_where_they_cannot_be_written():
+    noise = random.Random(5).randbytes(1 << 20)
+    with installed() as top:
+        path = top / "tape"
+        path.write_bytes(item() * 100_000 + item(noise) + item(b"\xff"))
+        assert given(top, "--extract", 100_000, path) == (0, noise, "")
+        assert given(top, "--extract", 100_001, path) == (0, b"\xff", "")
+        with open("/dev/full", "wb") as full:
+            line = "targetd-mend-tape: standard output cannot be written: No space left on device\n"
+            for words in (["--extract", 100_000], ["--list"]):
+                assert given(top, *words, path, stdout=full)[::2] == (3, line), words
+        reading, writing = os.pipe()
+        os.close(reading)
+        for words in (["--extract", 100_000], ["--list"]):
+            assert given(top, *words, path, stdout=writing)[::2] == (0, ""), words
+        os.close(writing)
+        with path.open("rb") as locked:
+            fcntl.flock(locked, fcntl.LOCK_EX)
+            for words in (["--extract", 0], ["--list"]):
+                assert given(top, *words, path)[:2] == (3, b""), words
+        for words in (["--list"], ["--extract", path], ["--extract", "-1", path], ["--list", "--extract", "0", path],
+                      ["--list", "--cut", path], ["--extract", "0"]):
+            assert told(top, *words)[:2] == (2, []), words
+
+
+def gives_an_archive_by_the_program_of_the_page():
+    page = (TOP / "docs/TAPE_FORMAT.md").read_text(encoding="utf-8")
+    program = next(block for block in re.findall(r"^```\n(.*?)^```$", page, re.MULTILINE | re.DOTALL) if "import sys" in block)
+    rows = next(block for block in re.findall(r"^```\n(.*?)^```$", page, re.MULTILINE | re.DOTALL) if "item 0" in block)
+    assert bytes.fromhex("".join(re.findall(r"\b[0-9a-f]{2}\b", rows))) == item(b"ab") + item() + item(b"xyz")
+    held = io.BytesIO()
+    with tarfile.open(fileobj=held, mode="w") as archive:
+        archive.add(TOP / "README.md", "README.md")
+    archive = held.getvalue()
+    with installed() as top:
+        path = top / "tape"
+        records = [archive[at:at + 10240] for at in range(0, len(archive), 10240)]
+        path.write_bytes(item(b"first") + item() + b"".join(map(item, records)) + item() * 2)
+        for number, data in enumerate((b"first", archive, b"", b"")):
+            ended = subprocess.run([sys.executable, "-c", program, path, str(number)], capture_output=True, timeout=LIMIT,
+                                   check=True)
+            assert ended.stdout == data, number
+
+
 def reads_16_million_filemarks_in_a_few_seconds():
     with installed() as top:
         path = top / "tape"
@@ -212,6 +290,9 @@ CHECKS = [
     keeps_what_it_cuts_for_the_owner_of_the_tape_alone,
     cuts_a_tape_so_that_targetd_serves_it,
     looks_at_no_file_that_is_locked_or_cannot_be_opened,
+    lists_and_gives_each_item_also_of_a_torn_tape,
+    gives_bytes_as_they_are_and_tells_where_they_cannot_be_written,
+    gives_an_archive_by_the_program_of_the_page,
     reads_16_million_filemarks_in_a_few_seconds,
     reads_20_gb_of_records_in_a_few_seconds,
 ]

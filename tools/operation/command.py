@@ -35,6 +35,18 @@ def say(text):
         raise Unwritten(f"standard output cannot be written: {error.strerror}") from None
 
 
+def give(data):
+    """Writes bytes on standard output. Where its reader has ended, they go nowhere."""
+    try:
+        sys.stdout.buffer.write(data)
+        sys.stdout.buffer.flush()
+    except BrokenPipeError:
+        drop(sys.stdout)
+    except OSError as error:
+        drop(sys.stdout)
+        raise Unwritten(f"standard output cannot be written: {error.strerror}") from None
+
+
 def tell(why):
     """Prints one line on standard error, with the name of the tool in front."""
     print(f"{name()}: {why}", file=sys.stderr)

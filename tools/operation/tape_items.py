@@ -1,5 +1,5 @@
-"""The items of a tape in a file (docs/PROFILE.md, "Units"): each has its length in 4 bytes, its data, and its length
-again. A filemark has length 0."""
+"""The items of a tape in a file (docs/TAPE_FORMAT.md): each has its length in 4 bytes, its data, and its length again. A
+filemark has length 0."""
 
 import os
 import re
@@ -19,6 +19,17 @@ class Items(NamedTuple):
     end: int
     size: int
     fault: str
+
+
+class Run(NamedTuple):
+    """A record, or filemarks that follow one another: where it begins, the length of each item, and how many they are."""
+    place: int
+    length: int
+    count: int
+
+    def end(self):
+        """Where it ends."""
+        return self.place + self.count * (self.length + LENGTHS)
 
 
 class Pieces:
@@ -66,18 +77,34 @@ def fault_at(pieces, place, size, length):
     return f"{before} and the second length {again}" if again != length else ""
 
 
-def items_of(file, size=None):
-    """The items of a file that is open for reading, or of this many bytes at its front."""
-    pieces, size = Pieces(file), file.seek(0, os.SEEK_END) if size is None else size
-    records = filemarks = end = 0
+def runs_of(pieces, size):
+    """Each record and each run of filemarks from the front of a file on, up to where no whole item begins."""
+    end = 0
     while end < size:
         length = pieces.number(end)
-        fault = fault_at(pieces, end, size, length)
-        if fault:
-            return Items(records, filemarks, end, size, fault)
-        if length:
-            records, end = records + 1, end + length + LENGTHS
-        else:
-            found = max(1, min(pieces.filemarks(end), (size - end) // LENGTHS))
-            filemarks, end = filemarks + found, end + found * LENGTHS
-    return Items(records, filemarks, end, size, "")
+        if fault_at(pieces, end, size, length):
+            return
+        run = Run(end, length, 1 if length else max(1, min(pieces.filemarks(end), (size - end) // LENGTHS)))
+        yield run
+        end = run.end()
+
+
+def items_of(file, size=None, see=lambda run: None):
+    """The items of a file that is open for reading, or of this many bytes at its front. Each run of them is seen in turn."""
+    pieces, size = Pieces(file), file.seek(0, os.SEEK_END) if size is None else size
+    records = filemarks = end = 0
+    for run in runs_of(pieces, size):
+        see(run)
+        records, filemarks = records + bool(run.length), filemarks + (0 if run.length else run.count)
+        end = run.end()
+    return Items(records, filemarks, end, size, fault_at(pieces, end, size, pieces.number(end)) if end < size else "")
+
+
+def data_of(file, number):
+    """The data of item N, counted from 0 over records and filemarks, which is empty of a filemark; or nothing."""
+    first = 0
+    for run in runs_of(Pieces(file), file.seek(0, os.SEEK_END)):
+        if first <= number < first + run.count:
+            return os.pread(file.fileno(), run.length, run.place + LENGTH)
+        first += run.count
+    return None
