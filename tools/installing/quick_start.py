@@ -18,9 +18,10 @@ LIMIT_OF_DEMO = 1200  # seconds: it builds the program
 LISTENS = "listening on 127.0.0.1:3260"
 
 
-def blocks():
-    """The blocks of code of README, in order."""
-    return re.findall(r"^```\n(.*?)^```$", (TOP / "README.md").read_text(encoding="utf-8"), re.MULTILINE | re.DOTALL)
+def block(begun):
+    """The block of code of README that begins so."""
+    found = re.findall(r"^```\n(.*?)^```$", (TOP / "README.md").read_text(encoding="utf-8"), re.MULTILINE | re.DOTALL)
+    return next(lines for lines in found if lines.startswith(begun))
 
 
 @contextmanager
@@ -74,17 +75,17 @@ def runs_as_readme_has_it_line_by_line():
         socket.create_server(("127.0.0.1", 3260)).close()
     except OSError:
         raise Skipped("port 3260 that is free") from None
-    start, *others = blocks()
+    start = block("make demo\n")
     name = re.search('name = "(.*)"', start)[1]
     with own_tree() as room:
         before = set(os.listdir(room))
         with served_by(start, room) as printed:
             assert logs_in_to(name) and not logs_in_to(f"{name}2")
             if shutil.which("qemu-img"):
-                status, _, fault = ran(*others[0].split())
+                status, _, fault = ran(*block("qemu-img ").split())
                 assert status == 0 or "Unknown protocol" in fault, fault  # QEMU has its iSCSI in a package of its own
         assert set(os.listdir(room)) == before, "it leaves files in the tree"
-        shows(printed, next(block for block in others if block.startswith("> open 0\n")).splitlines())
+        shows(printed, block("> open 0\n").splitlines())
 
 
 CHECKS = [runs_as_readme_has_it_line_by_line]
