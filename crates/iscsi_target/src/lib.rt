@@ -16,11 +16,12 @@
 //! - A [`Target`] answers what a plainly defined machine answers, the World of `specs/World.antt` (clauses `stands`).
 //!   This holds for every list of openings, pieces of bytes and closings on up to 64 connections. It holds as long as
 //!   the stores of its units are honest and no call of one has failed.
-//! - If an allocation fails, one connection closes between two steps. Each request was done and answered whole or did
-//!   nothing, and all other connections go on (`starved`).
-//! - If no allocation fails, other connections change neither the answers of the connections that name a target, nor
-//!   its units ([`laws::targets_are_isolated`]).
-//! - No connection makes the target hold more than 67,108,864 bytes ([`laws::calls_keep_bounded`]).
+//! - If allocations fail, each connection for which one failed closes between two steps. Each request was done and
+//!   answered whole or did nothing, and the other connections go on (`starved`).
+//! - If no allocation fails, and the stores of a target's units are sound, other connections change neither the answers
+//!   of the connections that name it, nor its units ([`laws::targets_are_isolated`]).
+//! - On each connection, the bytes that wait and 1,310,720 for each request held or unfinished are at most 67,108,864,
+//!   if no more is fed than is wanted ([`laws::calls_keep_bounded`]). The keys of a login are not counted.
 #![tactic(auto)]
 
 mod config;
