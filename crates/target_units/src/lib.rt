@@ -7,9 +7,9 @@
 //!   lun = 3  kind = "tape"  .., file = "t"      the records and filemarks that the file holds
 //! ```
 //!
-//! Promised, and proved: [`open`] gives the targets of a configuration with these units, each free of initiators, or tells
-//! the first unit whose file cannot be opened or does not hold such a medium. What each file holds as it is opened is a
-//! parameter of the contracts (`Start`).
+//! Promised, and proved: [`open`] returns the targets of a configuration with these units, each free of initiators, or a
+//! fault that names a unit in a file, or an allocation failed. That this file cannot be opened, or holds no such medium,
+//! is only tested. What each file holds as it is opened is a parameter of the contracts (`Start`).
 #![tactic(auto)]
 
 mod cause;
