@@ -1,0 +1,75 @@
+"""The page of the wrong bodies, which is made of the comments that they begin with."""
+
+import re
+from pathlib import Path
+
+TOP = Path(__file__).resolve().parent.parent.parent
+PAGE = "docs/WRONG_BODIES.md"
+MOST = 100  # each costs a check of its crate
+GROUPS = (
+    "Commands",
+    "Numbers and tags",
+    "Data of writes",
+    "Task Management",
+    "Frames, violations, isolation",
+    "The program",
+    "Media",
+    "Reservations",
+    "Failures",
+    "The loop",
+)
+BEGINNING = re.compile(r"# (?P<words>[A-Z].*[^.\n])\n# group: (?P<group>.+)\nfile: ")
+HEAD = f"""# Wrong bodies
+
+A contract is only as good as what it refuses. Each file `NAME.edit` in the folder `must-fail` of a crate changes a line or two of its code. The result is what somebody could write in good faith, and it would lose, repeat or misplace data or report the wrong thing. `rt ci` checks that the prover refuses each. There are at most {MOST}, as each costs a check of its crate: they cover what the promises name, and holes that a contract once had. `rt plant` makes up others by the hundred ([PROGRESS](dev/PROGRESS.md#owed-besides)).
+
+`tools/wrong-bodies` makes this page of the comments that the edits begin with; [CONTRIBUTING](../CONTRIBUTING.md#a-wrong-body) says how to add one.
+
+| Wrong body | What it gets wrong | Crate |
+|---|---|---|
+"""
+
+
+def crates():
+    """Returns the crates in the order of crates.txt."""
+    lines = (TOP / "crates.txt").read_text(encoding="utf-8").splitlines()
+    return [line.partition(":")[0] for line in lines if line and not line.startswith("#")]
+
+
+def edits():
+    """Returns the files of the wrong bodies, by crate and name."""
+    order = crates()
+    found = TOP.glob("crates/*/must-fail/*.edit")
+    return sorted(found, key=lambda file: (order.index(file.parts[-3]), file.stem))
+
+
+def read():
+    """Returns the rows of each group, and what is wrong with the comment of an edit."""
+    rows, faults = {group: [] for group in GROUPS}, []
+    for file in edits():
+        begins = BEGINNING.match(file.read_text(encoding="utf-8"))
+        if begins is None:
+            faults.append(f"{file.relative_to(TOP)} is to begin with `# What it gets wrong`, without a full stop, and"
+                          " `# group: GROUP`")
+        elif begins["group"] not in rows:
+            faults.append(f"{file.relative_to(TOP)}: its group is to be one of {'; '.join(GROUPS)}")
+        else:
+            rows[begins["group"]].append(f"| `{file.stem}` | {begins['words']} | `{file.parts[-3]}` |\n")
+    return rows, faults
+
+
+def page(rows):
+    """Returns the page with these rows."""
+    parts = (f"| **{group}** | | |\n" + "".join(rows[group]) for group in GROUPS if rows[group])
+    return HEAD + "".join(parts)
+
+
+def check():
+    """Returns the names of the wrong bodies, and what is wrong with their comments or with the page."""
+    rows, faults = read()
+    names = {(file.stem, file.parts[-3]) for file in edits()}
+    if not faults and (TOP / PAGE).read_text(encoding="utf-8") != page(rows):
+        faults.append(f"{PAGE} is not what the edits say: run tools/wrong-bodies")
+    if len(names) > MOST:
+        faults.append(f"there are {len(names)} wrong bodies, and at most {MOST} are to be")
+    return names, faults
