@@ -30,10 +30,15 @@ A contract is only as good as what it refuses. Each file `NAME.edit` in the fold
 """
 
 
+def lines_of_crates():
+    """Returns the lines of crates.txt, each a crate with those below it."""
+    lines = (TOP / "crates.txt").read_text(encoding="utf-8").splitlines()
+    return [line for line in lines if line and not line.startswith("#")]
+
+
 def crates():
     """Returns the crates in the order of crates.txt."""
-    lines = (TOP / "crates.txt").read_text(encoding="utf-8").splitlines()
-    return [line.partition(":")[0] for line in lines if line and not line.startswith("#")]
+    return [line.partition(":")[0] for line in lines_of_crates()]
 
 
 def edits():
