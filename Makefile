@@ -55,6 +55,7 @@ linux:
 # What commands cost and how fast they are answered, beside tgt and plain C programs, and what of that is aimed at.
 # Installs the Debian packages libiscsi-bin, qemu-utils, qemu-block-extra and tgt where missing. Takes about ten minutes.
 # PARTS names those parts that are to be measured alone, as in PARTS=fairness (tools/bench says which there are).
+# Whether a change made the code faster is answered by `bench/run OLD NEW`, over two checkouts and without sockets.
 PARTS =
 
 bench:
