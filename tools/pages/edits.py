@@ -21,7 +21,7 @@ GROUPS = (
 BEGINNING = re.compile(r"# (?P<words>[A-Z].*[^.\n])\n# group: (?P<group>.+)\nfile: ")
 HEAD = f"""# Wrong bodies
 
-A contract is only as good as what it refuses. Each file `NAME.edit` in the folder `must-fail` of a crate changes a line or two of its code. The result is what somebody could write in good faith, and it would lose, repeat or misplace data or report the wrong thing. `rt ci` checks that the prover refuses each. There are at most {MOST}, as each costs a check of its crate: they cover what the promises name, and holes that a contract once had. `rt plant` makes up others by the hundred ([PROGRESS](dev/PROGRESS.md#owed-besides)).
+A contract is only as good as what it refuses. Each file `NAME.edit` in the folder `must-fail` of a crate changes a line or two of its code. The result is what somebody could write in good faith, and it would lose, repeat or misplace data or report the wrong thing. `rt ci` checks that the prover refuses each. There are at most {MOST}, as each costs a check of its crate. They cover what the promises name, and holes that a contract once had. `rt plant` makes up others by the hundred ([PROGRESS](dev/PROGRESS.md#owed-besides)).
 
 `tools/wrong-bodies` makes this page of the comments that the edits begin with; [CONTRIBUTING](../CONTRIBUTING.md#a-wrong-body) says how to add one.
 
