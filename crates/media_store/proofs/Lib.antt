@@ -1,5 +1,6 @@
 pub mod Writes
 pub mod Joined
+pub mod Ended
 pub mod PartsRead
 pub mod PartsWritten
 pub mod Tries

@@ -1,7 +1,7 @@
 -- What a store says of a call, from what the whole read or write behind it was.
-use Rattle.std.proofs.Common.{◌≡◌, ℕ, ◌+◌, ◌&&◌, Bool, true, IsTrue, List, length, take, slice_range, refl, sym, ◌∙◌, ap, arith, rules, Result, Ok, Err, is_ok, IsErr, OnOk, OnErr, MatchResult, bytes_eq}
+use Rattle.std.proofs.Common.{◌≡◌, ℕ, ◌+◌, ◌&&◌, Bool, true, IsTrue, List, length, take, slice_range, refl, sym, ◌∙◌, ap, arith, rules, Result, Ok, Err, is_ok, OnOk, OnErr, bytes_eq}
 use Rattle.std.proofs.lemmas.List.{take_all, places}
-use Rattle.std.proofs.lemmas.Bool.{and_parts, false≢true}
+use Rattle.std.proofs.lemmas.Bool.{and_parts}
 use Rattle.std.proofs.lemmas.Slice.Eq.{bytes_eq-Decides}
 use Rattle.media_store.specs.Calls.{FileCall, Read}
 use Rattle.media_store.specs.Content.{written, KeepsOutside}
@@ -10,12 +10,6 @@ use Rattle.media_store.specs.Replay.{Origin, content_of, agrees, is_honest}
 use Rattle.media_store.specs.Whole.{HasRead, HasWritten}
 use Rattle.media_store.proofs.PartsWritten.{KeepsOutside-written}
 use Rattle.media_store.proofs.Joined.{and_true}
-
-pub ok-counted : {T E F : Type 0} (outcome : Result T E) (result : Result T F)
-    → MatchResult outcome (λ value. result ≡ Ok value) (λ _. IsErr result) → is_ok result ≡ is_ok outcome
-ok-counted (Ok value) result is = ap is_ok is
-ok-counted (Err error) (Ok value) is = absurd (false≢true is)
-ok-counted (Err error) (Err other) is = refl
 
 pub OnOk-tested : {T E P : Type 0} (result : Result T E) → (IsTrue (is_ok result) → P) → OnOk result P
 OnOk-tested (Ok value) holds = holds refl

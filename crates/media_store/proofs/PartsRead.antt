@@ -5,7 +5,8 @@ use Rattle.std.proofs.lemmas.Bool.{and_parts, and_from, false≢true}
 use Rattle.std.proofs.lemmas.Slice.Eq.{bytes_eq-Decides}
 use Rattle.media_store.proofs.Joined.{same_test, and_true, and_assoc}
 use Rattle.media_store.specs.Whole.{HasRead}
-use Rattle.media_store.specs.Calls.{FileCall, Read, NotRead}
+use Rattle.media_store.specs.Calls.{FileCall, Read, NotRead, GaveUp}
+use Rattle.media_store.specs.Ends.{HasEnded, is_far}
 use Rattle.media_store.specs.Replay.{Origin, content_of, agrees, is_honest, is_synced}
 
 -- so many bytes have come into the front of a buffer
@@ -69,34 +70,44 @@ HasComeTo-more origin at buffer after part done end old now within is parts come
     }
 
 -- a call fails
-pub HasComeTo-again : (origin : Origin) (at : ℕ) (buffer after : List ℕ) (done from count : ℕ) (old now : List FileCall)
+pub HasComeTo-again : (origin : Origin) (at : ℕ) (buffer after : List ℕ) (done from count : ℕ) (interrupted : Bool) (old now : List FileCall)
     → take done after ≡ take done buffer
-    → HasComeTo origin at buffer done old now → HasComeTo origin at after done old (NotRead from count ∷ now)
-HasComeTo-again origin at buffer after done from count old now same come = record {
+    → HasComeTo origin at buffer done old now → HasComeTo origin at after done old (NotRead from count interrupted ∷ now)
+HasComeTo-again origin at buffer after done from count interrupted old now same come = record {
   content = come.content;
   honest = rw same (and_true _ ∙ come.honest);
   synced = come.synced;
 }
 
+-- no further call is made
+pub HasComeTo-end : (origin : Origin) (at : ℕ) (buffer : List ℕ) (done : ℕ) (old now : List FileCall)
+    → HasComeTo origin at buffer done old now → HasComeTo origin at buffer done old (GaveUp ∷ now)
+HasComeTo-end origin at buffer done old now come =
+    record { content = come.content; honest = and_true _ ∙ come.honest; synced = come.synced }
+
 -- all bytes have come, or some have not
 pub HasRead-whole : (origin : Origin) (at : ℕ) (buffer : List ℕ) (done : ℕ) (ok : Bool) (old now : List FileCall)
-    → done ≡ length buffer → HasComeTo origin at buffer done old now → HasRead origin at buffer ok old now
-HasRead-whole origin at buffer done ok old now all come = record {
+    → done ≡ length buffer → HasEnded ok (is_far at (length buffer)) old now
+    → HasComeTo origin at buffer done old now → HasRead origin at buffer ok old now
+HasRead-whole origin at buffer done ok old now all ended come = record {
   count = done;
   within = omega (arith, all);
   whole = λ _. all;
   content = come.content;
   honest = come.honest;
   synced = come.synced;
+  ended = ended;
 }
 
 pub HasRead-part : (origin : Origin) (at : ℕ) (buffer : List ℕ) (done : ℕ) (old now : List FileCall)
-    → done ≤ length buffer → HasComeTo origin at buffer done old now → HasRead origin at buffer false old now
-HasRead-part origin at buffer done old now within come = record {
+    → done ≤ length buffer → HasEnded false (is_far at (length buffer)) old now
+    → HasComeTo origin at buffer done old now → HasRead origin at buffer false old now
+HasRead-part origin at buffer done old now within ended come = record {
   count = done;
   within = within;
   whole = λ h. absurd (false≢true h);
   content = come.content;
   honest = come.honest;
   synced = come.synced;
+  ended = ended;
 }

@@ -3,7 +3,8 @@ use Rattle.std.proofs.Common.{◌≡◌, ℕ, ◌+◌, ◌-◌, min, max, nat_lt
 use Rattle.std.proofs.lemmas.List.{append-nil, append_assoc, nil_from_length, take_min, take_all, same_lists, places, take_at}
 use Rattle.std.proofs.lemmas.Bool.{cases_lt, false≢true}
 use Rattle.media_store.specs.Content.{resized, overlaid, written, KeepsOutside, KeepsFront}
-use Rattle.media_store.specs.Calls.{FileCall, Wrote, NotWritten}
+use Rattle.media_store.specs.Calls.{FileCall, Wrote, NotWritten, GaveUp}
+use Rattle.media_store.specs.Ends.{HasEnded, is_far}
 use Rattle.media_store.specs.Replay.{Origin, content_of, is_honest, path_of, is_synced}
 use Rattle.media_store.specs.Whole.{HasWritten}
 use Rattle.media_store.proofs.Writes.{written-some}
@@ -199,33 +200,54 @@ put-more origin at bytes part done end old now after within few p far front cont
   honest = honest ∙ p.honest;
 }
 
-pub HasPutTo-more : (origin : Origin) (at : ℕ) (bytes part : List ℕ) (done end : ℕ) (old now : List FileCall)
+pub HasPutTo-more : (origin : Origin) (at : ℕ) (bytes part : List ℕ) (done end count : ℕ) (old now : List FileCall)
     → done ≤ length bytes → end ≡ done + length part → end ≤ length bytes → take end bytes ≡ take done bytes ++ part
-    → HasPutTo origin at bytes done old now → HasPutTo origin at bytes end old (Wrote (at + done) part ∷ now)
-HasPutTo-more origin at bytes part done end old now within is few parts p =
-    put-more origin at bytes part done end old now (Wrote (at + done) part ∷ now) within (omega arith) p
+    → HasPutTo origin at bytes done old now → HasPutTo origin at bytes end old (Wrote (at + done) part count ∷ now)
+HasPutTo-more origin at bytes part done end count old now within is few parts p =
+    put-more origin at bytes part done end old now (Wrote (at + done) part count ∷ now) within (omega arith) p
     (omega (arith, length-written done part p.put p.below))
     (take-written done end p.put part bytes p.below is p.front parts) refl (and_true (is_honest origin now))
 
-pub HasPutTo-again : (origin : Origin) (at : ℕ) (bytes : List ℕ) (done count : ℕ) (old now : List FileCall)
+pub HasPutTo-again : (origin : Origin) (at : ℕ) (bytes : List ℕ) (done count : ℕ) (interrupted : Bool) (old now : List FileCall)
     → done ≤ length bytes → count ≡ length bytes - done
-    → HasPutTo origin at bytes done old now → HasPutTo origin at bytes done old (NotWritten (at + done) count ∷ now)
-HasPutTo-again origin at bytes done count old now within is p =
+    → HasPutTo origin at bytes done old now → HasPutTo origin at bytes done old (NotWritten (at + done) count interrupted ∷ now)
+HasPutTo-again origin at bytes done count interrupted old now within is p =
     let part = take count (origin.torn (path_of now) (length now)) in
     let few : length part ≤ count = search (rules, places) in
-    put-more origin at bytes part done done old now (NotWritten (at + done) count ∷ now) within (omega arith) p
+    put-more origin at bytes part done done old now (NotWritten (at + done) count interrupted ∷ now) within (omega arith) p
     (omega (arith, length-written done part p.put p.below, p.below))
     (take-kept done part p.put p.below ∙ p.front) refl (and_true (is_honest origin now))
 
+-- no further call is made
+pub HasPutTo-end : (origin : Origin) (at : ℕ) (bytes : List ℕ) (done : ℕ) (old now : List FileCall)
+    → HasPutTo origin at bytes done old now → HasPutTo origin at bytes done old (GaveUp ∷ now)
+HasPutTo-end origin at bytes done old now p = record {
+  put = p.put;
+  within = p.within;
+  below = p.below;
+  front = p.front;
+  content = p.content;
+  honest = and_true _ ∙ p.honest;
+}
+
 -- all bytes are written, or some are not
 pub HasWritten-whole : (origin : Origin) (at : ℕ) (bytes : List ℕ) (done : ℕ) (ok : Bool) (old now : List FileCall)
-    → length bytes ≤ done → is_synced now ≡ false → HasPutTo origin at bytes done old now → HasWritten origin at bytes ok old now
-HasWritten-whole origin at bytes done ok old now all synced p =
+    → length bytes ≤ done → is_synced now ≡ false → HasEnded ok (is_far at (length bytes)) old now
+    → HasPutTo origin at bytes done old now → HasWritten origin at bytes ok old now
+HasWritten-whole origin at bytes done ok old now all synced ended p =
     let long : length p.put ≤ done = omega (arith, p.within) in
     let same : p.put ≡ bytes = sym (take_all done p.put long) ∙ p.front ∙ take_all done bytes all in
-    record { put = p.put; within = p.within; whole = λ _. same; content = p.content; honest = p.honest; synced = synced }
+    record { put = p.put; within = p.within; whole = λ _. same; content = p.content; honest = p.honest; synced = synced; ended = ended }
 
 pub HasWritten-part : (origin : Origin) (at : ℕ) (bytes : List ℕ) (done : ℕ) (old now : List FileCall)
-    → is_synced now ≡ false → HasPutTo origin at bytes done old now → HasWritten origin at bytes false old now
-HasWritten-part origin at bytes done old now synced p =
-    record { put = p.put; within = p.within; whole = λ h. absurd (false≢true h); content = p.content; honest = p.honest; synced = synced }
+    → is_synced now ≡ false → HasEnded false (is_far at (length bytes)) old now
+    → HasPutTo origin at bytes done old now → HasWritten origin at bytes false old now
+HasWritten-part origin at bytes done old now synced ended p = record {
+  put = p.put;
+  within = p.within;
+  whole = λ h. absurd (false≢true h);
+  content = p.content;
+  honest = p.honest;
+  synced = synced;
+  ended = ended;
+}

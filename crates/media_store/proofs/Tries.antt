@@ -1,89 +1,108 @@
 -- Calls that are made again, and what a store says of them.
-use Rattle.std.proofs.Common.{◌≡◌, ℕ, zero, suc, ◌<◌, ◌≤◌, ◌==◌, ◌&&◌, min, max, Bool, true, false, if◌then◌else◌, IsTrue, List, ◌∷◌, ◌++◌, length, replicate, refl, sym, ◌∙◌, ap, arith, rules, Result, Ok, Err, is_ok, IsErr, IfOk, OnOk, OnErr, MatchResult}
+use Rattle.std.proofs.Common.{◌≡◌, ℕ, zero, suc, ◌-◌, ◌^◌, ◌<◌, ◌≤◌, ◌==◌, ◌&&◌, min, max, Bool, true, false, if◌then◌else◌, IsTrue, List, ◌∷◌, ◌++◌, length, replicate, refl, sym, ◌∙◌, ap, arith, rules, Result, Ok, Err, is_ok, IfOk, OnOk, OnErr}
 use Rattle.std.proofs.lemmas.List.{places, same_lists}
-use Rattle.std.proofs.lemmas.Bool.{and_parts, false≢true}
+use Rattle.std.proofs.lemmas.Bool.{and_parts}
 use Rattle.std.proofs.lemmas.Bool.Decides.{Decides-eqb}
-use Rattle.media_store.specs.Again.{HasTried}
-use Rattle.media_store.specs.Calls.{FileCall, NotMeasured, NotResized, NotSynced, measuring, resizing, syncing}
+use Rattle.media_store.specs.Again.{HasTried, HasFailed, Refused, GivenUp, Tries}
+use Rattle.media_store.specs.Calls.{FileCall, Measured, NotMeasured, Resized, NotResized, Synced, NotSynced, GaveUp}
 use Rattle.media_store.specs.Content.{resized, KeepsFront}
-use Rattle.media_store.specs.Replay.{Origin, content_of, agrees, is_honest, is_synced, torn_length}
+use Rattle.media_store.specs.Ends.{failed_calls}
+use Rattle.media_store.specs.Failures.{risen, counted}
+use Rattle.media_store.specs.Replay.{Origin, content_of, is_honest, is_synced, torn_length}
 use Rattle.media_store.proofs.PartsWritten.{KeepsFront-resized}
 use Rattle.media_store.proofs.Joined.{and_true}
 
--- all of so many calls failed
-pub HasTried-failed : (failed : FileCall) (times : ℕ) (old new : List FileCall)
-    → 0 < times → new ≡ replicate times failed ++ old → HasTried failed failed old new
-HasTried-failed failed zero old new some is = absurd (omega (arith, some))
-HasTried-failed failed (suc times) old new some is = record { times = times; calls = is }
+-- so many calls were interrupted, and no further one was made
+pub HasFailed-given-up : (note : Bool → FileCall) (times : ℕ) (old before now : List FileCall) → times ≡ 2 ^ 64 - 1
+    → before ≡ replicate times (note true) ++ old → now ≡ GaveUp ∷ before → HasFailed note old now
+HasFailed-given-up note times old before now all is calls =
+    GivenUp (record { times = times; calls = calls ∙ ap (λ (xs : List FileCall). GaveUp ∷ xs) is }) all
 
--- what no single failed call changes, none of them changes
-kept : {X : Type 0} (f : List FileCall → X) (failed : FileCall) → ((calls : List FileCall) → f (failed ∷ calls) ≡ f calls)
-    → (times : ℕ) (old : List FileCall) → f (replicate times failed ++ old) ≡ f old
-kept f failed keeps zero old = refl
-kept f failed keeps (suc times) old = keeps (replicate times failed ++ old) ∙ kept f failed keeps times old
+-- what no single interrupted call changes, none of them changes
+kept : {X : Type 0} (f : List FileCall → X) (call : FileCall) → ((calls : List FileCall) → f (call ∷ calls) ≡ f calls)
+    → (times : ℕ) (old : List FileCall) → f (replicate times call ++ old) ≡ f old
+kept f call keeps zero old = refl
+kept f call keeps (suc times) old = keeps (replicate times call ++ old) ∙ kept f call keeps times old
+
+module _ {T E : Type 0} (done : T → FileCall) (note : Bool → FileCall) (old now : List FileCall) where
+  -- what no note changes
+  tries-kept : {X : Type 0} (f : List FileCall → X) → ((value : T) (calls : List FileCall) → f (done value ∷ calls) ≡ f calls)
+      → ((interrupted : Bool) (calls : List FileCall) → f (note interrupted ∷ calls) ≡ f calls)
+      → ((calls : List FileCall) → f (GaveUp ∷ calls) ≡ f calls)
+      → (result : Result T E) → Tries done note result old now → f now ≡ f old
+  tries-kept f by-done by-note by-end (Ok value) tried = rw tried.calls (by-done value _ ∙ kept f (note true) (by-note true) tried.times old)
+  tries-kept f by-done by-note by-end (Err error) (Refused tried) = rw tried.calls (by-note false _ ∙ kept f (note true) (by-note true) tried.times old)
+  tries-kept f by-done by-note by-end (Err error) (GivenUp tried all) = rw tried.calls (by-end _ ∙ kept f (note true) (by-note true) tried.times old)
+
+  tries-counted : ((value : T) (calls : List FileCall) → failed_calls (done value ∷ calls) ≡ failed_calls calls)
+      → ((calls : List FileCall) → failed_calls (note true ∷ calls) ≡ failed_calls calls)
+      → ((calls : List FileCall) → failed_calls (note false ∷ calls) ≡ risen (failed_calls calls))
+      → (result : Result T E) → Tries done note result old now → failed_calls now ≡ counted result (failed_calls old)
+  tries-counted by-done interrupted failed (Ok value) tried = rw tried.calls (by-done value (replicate tried.times (note true) ++ old) ∙ kept failed_calls (note true) interrupted tried.times old)
+  tries-counted by-done interrupted failed (Err error) (Refused tried) =
+      rw tried.calls (failed (replicate tried.times (note true) ++ old) ∙ ap risen (kept failed_calls (note true) interrupted tried.times old))
+  tries-counted by-done interrupted failed (Err error) (GivenUp tried all) =
+      rw tried.calls (ap risen (kept failed_calls (note true) interrupted tried.times old))
 
 -- ---- the end is told
 
-module _ {E : Type 0} (origin : Origin) (old : List FileCall) where
-  content-last : (outcome : Result ℕ E) (calls : List FileCall)
-      → content_of origin (measuring outcome ∷ calls) ≡ content_of origin calls
-  content-last (Ok len) calls = refl
-  content-last (Err error) calls = refl
-
-  pub measured-content : (outcome : Result ℕ E) (now : List FileCall)
-      → HasTried NotMeasured (measuring outcome) old now → content_of origin now ≡ content_of origin old
-  measured-content outcome now tried =
-      rw tried.calls (content-last outcome (replicate tried.times NotMeasured ++ old)
-      ∙ kept (content_of origin) NotMeasured (λ calls. refl) tried.times old)
-
-  synced-last : (outcome : Result ℕ E) (calls : List FileCall) → is_synced (measuring outcome ∷ calls) ≡ is_synced calls
-  synced-last (Ok len) calls = refl
-  synced-last (Err error) calls = refl
-
-  pub measured-synced : (outcome : Result ℕ E) (now : List FileCall)
-      → HasTried NotMeasured (measuring outcome) old now → is_synced now ≡ is_synced old
-  measured-synced outcome now tried =
-      rw tried.calls (synced-last outcome (replicate tried.times NotMeasured ++ old)
-      ∙ kept is_synced NotMeasured (λ calls. refl) tried.times old)
-
+module _ (origin : Origin) (old now : List FileCall) where
   -- it is as honest as before where the length that was told is that of the content
-  pub measured-honest : (outcome : Result ℕ E) (now : List FileCall) → HasTried NotMeasured (measuring outcome) old now
-      → is_honest origin now ≡ (is_honest origin old && agrees (measuring outcome) (content_of origin old))
-  measured-honest outcome now tried =
-      let before = replicate tried.times NotMeasured ++ old in
+  told : (len : ℕ) → HasTried (NotMeasured true) (Measured len) old now
+      → is_honest origin now ≡ (is_honest origin old && len == length (content_of origin old))
+  told len tried =
+      let before = replicate tried.times (NotMeasured true) ++ old in
       let honest : is_honest origin before ≡ is_honest origin old =
-      kept (is_honest origin) NotMeasured (λ calls. and_true (is_honest origin calls)) tried.times old in
+      kept (is_honest origin) (NotMeasured true) (λ calls. and_true (is_honest origin calls)) tried.times old in
       let content : content_of origin before ≡ content_of origin old =
-      kept (content_of origin) NotMeasured (λ calls. refl) tried.times old in
-      rw tried.calls (ap (λ h. h && agrees (measuring outcome) (content_of origin before)) honest
-      ∙ ap (λ (xs : List ℕ). is_honest origin old && agrees (measuring outcome) xs) content)
+      kept (content_of origin) (NotMeasured true) (λ calls. refl) tried.times old in
+      rw tried.calls (ap (λ h. h && len == length (content_of origin before)) honest
+      ∙ ap (λ (xs : List ℕ). is_honest origin old && len == length xs) content)
 
-module _ {E : Type 0} (content : List ℕ) (honest now : Bool) where
-  pub measured-len : {F : Type 0} (outcome : Result ℕ E) (result : Result ℕ F)
-      → MatchResult outcome (λ len. result ≡ Ok len) (λ _. IsErr result) → now ≡ (honest && agrees (measuring outcome) content)
-      → IfOk result (λ len. IsTrue now → len ≡ length content)
-  measured-len (Ok len) result is stands =
-      rw is (λ told. (Decides-eqb len (length content)).0 (and_parts honest (len == length content) (sym stands ∙ told)).1)
-  measured-len (Err error) (Ok len) is stands = absurd (false≢true is)
-  measured-len (Err error) (Err other) is stands = tt
+  not-told : HasFailed NotMeasured old now → is_honest origin now ≡ is_honest origin old
+  not-told (Refused tried) = rw tried.calls (and_true _
+      ∙ kept (is_honest origin) (NotMeasured true) (λ calls. and_true (is_honest origin calls)) tried.times old)
+  not-told (GivenUp tried all) = rw tried.calls (and_true _
+      ∙ kept (is_honest origin) (NotMeasured true) (λ calls. and_true (is_honest origin calls)) tried.times old)
 
-  pub measured-agreed : {F : Type 0} (outcome : Result ℕ E) (result : Result ℕ F)
-      → MatchResult outcome (λ len. result ≡ Ok len) (λ _. IsErr result) → now ≡ (honest && agrees (measuring outcome) content)
-      → IfOk result (λ len. len ≡ length content → now ≡ honest)
-  measured-agreed (Ok len) result is stands =
-      rw is (λ same. stands ∙ ap (λ agreed. honest && agreed) ((Decides-eqb len (length content)).1 same) ∙ and_true honest)
-  measured-agreed (Err error) (Ok len) is stands = absurd (false≢true is)
-  measured-agreed (Err error) (Err other) is stands = tt
+module _ {E : Type 0} (origin : Origin) (old now : List FileCall) where
+  pub measured-content : (result : Result ℕ E) → Tries Measured NotMeasured result old now → content_of origin now ≡ content_of origin old
+  measured-content result tried =
+      tries-kept Measured NotMeasured old now (content_of origin) (λ _ _. refl) (λ _ _. refl) (λ _. refl) result tried
 
-  pub measured-failed : {F : Type 0} (outcome : Result ℕ E) (result : Result ℕ F)
-      → MatchResult outcome (λ len. result ≡ Ok len) (λ _. IsErr result) → now ≡ (honest && agrees (measuring outcome) content)
-      → OnErr result (now ≡ honest)
-  measured-failed (Ok len) result is stands = rw is tt
-  measured-failed (Err error) (Ok len) is stands = absurd (false≢true is)
-  measured-failed (Err error) (Err other) is stands = stands ∙ and_true honest
+  pub measured-synced : (result : Result ℕ E) → Tries Measured NotMeasured result old now → is_synced now ≡ is_synced old
+  measured-synced result tried =
+      tries-kept Measured NotMeasured old now is_synced (λ _ _. refl) (λ _ _. refl) (λ _. refl) result tried
 
-  pub measured-back : (outcome : Result ℕ E) → now ≡ (honest && agrees (measuring outcome) content) → IsTrue now → IsTrue honest
-  measured-back outcome stands told = (and_parts honest (agrees (measuring outcome) content) (sym stands ∙ told)).0
+  pub measured-counted : (result : Result ℕ E) → Tries Measured NotMeasured result old now
+      → failed_calls now ≡ counted result (failed_calls old)
+  measured-counted result tried =
+      tries-counted Measured NotMeasured old now (λ _ _. refl) (λ _. refl) (λ _. refl) result tried
+
+  pub measured-len : (result : Result ℕ E) → Tries Measured NotMeasured result old now
+      → IfOk result (λ len. IsTrue (is_honest origin now) → len ≡ length (content_of origin old))
+  measured-len (Ok len) tried = λ honest.
+      (Decides-eqb len (length (content_of origin old))).0
+      (and_parts (is_honest origin old) (len == length (content_of origin old)) (sym (told origin old now len tried) ∙ honest)).1
+  measured-len (Err error) tried = tt
+
+  pub measured-agreed : (result : Result ℕ E) → Tries Measured NotMeasured result old now
+      → IfOk result (λ len. len ≡ length (content_of origin old) → is_honest origin now ≡ is_honest origin old)
+  measured-agreed (Ok len) tried = λ same. told origin old now len tried
+      ∙ ap (λ agreed. is_honest origin old && agreed) ((Decides-eqb len (length (content_of origin old))).1 same)
+      ∙ and_true (is_honest origin old)
+  measured-agreed (Err error) tried = tt
+
+  pub measured-failed : (result : Result ℕ E) → Tries Measured NotMeasured result old now
+      → OnErr result (is_honest origin now ≡ is_honest origin old)
+  measured-failed (Ok len) tried = tt
+  measured-failed (Err error) tried = not-told origin old now tried
+
+  pub measured-back : (result : Result ℕ E) → Tries Measured NotMeasured result old now
+      → IsTrue (is_honest origin now) → IsTrue (is_honest origin old)
+  measured-back (Ok len) tried honest =
+      (and_parts (is_honest origin old) (len == length (content_of origin old)) (sym (told origin old now len tried) ∙ honest)).0
+  measured-back (Err error) tried honest = sym (not-told origin old now tried) ∙ honest
 
 -- ---- the length is changed
 
@@ -118,7 +137,7 @@ torn-again len old now torn was =
     }
 
 torn-tries : (origin : Origin) (len times : ℕ) (old : List FileCall)
-    → IsTorn len (content_of origin old) (content_of origin (replicate times (NotResized len) ++ old))
+    → IsTorn len (content_of origin old) (content_of origin (replicate times (NotResized len true) ++ old))
 torn-tries origin len zero old = record {
   end = length (content_of origin old);
   low = omega arith;
@@ -126,66 +145,67 @@ torn-tries origin len zero old = record {
   content = resized-same (content_of origin old);
 }
 torn-tries origin len (suc times) old =
-    torn-again len (content_of origin old) (content_of origin (replicate times (NotResized len) ++ old)) _ (torn-tries origin len times old)
+    torn-again len (content_of origin old) (content_of origin (replicate times (NotResized len true) ++ old)) _ (torn-tries origin len times old)
+
+module _ (origin : Origin) (len : ℕ) (old now : List FileCall) where
+  failed-torn : HasFailed (NotResized len) old now → IsTorn len (content_of origin old) (content_of origin now)
+  failed-torn (Refused tried) = rw tried.calls (torn-again len (content_of origin old) _ _ (torn-tries origin len tried.times old))
+  failed-torn (GivenUp tried all) = rw tried.calls (torn-tries origin len tried.times old)
+
+unsynced : (len times : ℕ) (old : List FileCall) → 0 < times → is_synced (replicate times (NotResized len true) ++ old) ≡ false
+unsynced len zero old some = absurd (omega (arith, some))
+unsynced len (suc times) old some = refl
 
 module _ {T E : Type 0} (origin : Origin) (len : ℕ) (old now : List FileCall) where
-  pub tried-resized : {F : Type 0} (outcome : Result T E) (result : Result T F)
-      → MatchResult outcome (λ done. result ≡ Ok done) (λ _. IsErr result) → HasTried (NotResized len) (resizing len outcome) old now
+  pub tried-resized : (result : Result T E) → Tries (λ _. Resized len) (NotResized len) result old now
       → OnOk result (content_of origin now ≡ resized len (content_of origin old))
-  tried-resized (Ok done) result is tried =
+  tried-resized (Ok done) tried =
       let torn = torn-tries origin len tried.times old in
-      rw (is, tried.calls, torn.content) (resized-resized torn.end len (content_of origin old) torn.low)
-  tried-resized (Err error) (Ok done) is tried = absurd (false≢true is)
-  tried-resized (Err error) (Err other) is tried = tt
+      rw (tried.calls, torn.content) (resized-resized torn.end len (content_of origin old) torn.low)
+  tried-resized (Err error) tried = tt
 
-  pub tried-torn : {F : Type 0} (outcome : Result T E) (result : Result T F)
-      → MatchResult outcome (λ done. result ≡ Ok done) (λ _. IsErr result) → HasTried (NotResized len) (resizing len outcome) old now
+  pub tried-torn : (result : Result T E) → Tries (λ _. Resized len) (NotResized len) result old now
       → OnErr result (KeepsFront len (content_of origin old) (content_of origin now))
-  tried-torn (Ok done) result is tried = rw is tt
-  tried-torn (Err error) (Ok done) is tried = absurd (false≢true is)
-  tried-torn (Err error) (Err other) is tried =
-      let torn = torn-tries origin len (suc tried.times) old in
-      rw (tried.calls, torn.content) (KeepsFront-resized len torn.end (content_of origin old) torn.low torn.high)
+  tried-torn (Ok done) tried = tt
+  tried-torn (Err error) tried =
+      let torn = failed-torn origin len old now tried in
+      rw torn.content (KeepsFront-resized len torn.end (content_of origin old) torn.low torn.high)
 
-  honest-last : (outcome : Result T E) (calls : List FileCall) → is_honest origin (resizing len outcome ∷ calls) ≡ is_honest origin calls
-  honest-last (Ok done) calls = and_true (is_honest origin calls)
-  honest-last (Err error) calls = and_true (is_honest origin calls)
-
-  pub tried-honest : (outcome : Result T E) → HasTried (NotResized len) (resizing len outcome) old now
+  pub tried-honest : (result : Result T E) → Tries (λ _. Resized len) (NotResized len) result old now
       → is_honest origin now ≡ is_honest origin old
-  tried-honest outcome tried =
-      rw tried.calls (honest-last outcome (replicate tried.times (NotResized len) ++ old)
-      ∙ kept (is_honest origin) (NotResized len) (λ calls. and_true (is_honest origin calls)) tried.times old)
+  tried-honest result tried =
+      tries-kept (λ _. Resized len) (NotResized len) old now (is_honest origin) (λ _ calls. and_true (is_honest origin calls))
+      (λ _ calls. and_true (is_honest origin calls)) (λ calls. and_true (is_honest origin calls)) result tried
 
-  pub tried-unsynced : (outcome : Result T E) → HasTried (NotResized len) (resizing len outcome) old now → is_synced now ≡ false
+  pub tried-counted : (result : Result T E) → Tries (λ _. Resized len) (NotResized len) result old now
+      → failed_calls now ≡ counted result (failed_calls old)
+  tried-counted result tried =
+      tries-counted (λ _. Resized len) (NotResized len) old now (λ _ _. refl) (λ _. refl) (λ _. refl) result tried
+
+  pub tried-unsynced : (result : Result T E) → Tries (λ _. Resized len) (NotResized len) result old now → is_synced now ≡ false
   tried-unsynced (Ok done) tried = rw tried.calls refl
-  tried-unsynced (Err error) tried = rw tried.calls refl
+  tried-unsynced (Err error) (Refused tried) = rw tried.calls refl
+  tried-unsynced (Err error) (GivenUp tried all) = rw tried.calls (unsynced len tried.times old (omega (arith, all)))
 
 -- ---- the file is synced
 
 module _ {T E : Type 0} (origin : Origin) (old now : List FileCall) where
-  synced-content-last : (outcome : Result T E) (calls : List FileCall) → content_of origin (syncing outcome ∷ calls) ≡ content_of origin calls
-  synced-content-last (Ok done) calls = refl
-  synced-content-last (Err error) calls = refl
+  pub synced-content : (result : Result T E) → Tries (λ _. Synced) NotSynced result old now → content_of origin now ≡ content_of origin old
+  synced-content result tried =
+      tries-kept (λ _. Synced) NotSynced old now (content_of origin) (λ _ _. refl) (λ _ _. refl) (λ _. refl) result tried
 
-  pub synced-content : (outcome : Result T E) → HasTried NotSynced (syncing outcome) old now → content_of origin now ≡ content_of origin old
-  synced-content outcome tried =
-      rw tried.calls (synced-content-last outcome (replicate tried.times NotSynced ++ old)
-      ∙ kept (content_of origin) NotSynced (λ calls. refl) tried.times old)
+  pub synced-honest : (result : Result T E) → Tries (λ _. Synced) NotSynced result old now → is_honest origin now ≡ is_honest origin old
+  synced-honest result tried =
+      tries-kept (λ _. Synced) NotSynced old now (is_honest origin) (λ _ calls. and_true (is_honest origin calls))
+      (λ _ calls. and_true (is_honest origin calls)) (λ calls. and_true (is_honest origin calls)) result tried
 
-  synced-honest-last : (outcome : Result T E) (calls : List FileCall) → is_honest origin (syncing outcome ∷ calls) ≡ is_honest origin calls
-  synced-honest-last (Ok done) calls = and_true (is_honest origin calls)
-  synced-honest-last (Err error) calls = and_true (is_honest origin calls)
+  pub synced-counted : (result : Result T E) → Tries (λ _. Synced) NotSynced result old now
+      → failed_calls now ≡ counted result (failed_calls old)
+  synced-counted result tried =
+      tries-counted (λ _. Synced) NotSynced old now (λ _ _. refl) (λ _. refl) (λ _. refl) result tried
 
-  pub synced-honest : (outcome : Result T E) → HasTried NotSynced (syncing outcome) old now → is_honest origin now ≡ is_honest origin old
-  synced-honest outcome tried =
-      rw tried.calls (synced-honest-last outcome (replicate tried.times NotSynced ++ old)
-      ∙ kept (is_honest origin) NotSynced (λ calls. and_true (is_honest origin calls)) tried.times old)
-
-  pub synced-tested : {F : Type 0} (outcome : Result T E) (result : Result T F)
-      → MatchResult outcome (λ done. result ≡ Ok done) (λ _. IsErr result) → HasTried NotSynced (syncing outcome) old now
+  pub synced-tested : (result : Result T E) → Tries (λ _. Synced) NotSynced result old now
       → is_synced now ≡ (if is_ok result then true else is_synced old)
-  synced-tested (Ok done) result is tried = rw (is, tried.calls) refl
-  synced-tested (Err error) (Ok done) is tried = absurd (false≢true is)
-  synced-tested (Err error) (Err other) is tried =
-      rw tried.calls (kept is_synced NotSynced (λ calls. refl) tried.times old)
+  synced-tested (Ok done) tried = rw tried.calls refl
+  synced-tested (Err error) (Refused tried) = rw tried.calls (kept is_synced (NotSynced true) (λ _. refl) tried.times old)
+  synced-tested (Err error) (GivenUp tried all) = rw tried.calls (kept is_synced (NotSynced true) (λ _. refl) tried.times old)

@@ -2,7 +2,7 @@
 use Rattle.std.specs.Prelude.{◌≡◌, ◌-◌, ◌^◌, ◌==◌, true, false, List, [], ◌∷◌, slice_index, if◌then◌else◌, refl}
 use Rattle.media_store.specs.Content.{resized, written}
 use Rattle.media_store.specs.Failures.{risen}
-use Rattle.media_store.specs.Calls.{FileCall, Opened, Measured, Read, Wrote, NotWritten, NotResized, Synced, NotSynced, call_of}
+use Rattle.media_store.specs.Calls.{FileCall, Opened, Measured, Read, Wrote, NotWritten, NotResized, Synced, NotSynced, GaveUp, call_of}
 use Rattle.media_store.specs.Replay.{Origin, content_of, is_honest, is_synced}
 
 -- within the content, over its end, and behind it
@@ -30,18 +30,18 @@ counts : (risen 7 ≡ 8) × (risen (2 ^ 64 - 1) ≡ 2 ^ 64 - 1)
 counts = (refl, refl)
 
 -- ---- a file that held 1, 2, 3 and was opened at the path 47, where a failed call leaves 8, 9, 7
-abbrev origin : Origin
+abbrev pub origin : Origin
 origin = record { held = λ path. if slice_index path 0 == 47 then 1 ∷ 2 ∷ 3 ∷ [] else []; torn = λ _ _. 8 ∷ 9 ∷ 7 ∷ [] }
 
-abbrev opened : List FileCall
+abbrev pub opened : List FileCall
 opened = Opened (47 ∷ []) ∷ []
 
 -- the newest call stands first
-written_and_read : is_honest origin (Read 1 (5 ∷ 3 ∷ []) ∷ Wrote 1 (5 ∷ []) ∷ Read 0 (1 ∷ 2 ∷ []) ∷ Measured 3 ∷ opened) ≡ true
+written_and_read : is_honest origin (Read 1 (5 ∷ 3 ∷ []) ∷ Wrote 1 (5 ∷ []) 1 ∷ Read 0 (1 ∷ 2 ∷ []) ∷ Measured 3 ∷ opened) ≡ true
 written_and_read = refl
 
 -- the old byte is read, one byte is read behind the end, the length is wrong
-lies : (is_honest origin (Read 1 (2 ∷ 3 ∷ []) ∷ Wrote 1 (5 ∷ []) ∷ opened) ≡ false)
+lies : (is_honest origin (Read 1 (2 ∷ 3 ∷ []) ∷ Wrote 1 (5 ∷ []) 1 ∷ opened) ≡ false)
     × (is_honest origin (Read 2 (3 ∷ 0 ∷ []) ∷ opened) ≡ false) × (is_honest origin (Measured 4 ∷ opened) ≡ false)
 lies = (refl, refl, refl)
 
@@ -50,18 +50,20 @@ never_again : is_honest origin (Measured 3 ∷ Measured 4 ∷ opened) ≡ false
 never_again = refl
 
 -- a front of the range was torn; the end lies between
-torn : (content_of origin (NotWritten 1 2 ∷ opened) ≡ 1 ∷ 8 ∷ 9 ∷ []) × (content_of origin (NotResized 5 ∷ opened) ≡ 1 ∷ 2 ∷ 3 ∷ [])
-    × (content_of origin (NotResized 1 ∷ opened) ≡ 1 ∷ 2 ∷ 3 ∷ [])
+torn : (content_of origin (NotWritten 1 2 false ∷ opened) ≡ 1 ∷ 8 ∷ 9 ∷ []) × (content_of origin (NotResized 5 false ∷ opened) ≡ 1 ∷ 2 ∷ 3 ∷ [])
+    × (content_of origin (NotResized 1 false ∷ opened) ≡ 1 ∷ 2 ∷ 3 ∷ [])
 torn = (refl, refl, refl)
 
 -- a sync that succeeds stands behind the write; it failed; a write was tried behind it; a sync fails behind it
-synced : (is_synced (Synced ∷ Wrote 1 (5 ∷ []) ∷ opened) ≡ true) × (is_synced (NotSynced ∷ Wrote 1 (5 ∷ []) ∷ opened) ≡ false)
-    × (is_synced (NotWritten 1 2 ∷ Synced ∷ opened) ≡ false) × (is_synced (NotSynced ∷ Synced ∷ opened) ≡ true)
+synced : (is_synced (Synced ∷ Wrote 1 (5 ∷ []) 1 ∷ opened) ≡ true) × (is_synced (NotSynced false ∷ Wrote 1 (5 ∷ []) 1 ∷ opened) ≡ false)
+    × (is_synced (NotWritten 1 2 false ∷ Synced ∷ opened) ≡ false) × (is_synced (NotSynced false ∷ Synced ∷ opened) ≡ true)
 synced = (refl, refl, refl, refl)
 
 -- notes, read as calls
 notes : (call_of (record { numbers = 1 ∷ 7 ∷ []; bytes = 5 ∷ 6 ∷ []; flags = true ∷ [] }) ≡ Read 7 (5 ∷ 6 ∷ []))
-    × (call_of (record { numbers = 2 ∷ 7 ∷ 4 ∷ []; bytes = []; flags = false ∷ [] }) ≡ NotWritten 7 4)
-    × (call_of (record { numbers = 4 ∷ []; bytes = []; flags = false ∷ [] }) ≡ NotSynced)
+    × (call_of (record { numbers = 2 ∷ 7 ∷ 4 ∷ []; bytes = 5 ∷ []; flags = true ∷ [] }) ≡ Wrote 7 (5 ∷ []) 4)
+    × (call_of (record { numbers = 2 ∷ 7 ∷ 4 ∷ []; bytes = []; flags = false ∷ false ∷ [] }) ≡ NotWritten 7 4 false)
+    × (call_of (record { numbers = 4 ∷ []; bytes = []; flags = false ∷ true ∷ [] }) ≡ NotSynced true)
     × (call_of (record { numbers = 5 ∷ []; bytes = 47 ∷ []; flags = true ∷ [] }) ≡ Opened (47 ∷ []))
-notes = (refl, refl, refl, refl)
+    × (call_of (record { numbers = 6 ∷ []; bytes = []; flags = false ∷ [] }) ≡ GaveUp)
+notes = (refl, refl, refl, refl, refl, refl)

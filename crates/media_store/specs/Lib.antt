@@ -3,6 +3,7 @@ pub mod Failures
 pub mod Honesty
 pub mod Calls
 pub mod Replay
+pub mod Ends
 pub mod Whole
 pub mod Again
 pub mod States

@@ -25,10 +25,10 @@ torn_length old new torn = max (min old new) (min (length torn) (max old new))
 -- own: the content after a call; a failed write may have put any bytes into its range
 abbrev pub after_call : (List ℕ → List ℕ) → List ℕ → FileCall → List ℕ → List ℕ
 after_call held torn (Opened path) content = held path
-after_call held torn (Wrote at bytes) content = written at bytes content
-after_call held torn (NotWritten at count) content = written at (take count torn) content
+after_call held torn (Wrote at bytes count) content = written at bytes content
+after_call held torn (NotWritten at count interrupted) content = written at (take count torn) content
 after_call held torn (Resized len) content = resized len content
-after_call held torn (NotResized len) content = resized (torn_length (length content) len torn) content
+after_call held torn (NotResized len interrupted) content = resized (torn_length (length content) len torn) content
 after_call held torn call content = content
 
 -- own: the content after calls, the newest first
@@ -52,10 +52,10 @@ is_honest origin (call ∷ earlier) = is_honest origin earlier && agrees call (c
 -- that
 abbrev pub synced_after : FileCall → Bool → Bool
 synced_after Synced synced = true
-synced_after (Wrote at bytes) synced = false
-synced_after (NotWritten at count) synced = false
+synced_after (Wrote at bytes count) synced = false
+synced_after (NotWritten at count interrupted) synced = false
 synced_after (Resized len) synced = false
-synced_after (NotResized len) synced = false
+synced_after (NotResized len interrupted) synced = false
 synced_after call synced = synced
 
 -- own: of a file of which nothing is known, until a sync of it succeeds

@@ -1,5 +1,6 @@
 -- What the stores of this crate show of themselves.
 use Rattle.std.specs.Prelude.{ℕ, List, Bool}
+use Rattle.media_store.specs.Calls.{FileCall}
 
 -- own: a store in memory
 pub record MemoryState : Type 0 where
@@ -9,8 +10,9 @@ pub record MemoryState : Type 0 where
   pub synced : Bool
   pub failures : ℕ
 
--- own: a store in a file; all but its failures follows from the record of its calls
+-- own: a store in a file; all else follows from the record of its calls, the newest first
 pub record FileState : Type 0 where
+  pub calls : List FileCall
   pub content : List ℕ
   pub honest : Bool
   pub synced : Bool

@@ -1,10 +1,15 @@
 //! A store in a file.
 
-ghost use Rattle.std.specs.Prelude.{◌≡◌, ◌∷◌, [], ℕ, List, true, false};
-ghost use Rattle.media_store.specs.Calls.{Opened};
+ghost use Rattle.std.specs.Prelude.{◌≡◌, ◌+◌, ◌≤◌, ◌∷◌, [], ℕ, List, length, true, false, is_ok, if◌then◌else◌, IsTrue, IsOk, IfOk, OnOk, OnErr, slice_range};
+ghost use Rattle.media_store.specs.Again.{Tries};
+ghost use Rattle.media_store.specs.Calls.{Opened, Measured, NotMeasured, Resized, NotResized, Synced, NotSynced};
+ghost use Rattle.media_store.specs.Content.{resized, written, KeepsOutside, KeepsFront};
+ghost use Rattle.media_store.specs.Ends.{HasEnded, is_far};
+ghost use Rattle.media_store.specs.Failures.{counted};
+ghost use Rattle.media_store.specs.Honesty.{HasAgreed};
 
 use crate::again::{measure, resize, sync};
-use crate::fault::{StoreFault, counted};
+use crate::fault::StoreFault;
 use crate::file_calls::FileCalls;
 use crate::start::Start;
 use crate::store::Store;
@@ -14,27 +19,29 @@ use std::marker::{Model, PhantomData};
 /// The bytes of an open file, or of a block device. Each call is one call of the system, or a few
 /// where the system does a part only or a signal interrupts it.
 ///
-/// All but the count of failures is read from the calls so far. The content is what the file at the path that
-/// was opened held then, as `S` says, after these calls. It is honest as long as every length and every byte that
-/// the system told agrees with that content, and synced where a sync has succeeded behind all that changed it.
+/// All is read from the calls so far. The content is what the file at the path that was opened held then, as `S`
+/// says, after these calls. It is honest as long as every length and every byte that the system told agrees with
+/// that content, and synced where a sync has succeeded behind all that changed it. A call of the store fails only
+/// where one of the system did that no signal interrupted, or where it is given up, and is counted from that note.
 #[derive(Drop)]
 pub struct FileStore<C: FileCalls, S: Start> {
     calls: C,
-    failures: u64,
     start: PhantomData<S>,
 }
 
 impl<C: FileCalls, S: Start> Model for FileStore<C, S> {
+    ghost use Rattle.media_store.specs.Ends.{failed_calls};
     ghost use Rattle.media_store.specs.States.{FileState};
     ghost use Rattle.media_store.specs.Replay.{origin_by, content_of, is_honest, is_synced};
 
     ghost Value = { FileState };
 
     ghost view = { λ store. record {
+      calls = C.FileCalls.calls store.calls;
       content = content_of (origin_by S.Start.held S.Start.torn) (C.FileCalls.calls store.calls);
       honest = is_honest (origin_by S.Start.held S.Start.torn) (C.FileCalls.calls store.calls);
       synced = is_synced (C.FileCalls.calls store.calls);
-      failures = store.failures;
+      failures = failed_calls (C.FileCalls.calls store.calls);
     } };
 }
 
@@ -42,11 +49,10 @@ impl<C: FileCalls, S: Start> FileStore<C, S> {
     /// The store of a file that was opened for reading and writing, at the path that its calls bear.
     pub fn new(calls: C) -> FileStore<C, S>
         ensures { (path : List ℕ) → C.FileCalls.calls calls ≡ Opened path ∷ []
-            → result ≡ record { content = S.Start.held path; honest = true; synced = false; failures = 0 } }
+            → result ≡ record { calls = Opened path ∷ []; content = S.Start.held path; honest = true; synced = false; failures = 0 } }
     {
         FileStore {
             calls,
-            failures: 0,
             start: PhantomData,
         }
     }
@@ -65,28 +71,61 @@ impl<C: FileCalls, S: Start> Store for FileStore<C, S> {
 
     ghost reach = { λ _. 0 };
 
-    fn len(&mut self) -> Result<u64, StoreFault> {
-        let end = measure(&mut self.calls);
-        counted(end, &mut self.failures)
+    fn len(&mut self) -> Result<u64, StoreFault>
+        ensures len { IfOk result (λ n. IsTrue self.new.honest → n ≡ length self.old.content) }
+        ensures agreed { IfOk result (λ n. n ≡ length self.old.content → self.new.honest ≡ self.old.honest) }
+        ensures failed { OnErr result (self.new.honest ≡ self.old.honest) }
+        ensures back { IsTrue self.new.honest → IsTrue self.old.honest }
+        ensures content { self.new.content ≡ self.old.content }
+        ensures synced { self.new.synced ≡ self.old.synced }
+        ensures failures { self.new.failures ≡ counted result self.old.failures }
+        ensures tried { Tries Measured NotMeasured result self.old.calls self.new.calls }
+    {
+        measure(&mut self.calls)
     }
 
-    fn read_at(&mut self, at: u64, buf: &mut [u8]) -> Result<(), StoreFault> {
-        let read = read_whole(&mut self.calls, at, buf);
-        counted(read, &mut self.failures)
+    fn read_at(&mut self, at: u64, buf: &mut [u8]) -> Result<(), StoreFault>
+        ensures read { OnOk result (IsTrue self.new.honest
+            → buf.new ≡ slice_range self.old.content at (at + length buf.old)) }
+        ensures agreed { HasAgreed self.old.content at buf.new (is_ok result) self.old.honest self.new.honest }
+        ensures back { IsTrue self.new.honest → IsTrue self.old.honest }
+        ensures content { self.new.content ≡ self.old.content }
+        ensures synced { self.new.synced ≡ self.old.synced }
+        ensures failures { self.new.failures ≡ counted result self.old.failures }
+        ensures ended { HasEnded (is_ok result) (is_far at (length buf.new)) self.old.calls self.new.calls }
+    {
+        read_whole(&mut self.calls, at, buf)
     }
 
-    fn write_at(&mut self, at: u64, bytes: &[u8]) -> Result<(), StoreFault> {
-        let written = write_whole(&mut self.calls, at, bytes);
-        counted(written, &mut self.failures)
+    fn write_at(&mut self, at: u64, bytes: &[u8]) -> Result<(), StoreFault>
+        ensures written { OnOk result (self.new.content ≡ written at bytes.now self.old.content) }
+        ensures torn { OnErr result (KeepsOutside at (length bytes.now) self.old.content self.new.content) }
+        ensures honest { self.new.honest ≡ self.old.honest }
+        ensures synced { self.new.synced ≡ false }
+        ensures failures { self.new.failures ≡ counted result self.old.failures }
+        ensures ended { HasEnded (is_ok result) (is_far at (length bytes.now)) self.old.calls self.new.calls }
+    {
+        write_whole(&mut self.calls, at, bytes)
     }
 
-    fn set_len(&mut self, len: u64) -> Result<(), StoreFault> {
-        let resized = resize(&mut self.calls, len);
-        counted(resized, &mut self.failures)
+    fn set_len(&mut self, len: u64) -> Result<(), StoreFault>
+        ensures resized { OnOk result (self.new.content ≡ resized len self.old.content) }
+        ensures torn { OnErr result (KeepsFront len self.old.content self.new.content) }
+        ensures honest { self.new.honest ≡ self.old.honest }
+        ensures synced { self.new.synced ≡ false }
+        ensures failures { self.new.failures ≡ counted result self.old.failures }
+        ensures tried { Tries (λ _. Resized len) (NotResized len) result self.old.calls self.new.calls }
+    {
+        resize(&mut self.calls, len)
     }
 
-    fn sync(&mut self) -> Result<(), StoreFault> {
-        let synced = sync(&mut self.calls);
-        counted(synced, &mut self.failures)
+    fn sync(&mut self) -> Result<(), StoreFault>
+        ensures content { self.new.content ≡ self.old.content }
+        ensures honest { self.new.honest ≡ self.old.honest }
+        ensures synced { self.new.synced ≡ (if is_ok result then true else self.old.synced) }
+        ensures failures { self.new.failures ≡ counted result self.old.failures }
+        ensures tried { Tries (λ _. Synced) NotSynced result self.old.calls self.new.calls }
+    {
+        sync(&mut self.calls)
     }
 }

@@ -1,7 +1,7 @@
 //! The calls of the system that a store makes on its file.
 
 ghost use Rattle.std.specs.Prelude.{◌≡◌, ◌≤◌, ◌∷◌, List, length, IfOk};
-ghost use Rattle.media_store.specs.Calls.{FileCall, measuring, reading, writing, resizing, syncing};
+ghost use Rattle.media_store.specs.Calls.{FileCall, GaveUp, measuring, reading, writing, resizing, syncing};
 
 use std::io;
 
@@ -32,4 +32,8 @@ pub trait FileCalls {
     /// Waits until what was written is on the medium.
     fn sync(&mut self) -> io::Result<()>
         ensures { calls self.new ≡ syncing result ∷ calls self.old };
+
+    /// Notes that no further call is made, so that a call of a store fails.
+    fn give_up(&mut self)
+        ensures { calls self.new ≡ GaveUp ∷ calls self.old };
 }

@@ -9,7 +9,8 @@
 //! - [`FileStore`] keeps them in a file. Each call of the system is noted with its answer ([`FileCalls`]),
 //!   so its content is what the file held when it was opened ([`Start`]), after these calls; it is
 //!   honest exactly as long as the answers agree with that, and synced where a sync that succeeded stands behind all
-//!   that changed the file.
+//!   that changed the file. It fails only where a call of the system did that no signal interrupted,
+//!   and counts its failures from these notes.
 //! - [`FailStore`] is another store that fails from some call on, and is as honest as that store.
 //! - [`LyingStore`] is another store that gives wrong bytes once.
 //!
@@ -22,6 +23,7 @@ mod fail;
 mod fault;
 mod file;
 mod file_calls;
+mod interruption;
 mod lying;
 mod memory;
 mod start;

@@ -6,6 +6,7 @@ ghost use Rattle.std.specs.Prelude.{◌≡◌, ◌∷◌, [], IfOk};
 ghost use Rattle.media_store.specs.Calls.{Opened};
 
 use crate::file_calls::FileCalls;
+use crate::interruption::is_interrupted;
 use call_record::Record;
 use std::fs::{File, OpenOptions};
 use std::io::{self, Seek, SeekFrom};
@@ -25,6 +26,8 @@ const RESIZE: u64 = 3;
 const SYNC: u64 = 4;
 
 const OPEN: u64 = 5;
+
+const GIVE_UP: u64 = 6;
 
 /// An open file, or a block device. It is seen as the list of the calls on it, the newest first, from its
 /// opening on.
@@ -65,44 +68,67 @@ impl FileCalls for SystemFile {
     fn end(&mut self) -> io::Result<u64> {
         // The end, and not the length that the file system tells: a block device tells none.
         let answer = self.file.seek(SeekFrom::End(0));
-        match answer {
-            Ok(end) => self.noted.note(&[END, end], &[], &[true]),
-            Err(_) => self.noted.note(&[END], &[], &[false]),
+        match &answer {
+            Ok(end) => self.noted.note(&[END, *end], &[], &[true]),
+            Err(error) => self
+                .noted
+                .note(&[END], &[], &[false, is_interrupted(error)]),
         }
         answer
     }
 
     fn read_some(&mut self, at: u64, buf: &mut [u8]) -> io::Result<usize> {
         let answer = self.file.read_at(buf, at);
-        match answer {
-            Ok(count) => self.noted.note(&[READ, at], &buf[..count], &[true]),
-            Err(_) => self
+        let asked = buf.len() as u64;
+        match &answer {
+            Ok(count) => self.noted.note(&[READ, at], &buf[..*count], &[true]),
+            Err(error) => self
                 .noted
-                .note(&[READ, at, buf.len() as u64], &[], &[false]),
+                .note(&[READ, at, asked], &[], &[false, is_interrupted(error)]),
         }
         answer
     }
 
     fn write_some(&mut self, at: u64, bytes: &[u8]) -> io::Result<usize> {
         let answer = self.file.write_at(bytes, at);
-        match answer {
-            Ok(count) => self.noted.note(&[WRITE, at], &bytes[..count], &[true]),
-            Err(_) => self
-                .noted
-                .note(&[WRITE, at, bytes.len() as u64], &[], &[false]),
+        let offered = bytes.len() as u64;
+        match &answer {
+            Ok(count) => {
+                let taken = &bytes[..*count];
+                self.noted.note(&[WRITE, at, offered], taken, &[true]);
+            }
+            Err(error) => self.noted.note(
+                &[WRITE, at, offered],
+                &[],
+                &[false, is_interrupted(error)],
+            ),
         }
         answer
     }
 
     fn set_len(&mut self, len: u64) -> io::Result<()> {
         let answer = self.file.set_len(len);
-        self.noted.note(&[RESIZE, len], &[], &[answer.is_ok()]);
+        match &answer {
+            Ok(()) => self.noted.note(&[RESIZE, len], &[], &[true]),
+            Err(error) => self
+                .noted
+                .note(&[RESIZE, len], &[], &[false, is_interrupted(error)]),
+        }
         answer
     }
 
     fn sync(&mut self) -> io::Result<()> {
         let answer = self.file.sync_data();
-        self.noted.note(&[SYNC], &[], &[answer.is_ok()]);
+        match &answer {
+            Ok(()) => self.noted.note(&[SYNC], &[], &[true]),
+            Err(error) => self
+                .noted
+                .note(&[SYNC], &[], &[false, is_interrupted(error)]),
+        }
         answer
+    }
+
+    fn give_up(&mut self) {
+        self.noted.note(&[GIVE_UP], &[], &[false]);
     }
 }

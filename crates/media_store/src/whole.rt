@@ -6,7 +6,7 @@ ghost use Rattle.media_store.specs.Whole.{HasRead, HasWritten};
 
 use crate::fault::StoreFault;
 use crate::file_calls::FileCalls;
-use std::io::ErrorKind;
+use crate::interruption::{TRIES, is_interrupted};
 
 /// Fills a buffer with the bytes from an offset on. A call that a signal interrupts is made again, and
 /// one that gives no byte fails: there are fewer.
@@ -18,20 +18,22 @@ pub(crate) fn read_whole<C: FileCalls>(
     ensures { (origin : Origin) → HasRead origin at buf.new (is_ok result) (C.FileCalls.calls calls.old) (C.FileCalls.calls calls.new) }
 {
     let mut done = 0;
-    for _ in 0..u64::MAX {
+    for _ in 0..TRIES {
         if done >= buf.len() {
             return Ok(());
         }
         let Some(from) = at.checked_add(done as u64) else {
+            calls.give_up();
             return Err(StoreFault);
         };
         match calls.read_some(from, &mut buf[done..]) {
             Ok(0) => return Err(StoreFault),
             Ok(count) => done += count,
-            Err(error) if error.kind() == ErrorKind::Interrupted => {}
+            Err(error) if is_interrupted(&error) => {}
             Err(_) => return Err(StoreFault),
         }
     }
+    calls.give_up();
     Err(StoreFault)
 }
 
@@ -45,11 +47,12 @@ pub(crate) fn write_whole<C: FileCalls>(
     ensures { (origin : Origin) → HasWritten origin at bytes.now (is_ok result) (C.FileCalls.calls calls.old) (C.FileCalls.calls calls.new) }
 {
     let mut done = 0;
-    for _ in 0..u64::MAX {
-        let Some(from) = at.checked_add(done as u64) else {
+    for _ in 0..TRIES {
+        let Some(to) = at.checked_add(done as u64) else {
+            calls.give_up();
             return Err(StoreFault);
         };
-        match calls.write_some(from, &bytes[done..]) {
+        match calls.write_some(to, &bytes[done..]) {
             Ok(count) => {
                 done += count;
                 if done >= bytes.len() {
@@ -59,9 +62,10 @@ pub(crate) fn write_whole<C: FileCalls>(
                     return Err(StoreFault);
                 }
             }
-            Err(error) if error.kind() == ErrorKind::Interrupted => {}
+            Err(error) if is_interrupted(&error) => {}
             Err(_) => return Err(StoreFault),
         }
     }
+    calls.give_up();
     Err(StoreFault)
 }

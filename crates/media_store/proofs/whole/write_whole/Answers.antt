@@ -1,6 +1,7 @@
 use Rattle.std.proofs.Common.{rules, ◌≡◌, ℕ, ◌+◌, ◌-◌, ◌≤◌, ◌<◌, ◌^◌, length, List, ◌++◌, take, slice_range, arith, refl, true}
 use Rattle.std.proofs.lemmas.List.{places, same_lists}
-use Rattle.media_store.proofs.PartsWritten.{HasPutTo-more, HasPutTo-again, HasWritten-whole, HasWritten-part}
+use Rattle.media_store.proofs.Ended.{HasGoneOn-more, HasEnded-ok, HasEnded-failed, HasEnded-given-up, many, far, took-some, took-all, took-none}
+use Rattle.media_store.proofs.PartsWritten.{HasPutTo-more, HasPutTo-again, HasPutTo-end, HasWritten-whole, HasWritten-part}
 use Rattle.media_store.proofs.whole.write_whole.Goals as goal
 use Rattle.media_store.proofs.whole.write_whole.Goals.{in-Ok+else-done-bytes+else-count-eq0, in-Err}
 
@@ -14,24 +15,27 @@ loop-preserved g c =
     let bytes = c.args.bytes.now in
     let rest = slice_range bytes done (length bytes) in
     let within : done ≤ length bytes = c.loop.invariant.within in
-    let is : c.in-Some.from ≡ c.args.at + done = search rules in
+    let is : c.in-Some.to ≡ c.args.at + done = search rules in
     let left : length rest ≡ length bytes - done = search (rules, places) in
     elim c.match-write_some.branch [
       | in-Ok+else-done-bytes+else-count-eq0 w ↦
           let few : w.in-Ok.count ≤ length rest = w.in-Ok.ensures.count in
           let part : length (take w.in-Ok.count rest) ≡ w.in-Ok.count = search (rules, places) in
           let taken : take c.match-write_some.done bytes ≡ take done bytes ++ take w.in-Ok.count rest =
-          rw w.done-is (take-rest done w.in-Ok.count bytes (omega arith)) in record {
+          rw w.done-is (take-rest done w.in-Ok.count bytes (omega arith)) in
+          let some : 0 < w.in-Ok.count = search rules in record {
             within = omega arith;
             put = λ origin. rw (w.in-Ok.ensures.noted, is) (HasPutTo-more origin c.args.at bytes
-                (take w.in-Ok.count rest) done c.match-write_some.done _ _ within (omega arith) (omega arith) taken (c.loop.invariant.put origin));
+                (take w.in-Ok.count rest) done c.match-write_some.done _ _ _ within (omega arith) (omega arith) taken (c.loop.invariant.put origin));
+            goes = rw w.in-Ok.ensures.noted (HasGoneOn-more _ c.loop.counter _ _ _ (took-some _ _ _ part some) (omega arith) c.loop.invariant.goes);
             called = omega arith;
             synced = λ _. rw w.in-Ok.ensures.noted refl;
           }
       | in-Err w ↦ record {
         within = omega arith;
         put = λ origin. rw (w.done-is, w.in-Err.ensures.noted, is)
-            (HasPutTo-again origin c.args.at bytes done (length rest) _ _ within left (c.loop.invariant.put origin));
+            (HasPutTo-again origin c.args.at bytes done (length rest) _ _ _ within left (c.loop.invariant.put origin));
+        goes = rw w.in-Err.ensures.noted (HasGoneOn-more _ c.loop.counter _ _ _ (search rules) (omega arith) c.loop.invariant.goes);
         called = omega arith;
         synced = λ _. rw w.in-Err.ensures.noted refl;
       }
@@ -43,12 +47,14 @@ returns-then-done-bytes g c origin =
     let bytes = c.args.bytes.now in
     let rest = slice_range bytes done (length bytes) in
     let within : done ≤ length bytes = c.loop.invariant.within in
-    let is : c.in-Some.from ≡ c.args.at + done = search rules in
+    let is : c.in-Some.to ≡ c.args.at + done = search rules in
     let left : length rest ≡ length bytes - done = search (rules, places) in
     let few : c.in-Ok.count ≤ length rest = c.in-Ok.ensures.count in
     let part : length (take c.in-Ok.count rest) ≡ c.in-Ok.count = search (rules, places) in
+    let all : c.in-Ok.count ≡ length rest = omega (arith, c.if-done-bytes.true) in
     rw (c.in-Ok.ensures.noted, is) (HasWritten-whole origin c.args.at bytes (done + c.in-Ok.count) true _ _ c.if-done-bytes.true refl
-    (HasPutTo-more origin c.args.at bytes (take c.in-Ok.count rest) done (done + c.in-Ok.count) _ _ within (omega arith)
+    (HasEnded-ok _ _ _ _ (HasGoneOn-more _ c.loop.counter _ _ _ (took-all _ _ _ part all) refl c.loop.invariant.goes))
+    (HasPutTo-more origin c.args.at bytes (take c.in-Ok.count rest) done (done + c.in-Ok.count) _ _ _ within (omega arith)
     (omega arith) (take-rest done c.in-Ok.count bytes (omega arith)) (c.loop.invariant.put origin)))
 
 pub returns-then-count-eq0 : goal.returns-then-count-eq0
@@ -57,31 +63,40 @@ returns-then-count-eq0 g c origin =
     let bytes = c.args.bytes.now in
     let rest = slice_range bytes done (length bytes) in
     let within : done ≤ length bytes = c.loop.invariant.within in
-    let is : c.in-Some.from ≡ c.args.at + done = search rules in
+    let is : c.in-Some.to ≡ c.args.at + done = search rules in
     let left : length rest ≡ length bytes - done = search (rules, places) in
     let few : c.in-Ok.count ≤ length rest = c.in-Ok.ensures.count in
     let part : length (take c.in-Ok.count rest) ≡ c.in-Ok.count = search (rules, places) in
+    let none : c.in-Ok.count ≡ 0 = search rules in
+    let some : 0 < length rest = omega arith in
     rw (c.in-Ok.ensures.noted, is) (HasWritten-part origin c.args.at bytes (done + c.in-Ok.count) _ _ refl
-    (HasPutTo-more origin c.args.at bytes (take c.in-Ok.count rest) done (done + c.in-Ok.count) _ _ within (omega arith)
+    (HasEnded-failed _ _ _ _ _ (took-none _ _ _ part none some) refl c.loop.invariant.goes)
+    (HasPutTo-more origin c.args.at bytes (take c.in-Ok.count rest) done (done + c.in-Ok.count) _ _ _ within (omega arith)
     (omega arith) (take-rest done c.in-Ok.count bytes (omega arith)) (c.loop.invariant.put origin)))
 
 pub returns-in_default : goal.returns-in_default
 returns-in_default g c origin =
-    let far : 2 ^ 64 ≤ c.args.at + c.loop.done = search rules in
+    let past : 2 ^ 64 ≤ c.args.at + c.loop.done = search rules in
     let some : 0 < c.loop.done = omega (arith, c.ranges.at) in
     let called : 0 < c.loop.counter = omega (arith, c.loop.invariant.called) in
-    HasWritten-part origin c.args.at c.args.bytes.now c.loop.done _ _ (c.loop.invariant.synced called) (c.loop.invariant.put origin)
+    rw c.give_up.ensures (HasWritten-part origin c.args.at c.args.bytes.now c.loop.done _ _ (c.loop.invariant.synced called)
+    (HasEnded-given-up _ c.loop.counter _ _ (far c.args.at (length c.args.bytes.now) _ (omega (arith, past, c.loop.invariant.within)))
+    c.loop.invariant.goes)
+    (HasPutTo-end origin c.args.at c.args.bytes.now c.loop.done _ _ (c.loop.invariant.put origin)))
 
 pub returns : goal.returns
 returns g c origin =
-    HasWritten-part origin c.args.at c.args.bytes.now c.loop.done _ _ (c.loop.invariant.synced (omega arith)) (c.loop.invariant.put origin)
+    rw c.give_up-2.ensures (HasWritten-part origin c.args.at c.args.bytes.now c.loop.done _ _ (c.loop.invariant.synced (omega arith))
+    (HasEnded-given-up _ c.loop.counter _ _ (many _ c.loop.counter (omega arith)) c.loop.invariant.goes)
+    (HasPutTo-end origin c.args.at c.args.bytes.now c.loop.done _ _ (c.loop.invariant.put origin)))
 
 pub returns-in-Err-2 : goal.returns-in-Err-2
 returns-in-Err-2 g c origin =
     let done = c.loop.done in
     let bytes = c.args.bytes.now in
     let rest = slice_range bytes done (length bytes) in
-    let is : c.in-Some.from ≡ c.args.at + done = search rules in
+    let is : c.in-Some.to ≡ c.args.at + done = search rules in
     let left : length rest ≡ length bytes - done = search (rules, places) in
     rw (c.in-Err-2.ensures.noted, is) (HasWritten-part origin c.args.at bytes done _ _ refl
-    (HasPutTo-again origin c.args.at bytes done (length rest) _ _ c.loop.invariant.within left (c.loop.invariant.put origin)))
+    (HasEnded-failed _ _ _ _ _ (search rules) refl c.loop.invariant.goes)
+    (HasPutTo-again origin c.args.at bytes done (length rest) _ _ _ c.loop.invariant.within left (c.loop.invariant.put origin)))

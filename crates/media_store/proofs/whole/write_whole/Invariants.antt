@@ -1,5 +1,6 @@
 use Rattle.std.proofs.Common.{◌≡◌, ◌≤◌, ◌<◌, min, false, length}
 use Rattle.media_store.specs.Replay.{Origin, is_synced}
+use Rattle.media_store.proofs.Ended.{HasGoneOn}
 use Rattle.media_store.proofs.PartsWritten.{HasPutTo}
 use Rattle.media_store.proofs.whole.write_whole.Given as goal
 
@@ -7,6 +8,7 @@ abbrev pub invariant-loop : goal.invariant-loop
 invariant-loop g l = record {
   within : l.done ≤ length l.bytes;
   put : (origin : Origin) → HasPutTo origin l.at l.bytes l.done (g.C.FileCalls.calls l.fn.calls) (g.C.FileCalls.calls l.calls);
+  goes : HasGoneOn l.counter (g.C.FileCalls.calls l.fn.calls) (g.C.FileCalls.calls l.calls);
   called : min l.done 1 ≤ l.counter;
   synced : 0 < l.counter → is_synced (g.C.FileCalls.calls l.calls) ≡ false;
 }

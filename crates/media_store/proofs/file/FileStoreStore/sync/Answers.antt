@@ -1,19 +1,23 @@
 use Rattle.media_store.specs.Replay.{origin_by}
-use Rattle.media_store.proofs.Tries.{synced-content, synced-honest, synced-tested}
+use Rattle.media_store.proofs.Tries.{synced-content, synced-honest, synced-tested, synced-counted}
 use Rattle.media_store.proofs.file.FileStoreStore.sync.Goals as goal
 
 pub returns-clause-content : goal.returns-clause-content
 returns-clause-content g c =
     let origin = origin_by g.S.Start.held g.S.Start.torn in
-    rw (← c.self.view_is) (synced-content origin _ _ c.sync-synced.result c.sync-synced.ensures)
+    rw (← c.self.view_is) (synced-content origin _ _ c.sync.result c.sync.ensures)
 
 pub returns-clause-honest : goal.returns-clause-honest
 returns-clause-honest g c =
     let origin = origin_by g.S.Start.held g.S.Start.torn in
-    rw (← c.self.view_is) (synced-honest origin _ _ c.sync-synced.result c.sync-synced.ensures)
+    rw (← c.self.view_is) (synced-honest origin _ _ c.sync.result c.sync.ensures)
 
 pub returns-clause-synced : goal.returns-clause-synced
 returns-clause-synced g c =
     let origin = origin_by g.S.Start.held g.S.Start.torn in
-    rw (← c.self.view_is)
-    (synced-tested origin _ _ c.sync-synced.result c.counted.result c.counted.ensures.value c.sync-synced.ensures)
+    rw (← c.self.view_is) (synced-tested origin _ _ c.sync.result c.sync.ensures)
+
+pub returns-clause-failures : goal.returns-clause-failures
+returns-clause-failures g c =
+    let origin = origin_by g.S.Start.held g.S.Start.torn in
+    rw (← c.self.view_is) (synced-counted origin _ _ c.sync.result c.sync.ensures)
