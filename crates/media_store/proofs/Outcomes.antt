@@ -3,10 +3,10 @@ use Rattle.std.proofs.Common.{◌≡◌, ℕ, ◌+◌, ◌&&◌, Bool, true, IsT
 use Rattle.std.proofs.lemmas.List.{take_all, places}
 use Rattle.std.proofs.lemmas.Bool.{and_parts}
 use Rattle.std.proofs.lemmas.Slice.Eq.{bytes_eq-Decides}
-use Rattle.media_store.specs.Calls.{FileCall, Read}
+use Rattle.media_store.specs.Calls.{FileCall}
 use Rattle.media_store.specs.Content.{written, KeepsOutside}
 use Rattle.media_store.specs.Honesty.{HasAgreed}
-use Rattle.media_store.specs.Replay.{Origin, content_of, agrees, is_honest}
+use Rattle.media_store.specs.Replay.{Origin, content_of, agrees_at, is_honest}
 use Rattle.media_store.specs.Whole.{HasRead, HasWritten}
 use Rattle.media_store.proofs.PartsWritten.{KeepsOutside-written}
 use Rattle.media_store.proofs.Joined.{and_true}
@@ -21,19 +21,19 @@ OnErr-always (Err error) holds = holds
 
 module _ (origin : Origin) (at : ℕ) (buffer : List ℕ) (ok : Bool) (old now : List FileCall) (read : HasRead origin at buffer ok old now) where
   stands : ℕ → Bool
-  stands count = agrees (Read at (take count buffer)) (content_of origin old)
+  stands count = agrees_at at (take count buffer) (content_of origin old)
 
   pub read-slice : IsTrue ok → IsTrue (is_honest origin now) → buffer ≡ slice_range (content_of origin old) at (at + length buffer)
   read-slice done honest =
       let count : read.count ≡ length buffer = read.whole done in
       let all : take read.count buffer ≡ buffer = take_all read.count buffer (omega arith) in
-      let parts = and_parts (is_honest origin old) (agrees (Read at (take read.count buffer)) (content_of origin old)) (sym read.honest ∙ honest) in
+      let parts = and_parts (is_honest origin old) (agrees_at at (take read.count buffer) (content_of origin old)) (sym read.honest ∙ honest) in
       let same : bytes_eq buffer (slice_range (content_of origin old) at (at + length buffer)) ≡ true =
       rw all at parts.1 in
       (bytes_eq-Decides buffer (slice_range (content_of origin old) at (at + length buffer))).0 same
 
   pub read-back : IsTrue (is_honest origin now) → IsTrue (is_honest origin old)
-  read-back honest = (and_parts (is_honest origin old) (agrees (Read at (take read.count buffer)) (content_of origin old)) (sym read.honest ∙ honest)).0
+  read-back honest = (and_parts (is_honest origin old) (agrees_at at (take read.count buffer) (content_of origin old)) (sym read.honest ∙ honest)).0
 
   pub read-agreed : HasAgreed (content_of origin old) at buffer ok (is_honest origin old) (is_honest origin now)
   read-agreed =
@@ -45,7 +45,7 @@ module _ (origin : Origin) (at : ℕ) (buffer : List ℕ) (ok : Bool) (old now :
         same = λ same.
             let slice = slice_range (content_of origin old) at (at + read.count) in
             let stands : bytes_eq (take read.count buffer) slice ≡ true = (bytes_eq-Decides (take read.count buffer) slice).1 same in
-            let agreed : agrees (Read at (take read.count buffer)) (content_of origin old) ≡ true = rw long stands in
+            let agreed : agrees_at at (take read.count buffer) (content_of origin old) ≡ true = rw long stands in
             read.honest ∙ ap (λ b. is_honest origin old && b) agreed ∙ and_true (is_honest origin old);
       }
 

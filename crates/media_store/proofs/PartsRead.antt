@@ -6,13 +6,13 @@ use Rattle.std.proofs.lemmas.Slice.Eq.{bytes_eq-Decides}
 use Rattle.media_store.proofs.Joined.{same_test, and_true, and_assoc}
 use Rattle.media_store.specs.Whole.{HasRead}
 use Rattle.media_store.specs.Calls.{FileCall, Read, NotRead, GaveUp}
-use Rattle.media_store.specs.Ends.{HasEnded, is_far}
-use Rattle.media_store.specs.Replay.{Origin, content_of, agrees, is_honest, is_synced}
+use Rattle.media_store.specs.Ends.{HasEnded}
+use Rattle.media_store.specs.Replay.{Origin, content_of, agrees_at, is_honest, is_synced}
 
 -- so many bytes have come into the front of a buffer
 pub record HasComeTo (origin : Origin) (at : ℕ) (buffer : List ℕ) (done : ℕ) (old new : List FileCall) : Type 0 where
   pub content : content_of origin new ≡ content_of origin old
-  pub honest : is_honest origin new ≡ (is_honest origin old && agrees (Read at (take done buffer)) (content_of origin old))
+  pub honest : is_honest origin new ≡ (is_honest origin old && agrees_at at (take done buffer) (content_of origin old))
   pub synced : is_synced new ≡ is_synced old
 
 -- the range of two parts
@@ -22,7 +22,7 @@ range-split content at m n = same_lists _ _ (search (rules, places)) (λ k d h. 
 
 -- two parts of what was read agree where the whole does
 pub agrees-append : (content : List ℕ) (at : ℕ) (first second : List ℕ) (m : ℕ) → length first ≡ m
-    → agrees (Read at (first ++ second)) content ≡ (agrees (Read at first) content && agrees (Read (at + m) second) content)
+    → agrees_at at (first ++ second) content ≡ (agrees_at at first content && agrees_at (at + m) second content)
 agrees-append content at first second m is =
     let n = length second in
     let front = slice_range content at (at + m) in
@@ -53,19 +53,19 @@ HasComeTo-none origin at buffer calls =
     record { content = refl; honest = rw none (sym (and_true (is_honest origin calls))); synced = refl }
 
 -- one more part comes
-pub HasComeTo-more : (origin : Origin) (at : ℕ) (buffer after part : List ℕ) (done end : ℕ) (old now : List FileCall)
+pub HasComeTo-more : (origin : Origin) (at : ℕ) (buffer after part : List ℕ) (done end count : ℕ) (old now : List FileCall)
     → done ≤ length buffer → end ≡ done + length part → take end after ≡ take done buffer ++ part
-    → HasComeTo origin at buffer done old now → HasComeTo origin at after end old (Read (at + done) part ∷ now)
-HasComeTo-more origin at buffer after part done end old now within is parts come =
+    → HasComeTo origin at buffer done old now → HasComeTo origin at after end old (Read (at + done) part count ∷ now)
+HasComeTo-more origin at buffer after part done end count old now within is parts come =
     let content = content_of origin old in
     let long : length (take done buffer) ≡ done = search (rules, places) in
-    let whole : agrees (Read at (take done buffer ++ part)) content
-    ≡ (agrees (Read at (take done buffer)) content && agrees (Read (at + done) part) content) =
+    let whole : agrees_at at (take done buffer ++ part) content
+    ≡ (agrees_at at (take done buffer) content && agrees_at (at + done) part content) =
     agrees-append content at (take done buffer) part done long in
     record {
       content = come.content;
-      honest = rw (parts, whole, come.content, come.honest) (and_assoc (is_honest origin old) (agrees (Read at (take done buffer)) content)
-          (agrees (Read (at + done) part) content));
+      honest = rw (parts, whole, come.content, come.honest) (and_assoc (is_honest origin old) (agrees_at at (take done buffer) content)
+          (agrees_at (at + done) part content));
       synced = come.synced;
     }
 
@@ -87,7 +87,7 @@ HasComeTo-end origin at buffer done old now come =
 
 -- all bytes have come, or some have not
 pub HasRead-whole : (origin : Origin) (at : ℕ) (buffer : List ℕ) (done : ℕ) (ok : Bool) (old now : List FileCall)
-    → done ≡ length buffer → HasEnded ok (is_far at (length buffer)) old now
+    → done ≡ length buffer → HasEnded ok at (length buffer) old now
     → HasComeTo origin at buffer done old now → HasRead origin at buffer ok old now
 HasRead-whole origin at buffer done ok old now all ended come = record {
   count = done;
@@ -100,7 +100,7 @@ HasRead-whole origin at buffer done ok old now all ended come = record {
 }
 
 pub HasRead-part : (origin : Origin) (at : ℕ) (buffer : List ℕ) (done : ℕ) (old now : List FileCall)
-    → done ≤ length buffer → HasEnded false (is_far at (length buffer)) old now
+    → done ≤ length buffer → HasEnded false at (length buffer) old now
     → HasComeTo origin at buffer done old now → HasRead origin at buffer false old now
 HasRead-part origin at buffer done old now within ended come = record {
   count = done;

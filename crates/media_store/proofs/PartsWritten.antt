@@ -4,7 +4,7 @@ use Rattle.std.proofs.lemmas.List.{append-nil, append_assoc, nil_from_length, ta
 use Rattle.std.proofs.lemmas.Bool.{cases_lt, false≢true}
 use Rattle.media_store.specs.Content.{resized, overlaid, written, KeepsOutside, KeepsFront}
 use Rattle.media_store.specs.Calls.{FileCall, Wrote, NotWritten, GaveUp}
-use Rattle.media_store.specs.Ends.{HasEnded, is_far}
+use Rattle.media_store.specs.Ends.{HasEnded}
 use Rattle.media_store.specs.Replay.{Origin, content_of, is_honest, path_of, is_synced}
 use Rattle.media_store.specs.Whole.{HasWritten}
 use Rattle.media_store.proofs.Writes.{written-some}
@@ -232,7 +232,7 @@ HasPutTo-end origin at bytes done old now p = record {
 
 -- all bytes are written, or some are not
 pub HasWritten-whole : (origin : Origin) (at : ℕ) (bytes : List ℕ) (done : ℕ) (ok : Bool) (old now : List FileCall)
-    → length bytes ≤ done → is_synced now ≡ false → HasEnded ok (is_far at (length bytes)) old now
+    → length bytes ≤ done → is_synced now ≡ false → HasEnded ok at (length bytes) old now
     → HasPutTo origin at bytes done old now → HasWritten origin at bytes ok old now
 HasWritten-whole origin at bytes done ok old now all synced ended p =
     let long : length p.put ≤ done = omega (arith, p.within) in
@@ -240,7 +240,7 @@ HasWritten-whole origin at bytes done ok old now all synced ended p =
     record { put = p.put; within = p.within; whole = λ _. same; content = p.content; honest = p.honest; synced = synced; ended = ended }
 
 pub HasWritten-part : (origin : Origin) (at : ℕ) (bytes : List ℕ) (done : ℕ) (old now : List FileCall)
-    → is_synced now ≡ false → HasEnded false (is_far at (length bytes)) old now
+    → is_synced now ≡ false → HasEnded false at (length bytes) old now
     → HasPutTo origin at bytes done old now → HasWritten origin at bytes false old now
 HasWritten-part origin at bytes done old now synced ended p = record {
   put = p.put;

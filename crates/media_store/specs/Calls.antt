@@ -15,8 +15,8 @@ pub data FileCall : Type 0 where
   -- where the end is, or that it was not told
   Measured : (len : ℕ) → FileCall
   NotMeasured : (interrupted : Bool) → FileCall
-  -- these bytes came from an offset on, or none of so many
-  Read : (at : ℕ) (bytes : List ℕ) → FileCall
+  -- these bytes, of so many, came from an offset on, or a read of so many failed
+  Read : (at : ℕ) (bytes : List ℕ) (count : ℕ) → FileCall
   NotRead : (at count : ℕ) (interrupted : Bool) → FileCall
   -- these bytes, of so many, were taken at an offset, or a write of so many failed
   Wrote : (at : ℕ) (bytes : List ℕ) (count : ℕ) → FileCall
@@ -44,7 +44,7 @@ measuring (Ok len) = Measured len
 measuring (Err error) = NotMeasured (was_interrupted error)
 
 abbrev pub reading : ℕ → List ℕ → Result ℕ Error → FileCall
-reading at buffer (Ok count) = Read at (take count buffer)
+reading at buffer (Ok count) = Read at (take count buffer) (length buffer)
 reading at buffer (Err error) = NotRead at (length buffer) (was_interrupted error)
 
 abbrev pub writing : ℕ → List ℕ → Result ℕ Error → FileCall
@@ -64,7 +64,7 @@ syncing (Err error) = NotSynced (was_interrupted error)
 abbrev pub succeeded : ℕ → ℕ → ℕ → List ℕ → FileCall
 succeeded kind number count bytes =
     if kind == END then Measured number
-    else if kind == READ then Read number bytes
+    else if kind == READ then Read number bytes count
     else if kind == WRITE then Wrote number bytes count
     else if kind == RESIZE then Resized number
     else if kind == SYNC then Synced

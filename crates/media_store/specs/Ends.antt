@@ -7,7 +7,7 @@ use Rattle.media_store.specs.Failures.{risen}
 -- write of a part goes on, but not one of no byte: there are no more, or each further write might take none
 abbrev pub has_failed : FileCall → Bool
 has_failed (NotMeasured interrupted) = not interrupted
-has_failed (Read at bytes) = length bytes == 0
+has_failed (Read at bytes count) = length bytes == 0 && nat_lt 0 count
 has_failed (NotRead at count interrupted) = not interrupted
 has_failed (Wrote at bytes count) = length bytes == 0 && nat_lt 0 count
 has_failed (NotWritten at count interrupted) = not interrupted
@@ -41,8 +41,34 @@ ends false far (last ∷ earlier) =
 abbrev pub is_far : ℕ → ℕ → Bool
 is_far at count = nat_le (2 ^ 64) (at + count)
 
--- own: one read or write made these calls
-pub record HasEnded (ok far : Bool) (old new : List FileCall) : Type 0 where
+-- own: how many bytes a call moved, and calls of one read or write
+abbrev pub moved : FileCall → ℕ
+moved (Read at bytes count) = length bytes
+moved (Wrote at bytes count) = length bytes
+moved call = 0
+
+abbrev pub all_moved : List FileCall → ℕ
+all_moved [] = 0
+all_moved (call ∷ earlier) = moved call + all_moved earlier
+
+-- own: whether a call is of just this range
+abbrev pub asks_for : ℕ → ℕ → FileCall → Bool
+asks_for at count (Read from bytes asked) = from == at && asked == count
+asks_for at count (NotRead from asked interrupted) = from == at && asked == count
+asks_for at count (Wrote from bytes asked) = from == at && asked == count
+asks_for at count (NotWritten from asked interrupted) = from == at && asked == count
+asks_for at count GaveUp = true
+asks_for at count call = false
+
+-- own: whether each of the calls of one read or write, the newest first, is of what those before it left of its range
+abbrev pub ask_for_the_rest : ℕ → ℕ → List FileCall → Bool
+ask_for_the_rest at count [] = true
+ask_for_the_rest at count (call ∷ earlier) =
+    asks_for (at + all_moved earlier) (count - all_moved earlier) call && ask_for_the_rest at count earlier
+
+-- own: one read or write of a range made these calls
+pub record HasEnded (ok : Bool) (at count : ℕ) (old new : List FileCall) : Type 0 where
   pub made : List FileCall
   pub calls : new ≡ made ++ old
-  pub ended : IsTrue (ends ok far made)
+  pub asked : IsTrue (ask_for_the_rest at count made)
+  pub ended : IsTrue (ends ok (is_far at count) made)

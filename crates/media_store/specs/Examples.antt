@@ -37,12 +37,12 @@ abbrev pub opened : List FileCall
 opened = Opened (47 ∷ []) ∷ []
 
 -- the newest call stands first
-written_and_read : is_honest origin (Read 1 (5 ∷ 3 ∷ []) ∷ Wrote 1 (5 ∷ []) 1 ∷ Read 0 (1 ∷ 2 ∷ []) ∷ Measured 3 ∷ opened) ≡ true
+written_and_read : is_honest origin (Read 1 (5 ∷ 3 ∷ []) 2 ∷ Wrote 1 (5 ∷ []) 1 ∷ Read 0 (1 ∷ 2 ∷ []) 2 ∷ Measured 3 ∷ opened) ≡ true
 written_and_read = refl
 
 -- the old byte is read, one byte is read behind the end, the length is wrong
-lies : (is_honest origin (Read 1 (2 ∷ 3 ∷ []) ∷ Wrote 1 (5 ∷ []) 1 ∷ opened) ≡ false)
-    × (is_honest origin (Read 2 (3 ∷ 0 ∷ []) ∷ opened) ≡ false) × (is_honest origin (Measured 4 ∷ opened) ≡ false)
+lies : (is_honest origin (Read 1 (2 ∷ 3 ∷ []) 2 ∷ Wrote 1 (5 ∷ []) 1 ∷ opened) ≡ false)
+    × (is_honest origin (Read 2 (3 ∷ 0 ∷ []) 2 ∷ opened) ≡ false) × (is_honest origin (Measured 4 ∷ opened) ≡ false)
 lies = (refl, refl, refl)
 
 -- an honest answer does not mend what was told before
@@ -60,7 +60,7 @@ synced : (is_synced (Synced ∷ Wrote 1 (5 ∷ []) 1 ∷ opened) ≡ true) × (i
 synced = (refl, refl, refl, refl)
 
 -- notes, read as calls
-notes : (call_of (record { numbers = 1 ∷ 7 ∷ []; bytes = 5 ∷ 6 ∷ []; flags = true ∷ [] }) ≡ Read 7 (5 ∷ 6 ∷ []))
+notes : (call_of (record { numbers = 1 ∷ 7 ∷ 4 ∷ []; bytes = 5 ∷ 6 ∷ []; flags = true ∷ [] }) ≡ Read 7 (5 ∷ 6 ∷ []) 4)
     × (call_of (record { numbers = 2 ∷ 7 ∷ 4 ∷ []; bytes = 5 ∷ []; flags = true ∷ [] }) ≡ Wrote 7 (5 ∷ []) 4)
     × (call_of (record { numbers = 2 ∷ 7 ∷ 4 ∷ []; bytes = []; flags = false ∷ false ∷ [] }) ≡ NotWritten 7 4 false)
     × (call_of (record { numbers = 4 ∷ []; bytes = []; flags = false ∷ true ∷ [] }) ≡ NotSynced true)

@@ -37,10 +37,14 @@ content_of origin [] = []
 content_of origin (call ∷ earlier) =
     after_call origin.held (origin.torn (path_of earlier) (length earlier)) call (content_of origin earlier)
 
+-- own: these bytes stand in the content at an offset
+abbrev pub agrees_at : ℕ → List ℕ → List ℕ → Bool
+agrees_at at bytes content = bytes_eq bytes (slice_range content at (at + length bytes))
+
 -- own: an answer agrees with the content: the length is its length, and the bytes stand in it
 abbrev pub agrees : FileCall → List ℕ → Bool
 agrees (Measured len) content = len == length content
-agrees (Read at bytes) content = bytes_eq bytes (slice_range content at (at + length bytes))
+agrees (Read at bytes count) content = agrees_at at bytes content
 agrees call content = true
 
 -- own: every answer agreed with the content at its time

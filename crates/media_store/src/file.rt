@@ -4,7 +4,7 @@ ghost use Rattle.std.specs.Prelude.{◌≡◌, ◌+◌, ◌≤◌, ◌∷◌, []
 ghost use Rattle.media_store.specs.Again.{Tries};
 ghost use Rattle.media_store.specs.Calls.{Opened, Measured, NotMeasured, Resized, NotResized, Synced, NotSynced};
 ghost use Rattle.media_store.specs.Content.{resized, written, KeepsOutside, KeepsFront};
-ghost use Rattle.media_store.specs.Ends.{HasEnded, is_far};
+ghost use Rattle.media_store.specs.Ends.{HasEnded};
 ghost use Rattle.media_store.specs.Failures.{counted};
 ghost use Rattle.media_store.specs.Honesty.{HasAgreed};
 
@@ -92,7 +92,7 @@ impl<C: FileCalls, S: Start> Store for FileStore<C, S> {
         ensures content { self.new.content ≡ self.old.content }
         ensures synced { self.new.synced ≡ self.old.synced }
         ensures failures { self.new.failures ≡ counted result self.old.failures }
-        ensures ended { HasEnded (is_ok result) (is_far at (length buf.new)) self.old.calls self.new.calls }
+        ensures ended { HasEnded (is_ok result) at (length buf.new) self.old.calls self.new.calls }
     {
         read_whole(&mut self.calls, at, buf)
     }
@@ -103,7 +103,7 @@ impl<C: FileCalls, S: Start> Store for FileStore<C, S> {
         ensures honest { self.new.honest ≡ self.old.honest }
         ensures synced { self.new.synced ≡ false }
         ensures failures { self.new.failures ≡ counted result self.old.failures }
-        ensures ended { HasEnded (is_ok result) (is_far at (length bytes.now)) self.old.calls self.new.calls }
+        ensures ended { HasEnded (is_ok result) at (length bytes.now) self.old.calls self.new.calls }
     {
         write_whole(&mut self.calls, at, bytes)
     }

@@ -81,7 +81,7 @@ impl FileCalls for SystemFile {
         let answer = self.file.read_at(buf, at);
         let asked = buf.len() as u64;
         match &answer {
-            Ok(count) => self.noted.note(&[READ, at], &buf[..*count], &[true]),
+            Ok(count) => self.noted.note(&[READ, at, asked], &buf[..*count], &[true]),
             Err(error) => self
                 .noted
                 .note(&[READ, at, asked], &[], &[false, is_interrupted(error)]),

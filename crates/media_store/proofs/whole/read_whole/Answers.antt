@@ -1,7 +1,7 @@
-use Rattle.std.proofs.Common.{rules, true, false, ◌≡◌, ℕ, ◌+◌, ◌-◌, ◌^◌, ◌≤◌, ◌==◌, length, List, ◌++◌, take, arith, ap, refl, sym, ◌∙◌}
+use Rattle.std.proofs.Common.{rules, true, false, ◌≡◌, ℕ, ◌+◌, ◌-◌, ◌^◌, ◌≤◌, ◌<◌, ◌==◌, length, List, ◌++◌, take, arith, ap, refl, sym, ◌∙◌}
 use Rattle.std.proofs.lemmas.List.{places, same_lists}
 use borrow.Rule.Slice.PartMut.{put_mid}
-use Rattle.media_store.proofs.Ended.{HasGoneOn-none, HasGoneOn-more, HasEnded-ok, HasEnded-failed, HasEnded-given-up, many, far}
+use Rattle.media_store.proofs.Ended.{HasGoneOn-none, HasGoneOn-more, HasEnded-ok, HasEnded-failed, HasEnded-given-up, asks-rest, moved-some, moved-none, many, far}
 use Rattle.media_store.proofs.PartsRead.{HasComeTo-none, HasComeTo-more, HasComeTo-again, HasComeTo-end, HasRead-whole, HasRead-part}
 use Rattle.media_store.proofs.whole.read_whole.Goals as goal
 use Rattle.media_store.proofs.whole.read_whole.Goals.{in-Ok, in-Err}
@@ -19,7 +19,7 @@ pub loop-init : goal.loop-init
 loop-init g c = record {
   within = search rules;
   come = λ origin. HasComeTo-none origin _ _ _;
-  goes = HasGoneOn-none _;
+  goes = HasGoneOn-none _ _ _;
 }
 
 pub loop-preserved : goal.loop-preserved
@@ -38,37 +38,39 @@ loop-preserved g c =
           let part : length (take w.in-Ok.count rest) ≡ w.in-Ok.count = search (rules, places) in
           let filled : take c.match-read_some.done after ≡ take done buffer ++ take w.in-Ok.count rest =
           rw w.done-is (take-filled done w.in-Ok.count buffer rest within few left) in
-          let some : (length (take w.in-Ok.count rest) == 0) ≡ false = rw part (search rules) in record {
+          let some : 0 < w.in-Ok.count = search rules in record {
             within = omega arith;
             come = λ origin. rw (w.in-Ok.ensures.noted, is) (HasComeTo-more origin c.args.at buffer after
-                (take w.in-Ok.count rest) done c.match-read_some.done _ _ within (omega arith) filled (c.loop.invariant.come origin));
-            goes = rw w.in-Ok.ensures.noted (HasGoneOn-more _ c.loop.counter _ _ _ some (omega arith) c.loop.invariant.goes);
+                (take w.in-Ok.count rest) done c.match-read_some.done _ _ _ within (omega arith) filled (c.loop.invariant.come origin));
+            goes = rw w.in-Ok.ensures.noted (HasGoneOn-more _ c.args.at (length buffer) _ c.loop.counter _ done _ _ _
+                (moved-some _ _ _ part some) (asks-rest _ _ _ _ is left) long (omega arith) (omega (arith, part)) c.loop.invariant.goes);
           }
       | in-Err w ↦
           let kept : take done after ≡ take done buffer = take-kept done buffer rest within left in record {
             within = omega arith;
             come = λ origin. rw (w.done-is, w.in-Err.ensures.noted)
                 (HasComeTo-again origin c.args.at buffer after done _ _ _ _ _ kept (c.loop.invariant.come origin));
-            goes = rw w.in-Err.ensures.noted (HasGoneOn-more _ c.loop.counter _ _ _ (search rules) (omega arith) c.loop.invariant.goes);
+            goes = rw w.in-Err.ensures.noted (HasGoneOn-more _ c.args.at (length buffer) _ c.loop.counter _ done _ _ _
+                (search rules) (asks-rest _ _ _ _ is left) long (omega arith) (omega arith) c.loop.invariant.goes);
           }
     ]
 
 pub returns-then-done-buf : goal.returns-then-done-buf
 returns-then-done-buf g c origin =
     HasRead-whole origin c.args.at c.loop.buf c.loop.done true _ _ (omega (arith, c.loop.invariant.within))
-    (HasEnded-ok _ _ _ _ c.loop.invariant.goes) (c.loop.invariant.come origin)
+    (HasEnded-ok _ _ _ _ _ _ c.loop.invariant.goes) (c.loop.invariant.come origin)
 
 pub returns-in_default : goal.returns-in_default
 returns-in_default g c origin =
     let past : 2 ^ 64 ≤ c.args.at + c.loop.done = search rules in
     rw c.give_up.ensures (HasRead-part origin c.args.at c.loop.buf c.loop.done _ _ c.loop.invariant.within
-    (HasEnded-given-up _ c.loop.counter _ _ (far c.args.at (length c.loop.buf) _ (omega (arith, past, c.loop.invariant.within))) c.loop.invariant.goes)
+    (HasEnded-given-up c.args.at (length c.loop.buf) c.loop.counter _ _ _ (far c.args.at (length c.loop.buf) _ (omega (arith, past, c.loop.invariant.within))) c.loop.invariant.goes)
     (HasComeTo-end origin c.args.at c.loop.buf c.loop.done _ _ (c.loop.invariant.come origin)))
 
 pub returns : goal.returns
 returns g c origin =
     rw c.give_up-2.ensures (HasRead-part origin c.args.at c.loop.buf c.loop.done _ _ c.loop.invariant.within
-    (HasEnded-given-up _ c.loop.counter _ _ (many _ c.loop.counter (omega arith)) c.loop.invariant.goes)
+    (HasEnded-given-up c.args.at (length c.loop.buf) c.loop.counter _ _ _ (many _ c.loop.counter (omega arith)) c.loop.invariant.goes)
     (HasComeTo-end origin c.args.at c.loop.buf c.loop.done _ _ (c.loop.invariant.come origin)))
 
 pub returns-in-Ok-eq0 : goal.returns-in-Ok-eq0
@@ -80,13 +82,16 @@ returns-in-Ok-eq0 g c origin =
     let is : c.in-Some.from ≡ c.args.at + done = search rules in
     let left : length rest ≡ length buffer - done = search (rules, places) in
     let after = put_mid done (length buffer - done) buffer rest in
+    let long : length after ≡ length buffer = search (rules, places) in
+    let some : 0 < length rest = omega arith in
     let kept : done ≤ length after = search (rules, places) in
     let none : done + 0 ≡ done = omega arith in
     let filled : take done after ≡ take done buffer ++ take 0 rest =
     ap (λ n. take n after) (sym none) ∙ take-filled done 0 buffer rest within (omega arith) left in
     rw (c.read_some.ensures.noted, c.in-Ok-eq0.is, c.in-Ok-eq0.field-0-test, is) (HasRead-part origin c.args.at after done _ _ kept
-    (HasEnded-failed _ _ _ _ _ refl refl c.loop.invariant.goes)
-    (HasComeTo-more origin c.args.at buffer after (take 0 rest) done done _ _ within (omega arith) filled (c.loop.invariant.come origin)))
+    (HasEnded-failed _ c.args.at (length buffer) _ c.loop.counter done _ _ (moved-none (take 0 rest) 0 _ refl refl some) refl (asks-rest _ _ _ _ refl left) long
+    c.loop.invariant.goes)
+    (HasComeTo-more origin c.args.at buffer after (take 0 rest) done done _ _ _ within (omega arith) filled (c.loop.invariant.come origin)))
 
 pub returns-in-Err-2 : goal.returns-in-Err-2
 returns-in-Err-2 g c origin =
@@ -96,7 +101,9 @@ returns-in-Err-2 g c origin =
     let within : done ≤ length buffer = c.loop.invariant.within in
     let left : length rest ≡ length buffer - done = search (rules, places) in
     let after = put_mid done (length buffer - done) buffer rest in
+    let is : c.in-Some.from ≡ c.args.at + done = search rules in
+    let long : length after ≡ length buffer = search (rules, places) in
     let kept : done ≤ length after = search (rules, places) in
     rw c.in-Err-2.ensures.noted (HasRead-part origin c.args.at after done _ _ kept
-    (HasEnded-failed _ _ _ _ _ (search rules) refl c.loop.invariant.goes)
+    (HasEnded-failed _ c.args.at (length buffer) _ c.loop.counter done _ _ (search rules) refl (asks-rest _ _ _ _ is left) long c.loop.invariant.goes)
     (HasComeTo-again origin c.args.at buffer after done _ _ _ _ _ (take-kept done buffer rest within left) (c.loop.invariant.come origin)))

@@ -8,5 +8,5 @@ abbrev pub invariant-loop : goal.invariant-loop
 invariant-loop g l = record {
   within : l.done ≤ length l.buf;
   come : (origin : Origin) → HasComeTo origin l.at l.buf l.done (g.C.FileCalls.calls l.fn.calls) (g.C.FileCalls.calls l.calls);
-  goes : HasGoneOn l.counter (g.C.FileCalls.calls l.fn.calls) (g.C.FileCalls.calls l.calls);
+  goes : HasGoneOn l.at (length l.buf) l.counter l.done (g.C.FileCalls.calls l.fn.calls) (g.C.FileCalls.calls l.calls);
 }

@@ -1,6 +1,6 @@
 use Rattle.std.proofs.Common.{rules, ◌≡◌, ℕ, ◌+◌, ◌-◌, ◌≤◌, ◌<◌, ◌^◌, length, List, ◌++◌, take, slice_range, arith, refl, true}
 use Rattle.std.proofs.lemmas.List.{places, same_lists}
-use Rattle.media_store.proofs.Ended.{HasGoneOn-more, HasEnded-ok, HasEnded-failed, HasEnded-given-up, many, far, took-some, took-all, took-none}
+use Rattle.media_store.proofs.Ended.{HasGoneOn-more, HasEnded-ok, HasEnded-failed, HasEnded-given-up, many, far, asks-rest, moved-some, moved-all, moved-none}
 use Rattle.media_store.proofs.PartsWritten.{HasPutTo-more, HasPutTo-again, HasPutTo-end, HasWritten-whole, HasWritten-part}
 use Rattle.media_store.proofs.whole.write_whole.Goals as goal
 use Rattle.media_store.proofs.whole.write_whole.Goals.{in-Ok+else-done-bytes+else-count-eq0, in-Err}
@@ -27,7 +27,8 @@ loop-preserved g c =
             within = omega arith;
             put = λ origin. rw (w.in-Ok.ensures.noted, is) (HasPutTo-more origin c.args.at bytes
                 (take w.in-Ok.count rest) done c.match-write_some.done _ _ _ within (omega arith) (omega arith) taken (c.loop.invariant.put origin));
-            goes = rw w.in-Ok.ensures.noted (HasGoneOn-more _ c.loop.counter _ _ _ (took-some _ _ _ part some) (omega arith) c.loop.invariant.goes);
+            goes = rw w.in-Ok.ensures.noted (HasGoneOn-more _ c.args.at (length bytes) _ c.loop.counter _ done _ _ _
+                (moved-some _ _ _ part some) (asks-rest _ _ _ _ is left) refl (omega arith) (omega (arith, part)) c.loop.invariant.goes);
             called = omega arith;
             synced = λ _. rw w.in-Ok.ensures.noted refl;
           }
@@ -35,7 +36,8 @@ loop-preserved g c =
         within = omega arith;
         put = λ origin. rw (w.done-is, w.in-Err.ensures.noted, is)
             (HasPutTo-again origin c.args.at bytes done (length rest) _ _ _ within left (c.loop.invariant.put origin));
-        goes = rw w.in-Err.ensures.noted (HasGoneOn-more _ c.loop.counter _ _ _ (search rules) (omega arith) c.loop.invariant.goes);
+        goes = rw w.in-Err.ensures.noted (HasGoneOn-more _ c.args.at (length bytes) _ c.loop.counter _ done _ _ _
+            (search rules) (asks-rest _ _ _ _ is left) refl (omega arith) (omega arith) c.loop.invariant.goes);
         called = omega arith;
         synced = λ _. rw w.in-Err.ensures.noted refl;
       }
@@ -53,7 +55,8 @@ returns-then-done-bytes g c origin =
     let part : length (take c.in-Ok.count rest) ≡ c.in-Ok.count = search (rules, places) in
     let all : c.in-Ok.count ≡ length rest = omega (arith, c.if-done-bytes.true) in
     rw (c.in-Ok.ensures.noted, is) (HasWritten-whole origin c.args.at bytes (done + c.in-Ok.count) true _ _ c.if-done-bytes.true refl
-    (HasEnded-ok _ _ _ _ (HasGoneOn-more _ c.loop.counter _ _ _ (took-all _ _ _ part all) refl c.loop.invariant.goes))
+    (HasEnded-ok c.args.at (length bytes) (c.loop.counter + 1) (c.in-Ok.count + done) _ _ (HasGoneOn-more _ c.args.at (length bytes) _ c.loop.counter _ done _ _ _
+    (moved-all _ _ _ part all) (asks-rest _ _ _ _ refl left) refl refl (omega (arith, part)) c.loop.invariant.goes))
     (HasPutTo-more origin c.args.at bytes (take c.in-Ok.count rest) done (done + c.in-Ok.count) _ _ _ within (omega arith)
     (omega arith) (take-rest done c.in-Ok.count bytes (omega arith)) (c.loop.invariant.put origin)))
 
@@ -70,7 +73,8 @@ returns-then-count-eq0 g c origin =
     let none : c.in-Ok.count ≡ 0 = search rules in
     let some : 0 < length rest = omega arith in
     rw (c.in-Ok.ensures.noted, is) (HasWritten-part origin c.args.at bytes (done + c.in-Ok.count) _ _ refl
-    (HasEnded-failed _ _ _ _ _ (took-none _ _ _ part none some) refl c.loop.invariant.goes)
+    (HasEnded-failed _ c.args.at (length bytes) _ c.loop.counter done _ _ (moved-none _ _ _ part none some) refl (asks-rest _ _ _ _ refl left) refl
+    c.loop.invariant.goes)
     (HasPutTo-more origin c.args.at bytes (take c.in-Ok.count rest) done (done + c.in-Ok.count) _ _ _ within (omega arith)
     (omega arith) (take-rest done c.in-Ok.count bytes (omega arith)) (c.loop.invariant.put origin)))
 
@@ -80,14 +84,14 @@ returns-in_default g c origin =
     let some : 0 < c.loop.done = omega (arith, c.ranges.at) in
     let called : 0 < c.loop.counter = omega (arith, c.loop.invariant.called) in
     rw c.give_up.ensures (HasWritten-part origin c.args.at c.args.bytes.now c.loop.done _ _ (c.loop.invariant.synced called)
-    (HasEnded-given-up _ c.loop.counter _ _ (far c.args.at (length c.args.bytes.now) _ (omega (arith, past, c.loop.invariant.within)))
+    (HasEnded-given-up c.args.at (length c.args.bytes.now) c.loop.counter _ _ _ (far c.args.at (length c.args.bytes.now) _ (omega (arith, past, c.loop.invariant.within)))
     c.loop.invariant.goes)
     (HasPutTo-end origin c.args.at c.args.bytes.now c.loop.done _ _ (c.loop.invariant.put origin)))
 
 pub returns : goal.returns
 returns g c origin =
     rw c.give_up-2.ensures (HasWritten-part origin c.args.at c.args.bytes.now c.loop.done _ _ (c.loop.invariant.synced (omega arith))
-    (HasEnded-given-up _ c.loop.counter _ _ (many _ c.loop.counter (omega arith)) c.loop.invariant.goes)
+    (HasEnded-given-up c.args.at (length c.args.bytes.now) c.loop.counter _ _ _ (many _ c.loop.counter (omega arith)) c.loop.invariant.goes)
     (HasPutTo-end origin c.args.at c.args.bytes.now c.loop.done _ _ (c.loop.invariant.put origin)))
 
 pub returns-in-Err-2 : goal.returns-in-Err-2
@@ -98,5 +102,5 @@ returns-in-Err-2 g c origin =
     let is : c.in-Some.to ≡ c.args.at + done = search rules in
     let left : length rest ≡ length bytes - done = search (rules, places) in
     rw (c.in-Err-2.ensures.noted, is) (HasWritten-part origin c.args.at bytes done _ _ refl
-    (HasEnded-failed _ _ _ _ _ (search rules) refl c.loop.invariant.goes)
+    (HasEnded-failed _ c.args.at (length bytes) _ c.loop.counter done _ _ (search rules) refl (asks-rest _ _ _ _ refl left) refl c.loop.invariant.goes)
     (HasPutTo-again origin c.args.at bytes done (length rest) _ _ _ c.loop.invariant.within left (c.loop.invariant.put origin)))

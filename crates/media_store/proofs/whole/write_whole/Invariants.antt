@@ -8,7 +8,7 @@ abbrev pub invariant-loop : goal.invariant-loop
 invariant-loop g l = record {
   within : l.done ≤ length l.bytes;
   put : (origin : Origin) → HasPutTo origin l.at l.bytes l.done (g.C.FileCalls.calls l.fn.calls) (g.C.FileCalls.calls l.calls);
-  goes : HasGoneOn l.counter (g.C.FileCalls.calls l.fn.calls) (g.C.FileCalls.calls l.calls);
+  goes : HasGoneOn l.at (length l.bytes) l.counter l.done (g.C.FileCalls.calls l.fn.calls) (g.C.FileCalls.calls l.calls);
   called : min l.done 1 ≤ l.counter;
   synced : 0 < l.counter → is_synced (g.C.FileCalls.calls l.calls) ≡ false;
 }

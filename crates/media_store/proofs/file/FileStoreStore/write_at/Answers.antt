@@ -27,7 +27,7 @@ returns-clause-synced g c =
 pub returns-clause-failures : goal.returns-clause-failures
 returns-clause-failures g c =
     let origin = origin_by g.S.Start.held g.S.Start.torn in
-    rw (← c.self.view_is) (HasEnded-counted _ _ _ _ (c.write_whole.ensures origin).ended)
+    rw (← c.self.view_is) (HasEnded-counted _ _ _ _ _ (c.write_whole.ensures origin).ended)
 
 pub returns-clause-ended : goal.returns-clause-ended
 returns-clause-ended g c =
