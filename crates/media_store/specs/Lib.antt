@@ -10,3 +10,4 @@ pub mod States
 pub mod Failing
 pub mod Lying
 pub mod Examples
+pub mod ExamplesCalls
