@@ -30,7 +30,8 @@ module _ {T E : Type 0} (done : T → FileCall) (note : Bool → FileCall) (old 
       → ((interrupted : Bool) (calls : List FileCall) → f (note interrupted ∷ calls) ≡ f calls)
       → ((calls : List FileCall) → f (GaveUp ∷ calls) ≡ f calls)
       → (result : Result T E) → Tries done note result old now → f now ≡ f old
-  tries-kept f by-done by-note by-end (Ok value) tried = rw tried.calls (by-done value _ ∙ kept f (note true) (by-note true) tried.times old)
+  tries-kept f by-done by-note by-end (Ok value) tried =
+      rw tried.calls (by-done value _ ∙ kept f (note true) (by-note true) tried.times old)
   tries-kept f by-done by-note by-end (Err error) (Refused tried) = rw tried.calls (by-note false _ ∙ kept f (note true) (by-note true) tried.times old)
   tries-kept f by-done by-note by-end (Err error) (GivenUp tried all) = rw tried.calls (by-end _ ∙ kept f (note true) (by-note true) tried.times old)
 
@@ -38,7 +39,8 @@ module _ {T E : Type 0} (done : T → FileCall) (note : Bool → FileCall) (old 
       → ((calls : List FileCall) → failed_calls (note true ∷ calls) ≡ failed_calls calls)
       → ((calls : List FileCall) → failed_calls (note false ∷ calls) ≡ risen (failed_calls calls))
       → (result : Result T E) → Tries done note result old now → failed_calls now ≡ counted result (failed_calls old)
-  tries-counted by-done interrupted failed (Ok value) tried = rw tried.calls (by-done value (replicate tried.times (note true) ++ old) ∙ kept failed_calls (note true) interrupted tried.times old)
+  tries-counted by-done interrupted failed (Ok value) tried =
+      rw tried.calls (by-done value (replicate tried.times (note true) ++ old) ∙ kept failed_calls (note true) interrupted tried.times old)
   tries-counted by-done interrupted failed (Err error) (Refused tried) =
       rw tried.calls (failed (replicate tried.times (note true) ++ old) ∙ ap risen (kept failed_calls (note true) interrupted tried.times old))
   tries-counted by-done interrupted failed (Err error) (GivenUp tried all) =

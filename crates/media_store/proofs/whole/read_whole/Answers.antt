@@ -64,7 +64,8 @@ pub returns-in_default : goal.returns-in_default
 returns-in_default g c origin =
     let past : 2 ^ 64 ≤ c.args.at + c.loop.done = search rules in
     rw c.give_up.ensures (HasRead-part origin c.args.at c.loop.buf c.loop.done _ _ c.loop.invariant.within
-    (HasEnded-given-up c.args.at (length c.loop.buf) c.loop.counter _ _ _ (far c.args.at (length c.loop.buf) _ (omega (arith, past, c.loop.invariant.within))) c.loop.invariant.goes)
+    (HasEnded-given-up c.args.at (length c.loop.buf) c.loop.counter _ _ _
+    (far c.args.at (length c.loop.buf) _ (omega (arith, past, c.loop.invariant.within))) c.loop.invariant.goes)
     (HasComeTo-end origin c.args.at c.loop.buf c.loop.done _ _ (c.loop.invariant.come origin)))
 
 pub returns : goal.returns

@@ -55,7 +55,8 @@ returns-then-done-bytes g c origin =
     let part : length (take c.in-Ok.count rest) ≡ c.in-Ok.count = search (rules, places) in
     let all : c.in-Ok.count ≡ length rest = omega (arith, c.if-done-bytes.true) in
     rw (c.in-Ok.ensures.noted, is) (HasWritten-whole origin c.args.at bytes (done + c.in-Ok.count) true _ _ c.if-done-bytes.true refl
-    (HasEnded-ok c.args.at (length bytes) (c.loop.counter + 1) (c.in-Ok.count + done) _ _ (HasGoneOn-more _ c.args.at (length bytes) _ c.loop.counter _ done _ _ _
+    (HasEnded-ok c.args.at (length bytes) (c.loop.counter + 1) (c.in-Ok.count + done) _ _
+    (HasGoneOn-more _ c.args.at (length bytes) _ c.loop.counter _ done _ _ _
     (moved-all _ _ _ part all) (asks-rest _ _ _ _ refl left) refl refl (omega (arith, part)) c.loop.invariant.goes))
     (HasPutTo-more origin c.args.at bytes (take c.in-Ok.count rest) done (done + c.in-Ok.count) _ _ _ within (omega arith)
     (omega arith) (take-rest done c.in-Ok.count bytes (omega arith)) (c.loop.invariant.put origin)))
@@ -84,7 +85,8 @@ returns-in_default g c origin =
     let some : 0 < c.loop.done = omega (arith, c.ranges.at) in
     let called : 0 < c.loop.counter = omega (arith, c.loop.invariant.called) in
     rw c.give_up.ensures (HasWritten-part origin c.args.at c.args.bytes.now c.loop.done _ _ (c.loop.invariant.synced called)
-    (HasEnded-given-up c.args.at (length c.args.bytes.now) c.loop.counter _ _ _ (far c.args.at (length c.args.bytes.now) _ (omega (arith, past, c.loop.invariant.within)))
+    (HasEnded-given-up c.args.at (length c.args.bytes.now) c.loop.counter _ _ _
+    (far c.args.at (length c.args.bytes.now) _ (omega (arith, past, c.loop.invariant.within)))
     c.loop.invariant.goes)
     (HasPutTo-end origin c.args.at c.args.bytes.now c.loop.done _ _ (c.loop.invariant.put origin)))
 
