@@ -1,4 +1,4 @@
--- The exit statuses, and what the faults of the parts are told as.
+-- The exit statuses, and the program's faults for the faults of its parts.
 use Rattle.std.specs.Prelude.{ℕ, Option, Some, None, Result, Ok, Err}
 use Rattle.command_line.specs.declared.fault.WordsFault.{WordsFault}
 use Rattle.command_line.specs.declared.fault.WordsFault.TheVariants as words
@@ -13,7 +13,8 @@ use Rattle.target_units.specs.declared.fault.OpenFault.TheVariants as opens
 use Rattle.targetd.specs.declared.fault.Fault.{Fault}
 use Rattle.targetd.specs.declared.fault.Fault.TheVariants as faults
 
--- profile: 0 is the end of input or turns, 1 the configuration, 2 what the caller wrote, 3 what failed around the program
+-- profile: 0 means the end of the input or of the turns, 1 a fault of the configuration. 2 means a fault in what the
+-- caller wrote, 3 a failure around the program
 abbrev pub status_of : Result (Unit {0}) Fault → ℕ
 status_of (Ok end) = 0
 status_of (Err (faults.Configuration number)) = 1
@@ -51,7 +52,7 @@ replay_fault replays.Input = faults.Input
 replay_fault replays.Output = faults.Output
 replay_fault replays.OutOfMemory = faults.OutOfMemory
 
--- why nothing listens
+-- why the address is not listened on
 abbrev pub bind_fault : BindFault → Fault
 bind_fault (binds.Socket code) = faults.Socket
 bind_fault binds.Memory = faults.OutOfMemory

@@ -1,4 +1,4 @@
--- What a run leaves, as clauses see it.
+-- What remains after a run, as clauses see it.
 use Rattle.std.specs.Prelude.{List, option_map}
 use Rattle.iscsi_ports.specs.Log.{Entry}
 use Rattle.iscsi_ports.specs.declared.socket_ports.SocketPorts.{SocketPorts}

@@ -33,39 +33,40 @@ use Rattle.targetd.specs.Serve.{listening_line, Serves}
 abbrev pub known_of : Document → KnownTargets
 known_of document = record { names = names_of document.targets; portal = document.listen }
 
--- what the target of a configuration is made with, where these are its units
+-- what the target of a configuration is made from, if these are its units
 abbrev pub setting_of : Document → List UnitStates → Setting
 setting_of document units = record { directory = known_of document; units = units }
 
--- the configuration of a file by its contents; none where it cannot be read
+-- the configuration that the contents of a file describe, or a fault; a file that cannot be read has no contents
 abbrev pub configured_by : Option (List ℕ) → Result Document ConfigFault
 configured_by None = Err Unreadable
 configured_by (Some contents) = file_config_of contents
 
--- what ports tell before they are served: the address that they were asked for, and where they listen
+-- what ports report before they are served: the address that was requested, and where they listen
 abbrev pub listening : List ℕ → SocketAddr → List Entry
 listening text address = Listened text ∷ Located (ip_octets (socket_ip address)) (socket_port address) ∷ []
 
--- what serving left: what its ports told, and its target
+-- what remains after serving: what its ports reported, and its target
 pub record ServedState : Type 0 where
   pub log : List Entry
   pub target : Machine
 
--- what a run left: what stands in for standard streams, what was told of the configuration's file, the target of a replay, what serving left
+-- what remains after a run: what stands in for standard streams, what was reported about the configuration's file, a
+-- replay's target, and what serving left
 pub record LeftState : Type 0 where
   pub streams : StreamsState
   pub told : List Noted
   pub replayed : Option Machine
   pub served : Option ServedState
 
--- why a run ends before it has made a target: its configuration, a unit in a file, or an allocation
+-- why a run ends before it has made a target: its configuration, a unit in a file, or an allocation that failed
 abbrev pub FailsEarly : Result Document ConfigFault → Fault → Type 0
 FailsEarly (Ok document) fault = IsUnopened document.targets fault
 FailsEarly (Err why) fault = (fault ≡ OutOfMemory) ⊎ (fault ≡ config_fault why)
 
 module _ (held : Held) (left : LeftState) (printed printed_then : Option (List ℕ)) where
-  -- Serving at these units, from a new target, by ports that were asked for the configured address and told where they
-  -- listen. It leaves both; a target of which no unit is in a file is sound.
+  -- Serving these units from a new target. Its ports were asked for the configured address, and reported where they
+  -- listen. Ports and target remain; a target of which no unit is in a file is sound.
   pub record IsServing (document : Document) (count : ℕ) (result : Result (Unit {0}) Fault) : Type 0 where
     pub units : List UnitStates
     pub opened : AreUnitsOf held document.targets units
@@ -76,10 +77,10 @@ module _ (held : Held) (left : LeftState) (printed printed_then : Option (List �
     pub address : SocketAddr
     pub serves : Serves (listening_line address) count true (listening document.listen address) served.log
         (new_machine (known_of document) units) served.target printed printed_then result
-    -- So, in all, of a sound target: what was written on each open connection, and then what waits, is what the World of the
-    -- log's events answers, a front of it on one that is over.
+    -- In all, of a sound target: what was written on an open connection, and then what waits, is what the World of the
+    -- log's events answers. On a connection that is over, what was written is a prefix of them.
     pub whole : IsSound served.target → HasBeenServed MayHappen (setting_of document units) served.log served.target
-    -- and of every target, by how its commands came out: as defined in each target whose units are sound
+    -- and of every target, depending on how its commands came out: as defined in each target whose units are sound
     pub came : HasBeenServed (MayComeOut served.target) (setting_of document units) served.log served.target
     -- no connection made the target hold more than it may
     pub bounded : Bounded served.target
@@ -88,7 +89,7 @@ module _ (held : Held) (left : LeftState) (printed printed_then : Option (List �
   IsServingAt count (Ok document) result = IsServing document count result
   IsServingAt count (Err why) result = ⊥
 
-  -- how serving at this configuration ends: before it listens, or by its turns
+  -- how serving this configuration ends: before it listens, or as its turns end
   abbrev pub ServesAt : ℕ → Result Document ConfigFault → Result (Unit {0}) Fault → Type 0
   ServesAt count configured result =
       (Keeps printed printed_then × IsErrAnd result (λ fault. (fault ≡ Socket) ⊎ FailsEarly configured fault)) ⊎ IsServingAt count configured result
@@ -98,19 +99,19 @@ module _ (held : Held) (left : LeftState) (unread unread_then printed printed_th
   abbrev pub IsUntouched : Type 0
   IsUntouched = Keeps unread unread_then × Keeps printed printed_then
 
-  -- how the lines of a replay end, of a target that is sound
+  -- how the lines of a replay end if the target is sound
   abbrev pub CarriesOut : Setting → Result (Unit {0}) Fault → Type 0
   CarriesOut s (Ok end) = Ends unread unread_then printed printed_then s
   CarriesOut s (Err fault) = (why : ReplayFault) × (fault ≡ replay_fault why) × EndsBy unread unread_then printed printed_then s why
 
-  -- of every target, as it is left, by how the commands of the lines came out
+  -- how they end with every target, as it is left, depending on how the commands of the lines came out
   abbrev pub CarriesOutAsCame : Setting → Machine → Result (Unit {0}) Fault → Type 0
   CarriesOutAsCame s target (Ok end) = EndsAsCame unread unread_then printed printed_then s target
   CarriesOutAsCame s target (Err fault) =
       (why : ReplayFault) × (fault ≡ replay_fault why) × EndsAsCameBy unread unread_then printed printed_then s target why
 
-  -- a replay at these units, which leaves a target: the lines were carried out, whatever its stores did; where it is sound, as
-  -- it is if no unit is in a file, as definitions say
+  -- A replay with these units, which leaves a target. The lines were carried out, whatever its stores did. If the
+  -- target is sound, they came out as the definitions say; it is sound if no unit is in a file.
   pub record IsReplay (document : Document) (result : Result (Unit {0}) Fault) : Type 0 where
     pub units : List UnitStates
     pub opened : AreUnitsOf held document.targets units
@@ -124,7 +125,7 @@ module _ (held : Held) (left : LeftState) (unread unread_then printed printed_th
   IsReplayAt (Ok document) result = IsReplay document result
   IsReplayAt (Err why) result = ⊥
 
-  -- how a replay at this configuration ends: before its first line, or by its lines
+  -- how a replay with this configuration ends: before its first line, or as its lines end
   abbrev pub Replays : Result Document ConfigFault → Result (Unit {0}) Fault → Type 0
   Replays configured result = (IsUntouched × IsErrAnd result (FailsEarly configured)) ⊎ IsReplayAt configured result
 
@@ -132,7 +133,7 @@ module _ (held : Held) (left : LeftState) (unread unread_then printed printed_th
   abbrev pub IsStarved : Result (Unit {0}) Fault → Type 0
   IsStarved result = (result ≡ Err OutOfMemory) × IsUntouched
 
-  -- how a run ends whose words are no command, and call for help or not
+  -- how a run ends if its words are no command, whether they call for help or not
   abbrev pub Refuses : Bool → Result (Unit {0}) Fault → Type 0
   Refuses help result = Keeps unread unread_then
       × IsErrAnd result (λ fault. RefusesWords printed printed_then help fault ⊎ ((fault ≡ OutOfMemory) × Keeps printed printed_then))
@@ -141,16 +142,16 @@ module _ (held : Held) (left : LeftState) (unread unread_then printed printed_th
   abbrev pub LacksStreams : Result (Unit {0}) Fault → Type 0
   LacksStreams result = (result ≡ Err Streams) × AreLacking left.streams × IsUntouched
 
-  -- a replay of the file at a path, which is what was told of it
+  -- a replay with the configuration file at a path, whose contents are those that were reported
   abbrev pub ReplaysFile : List Noted → List ℕ → Result (Unit {0}) Fault → Type 0
   ReplaysFile told path result = (file : Option (List ℕ)) × (left.told ≡ told_of path file told) × Replays (configured_by file) result
 
-  -- serving at the file at a path, which is what was told of it
+  -- serving with the configuration file at a path, whose contents are those that were reported
   abbrev pub ServesFile : List Noted → List ℕ → ℕ → Result (Unit {0}) Fault → Type 0
   ServesFile told path turns result = Keeps unread unread_then × ((file : Option (List ℕ)) × (left.told ≡ told_of path file told)
       × ServesAt held left printed printed_then turns (configured_by file) result)
 
-  -- How a run by these words ends. Before it opens a file the descriptors of the standard streams are taken.
+  -- How a run with these words ends. The descriptors of the standard streams are taken before it opens a file.
   abbrev pub Runs : List Noted → Bool → Option Command → Result (Unit {0}) Fault → Type 0
   Runs told help None result = Refuses help result
   Runs told help (Some (Replay path)) result = IsStarved result ⊎ (LacksStreams result ⊎ (AreTaken left.streams × ReplaysFile told path result))

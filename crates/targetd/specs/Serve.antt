@@ -16,20 +16,20 @@ use Rattle.targetd.specs.declared.fault.Fault.TheVariants as faults
 abbrev pub listening_line : SocketAddr → List ℕ
 listening_line address = codes "listening on " ++ socket_text address ++ codes "\n"
 
--- profile: a fault of the loop ends the program as one of the sockets
+-- profile: a fault of the loop ends the program as a fault of the sockets
 abbrev pub ended_by : Result (Unit {0}) ServeFault → Result (Unit {0}) Fault
 ended_by (Ok end) = Ok end
 ended_by (Err fault) = Err faults.Socket
 
 module _ (line : List ℕ) (count : ℕ) (tells : Bool) (log log_then : List Entry) (target target_then : Machine) (printed printed_then : Option (List ℕ)) where
-  -- the line was not printed whole: an allocation failed, or the output
+  -- the line was not printed completely: an allocation or the output failed
   abbrev pub FailsToPrint : Fault → Type 0
   FailsToPrint fault = ((fault ≡ faults.OutOfMemory) × Keeps printed printed_then)
       ⊎ ((fault ≡ faults.Output) × ((front : List ℕ) × (unprinted : List ℕ) × (line ≡ front ++ unprinted) × Appends printed printed_then front))
 
-  -- The line was printed, and the loop made so many turns, or those up to its first fault. Of every target: what it did turn by
-  -- turn, within the bound, and that what was written stays what the World answers, by how the commands came out; of a sound one,
-  -- as they are defined.
+  -- The line was printed, and the loop made `count` turns, or those up to its first fault. Of every target it is stated
+  -- what it did turn by turn, and that it stays within its bound. What was written stays what the World answers,
+  -- depending on how the commands came out; for a sound target, as they are defined.
   pub record HasServed (ended : Result (Unit {0}) ServeFault) : Type 0 where
     pub announced : Appends printed printed_then line
     pub turned : tells ≡ true → (m : Moment) × (log_then ≡ log_of m) × (target_then ≡ m.target) × EndsTurns count (beginning target log) ended m
@@ -38,7 +38,7 @@ module _ (line : List ℕ) (count : ℕ) (tells : Bool) (log log_then : List Ent
     pub bounded : Bounded target → Bounded target_then
     pub sure : IsSure target → IsSure target_then
 
-  -- nothing was served where the line was not printed; otherwise the program ends as the loop did
+  -- nothing was served if the line was not printed; otherwise the program ends as the loop did
   abbrev pub Serves : Result (Unit {0}) Fault → Type 0
   Serves result = (IsErrAnd result FailsToPrint × (log_then ≡ log) × (target_then ≡ target))
       ⊎ ((ended : Result (Unit {0}) ServeFault) × (result ≡ ended_by ended) × HasServed ended)

@@ -1,4 +1,4 @@
--- Why a run ends where units are not opened: only one in a file can fail.
+-- Why a run ends if units are not opened: only a unit in a file can fail.
 use Rattle.std.specs.Prelude.{◌≡◌, List, true, string_bytes}
 use Rattle.target_config.specs.Configuration.{TargetEntry}
 use Rattle.target_units.specs.Unopened.{has_file_unit_at}

@@ -7,8 +7,8 @@ use std::env::{self, FillError};
 use std::io::ErrorKind;
 use std::rt::Env;
 
-/// The environment, with the words of the command line counted from behind the program's name,
-/// which need not be UTF-8.
+/// The environment, with the words of the command line counted from the first after the program's name. The name
+/// itself need not be UTF-8.
 struct WithoutName<'a, E>(&'a E);
 
 impl<E> Drop for WithoutName<'_, E> {
@@ -31,7 +31,7 @@ impl<E: Env> Env for WithoutName<'_, E> {
     }
 }
 
-/// The words that stand behind the program's name. One that is not UTF-8 is a usage fault.
+/// Returns the words after the program's name. A word that is not UTF-8 is a usage fault.
 pub fn arguments(rt: &(impl Env + AllocGlobal)) -> Result<Vec<String>, Fault>
     ensures { IfErr result (λ fault. fault ≢ Fault.OutOfMemory → fault ≡ Fault.Usage) }
 {

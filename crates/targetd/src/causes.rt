@@ -1,4 +1,4 @@
-//! Why nothing is served, for the log: the program's own line names neither the rule nor the error of the system.
+//! Why nothing is served, for the log. The program's own line names neither the rule nor the system's error.
 
 use iscsi_ports::BindFault;
 use session_log::tell_start_fault;
@@ -10,10 +10,10 @@ use std::rt::{Clock, Files};
 use target_config::{Configuration, MediumConfiguration, TargetConfiguration};
 use target_units::{DeviceCause, OpenFault};
 
-/// Where causes are told.
+/// Where causes are reported.
 #[derive(Drop)]
 pub struct Causes {
-    /// The path of the log. `None`: there is to be none.
+    /// The path of the log; `None` if none is written.
     log: Option<String>,
     /// The paths of the files of units.
     files: Vec<String>,
@@ -36,7 +36,7 @@ fn put_files(
     Ok(())
 }
 
-/// Puts an error of the system in words, with its number.
+/// Appends an error of the system in words, with its number.
 fn put_error(line: &mut String, code: Option<i32>) -> Result<(), AllocError> {
     match code {
         Some(code) => {
@@ -47,7 +47,7 @@ fn put_error(line: &mut String, code: Option<i32>) -> Result<(), AllocError> {
     }
 }
 
-/// Puts what is wrong with the file of a unit.
+/// Appends what is wrong with the file of a unit.
 fn put_cause(line: &mut String, cause: DeviceCause) -> Result<(), AllocError> {
     match cause {
         DeviceCause::Unopened { code } => put_error(line, code),
@@ -61,7 +61,7 @@ fn put_cause(line: &mut String, cause: DeviceCause) -> Result<(), AllocError> {
     }
 }
 
-/// Returns the line of a unit that is not opened.
+/// Returns the log's line about a unit that is not opened.
 fn device_line(
     alloc: Global,
     target: &str,
@@ -74,7 +74,7 @@ fn device_line(
     Ok(line)
 }
 
-/// Returns the line of an address that is not listened on.
+/// Returns the log's line about an address that is not listened on.
 fn socket_line(alloc: Global, address: &str, code: Option<i32>) -> Result<String, AllocError> {
     let mut line = String::new(alloc);
     write!(line, "socket fault at {address}: ")?;
@@ -94,7 +94,7 @@ fn files_of(alloc: Global, configuration: &Configuration) -> Result<Vec<String>,
     Ok(files)
 }
 
-/// Returns a copy of the path of the log, if there is to be one.
+/// Returns a copy of the path of the log. It is `None` if the configuration names no log, or if an allocation fails.
 fn log_of(alloc: Global, configuration: &Configuration) -> Option<String> {
     match &configuration.log {
         Some(path) => String::from_str(alloc, path.as_str()).ok(),
@@ -103,7 +103,7 @@ fn log_of(alloc: Global, configuration: &Configuration) -> Option<String> {
 }
 
 impl Causes {
-    /// Returns where the causes of this configuration are told: nowhere where an allocation fails.
+    /// Returns where the causes of this configuration are reported: nowhere if an allocation fails.
     pub fn of(alloc: Global, configuration: &Configuration) -> Causes {
         match files_of(alloc, configuration) {
             Ok(files) => Causes {
@@ -117,7 +117,7 @@ impl Causes {
         }
     }
 
-    /// Writes a line to the log, if there is to be one.
+    /// Writes a line to the log, if there is a log and the line could be allocated.
     fn tell(
         &self,
         rt: &(impl Files<File = File> + Net + Clock),
@@ -135,7 +135,7 @@ impl Causes {
         }
     }
 
-    /// Tells why units are not opened.
+    /// Writes to the log why units are not opened, unless an allocation failed.
     pub fn tell_unopened(
         &self,
         rt: &(impl Files<File = File> + Net + Clock),
@@ -148,7 +148,7 @@ impl Causes {
         }
     }
 
-    /// Tells why an address is not listened on.
+    /// Writes to the log why an address is not listened on, unless an allocation failed.
     pub fn tell_unbound(
         &self,
         rt: &(impl Files<File = File> + Net + Clock),

@@ -1,4 +1,4 @@
-//! How a run ends that does not reach the end of its input or of its turns.
+//! How a run ends if it does not reach the end of its input or of its turns.
 
 ghost use Rattle.std.specs.Prelude.{◌≡◌, Result};
 ghost use Rattle.targetd.specs.Fault.{status_of as exit_status, words_fault, config_fault, opening_fault, replay_fault, bind_fault};
@@ -17,19 +17,19 @@ use thiserror::Error;
 /// Why the run ended. Its text is its line on standard error.
 #[derive(Debug, Drop, Error)]
 pub enum Fault {
-    /// The configuration cannot be used; its number says why.
+    /// The configuration cannot be used; `number` says why.
     #[error("targetd: configuration fault {number}")]
     Configuration { number: u8 },
-    /// The words are not those of a command.
+    /// The words are no command.
     #[error("targetd: usage")]
     Usage,
-    /// A line of the input, counted from 1, is of another form, or breaks a condition.
+    /// A line of the input, counted from 1, is malformed or breaks a condition.
     #[error("targetd: line {line} refused")]
     Refused { line: u64 },
-    /// The unit of a target cannot be opened.
+    /// A unit of a target cannot be opened.
     #[error("targetd: device fault at {target} unit {lun}")]
     Device { target: String, lun: u8 },
-    /// The address cannot be listened on, or the sockets failed.
+    /// The program cannot listen on the address, or the sockets failed.
     #[error("targetd: socket fault")]
     Socket,
     /// Standard input failed, or had no end.
@@ -46,7 +46,7 @@ pub enum Fault {
     OutOfMemory,
 }
 
-/// The status that a run ends the program with.
+/// Returns the exit status of the program after a run that ended so.
 pub fn status_of(ended: &Result<(), Fault>) -> u8
     ensures { result ≡ exit_status ended.now }
 {

@@ -1,4 +1,4 @@
-//! Words that are no command, and the usage that calls for help are shown.
+//! Words that are no command, and the usage that is printed for a call for help.
 
 ghost use Rattle.std.specs.Prelude.{map};
 ghost use Rattle.command_line.specs.Help.{calls_for_help};
@@ -9,7 +9,7 @@ use command_line::{is_help, usage};
 use std::io::Write;
 use target_replay::print_all;
 
-/// Why a run ends whose words are no command. A call for help is shown the usage first.
+/// Returns the fault of a run whose words are no command. If they call for help, prints the usage first.
 pub fn refuse_words<W: Write>(words: &[&str], writer: &mut W) -> Fault
     ensures { RefusesWords (W.contents writer.old) (W.contents writer.new) (calls_for_help (map (λ word. word.now) words.now)) result }
 {

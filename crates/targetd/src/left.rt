@@ -1,4 +1,4 @@
-//! What a run leaves behind.
+//! What remains after a run.
 
 ghost use Rattle.std.specs.Prelude.{◌≡◌, [], None};
 
@@ -9,19 +9,19 @@ use media_store::Start;
 use standard_streams::Streams;
 use target_units::SystemStore;
 
-/// Ports that were served, and the target that they were served by.
+/// Ports that were served, and the target that served them.
 #[derive(Drop)]
 pub struct Served<S: Start> {
     pub ports: MioPorts,
     pub target: Target<SystemStore<S>>,
 }
 
-/// What a run leaves behind, so that it can be said of it what was told, and whether the target is sound.
+/// What remains after a run. With it the clauses state what the system reported, and whether the target is sound.
 #[derive(Drop)]
 pub struct Left<S: Start> {
-    /// What stands in for standard streams that were closed. It is held until the program ends.
+    /// What stands in for standard streams that were closed. It is kept until the program ends.
     pub streams: Streams,
-    /// What the system told of the configuration's file.
+    /// What the system reported about the configuration's file.
     pub told: Record,
     /// The target of a replay.
     pub replayed: Option<Target<SystemStore<S>>>,
@@ -29,7 +29,7 @@ pub struct Left<S: Start> {
 }
 
 impl<S: Start> Left<S> {
-    /// Nothing.
+    /// Returns what remains before anything is done: nothing.
     pub fn new() -> Left<S>
         ensures told { result.told.calls ≡ [] }
         ensures replayed { result.replayed ≡ None }

@@ -1,4 +1,4 @@
-//! Serving with a log, where the configuration names one.
+//! Serving with a log, if the configuration names one.
 
 ghost use Rattle.std.specs.Prelude.{◌≡◌, ◌⊎◌, IfErr};
 ghost use Rattle.targetd.specs.Serve.{listening_line, Serves};
@@ -15,7 +15,7 @@ use std::io::{self, ErrorKind, Write};
 use std::net::{Net, SocketAddr};
 use std::rt::{Clock, Files};
 
-/// What an error of the system at the log's file is told as.
+/// Returns the fault for an error of the system at the log's file.
 fn unopened(error: &io::Error) -> Fault
     ensures { (result ≡ Output) ⊎ (result ≡ OutOfMemory) }
 {
@@ -25,7 +25,7 @@ fn unopened(error: &io::Error) -> Fault
     }
 }
 
-/// Opens the log, if there is to be one.
+/// Opens the log at this path, if there is one.
 fn open_log<'r, R: Files<File = File> + AllocGlobal + Net + Clock>(
     rt: &'r R,
     path: Option<String>,
@@ -42,8 +42,8 @@ fn open_log<'r, R: Files<File = File> + AllocGlobal + Net + Clock>(
     }
 }
 
-/// Serves, and writes the log that this path names, if there is one. Where it cannot be opened nothing is served. It has no
-/// say in what is served.
+/// Serves, and writes the log at this path, if there is one. If the log cannot be opened, nothing is served. It does
+/// not change what is served.
 pub fn serve_logged<S: Store, W: Write, R: Files<File = File> + AllocGlobal + Net + Clock>(
     rt: &R,
     address: SocketAddr,

@@ -11,7 +11,7 @@
 //! targetd replay --config F
 //! ```
 //!
-//! makes the target that the TOML file F describes, reads events from standard input, one a line,
+//! makes the target that the TOML file F describes, reads events from standard input, one per line,
 //! and prints what the target answers:
 //!
 //! ```text
@@ -23,8 +23,8 @@
 //! 0 closed           the target has closed it
 //! ```
 //!
-//! A run that ends with its input or its turns has status 0. Any other prints its [`Fault`], and ends
-//! with the fault's status.
+//! A run that reaches the end of its input or of its turns has status 0. Any other run prints its
+//! [`Fault`], and ends with the fault's status.
 #![tactic(auto)]
 
 mod arguments;
@@ -45,7 +45,7 @@ use run::run;
 use std::io;
 use std::process::ExitCode;
 
-/// Does what the words of the command line say.
+/// Runs the program with the words of the command line.
 fn carry_out(rt: &HostRuntime) -> Result<(), Fault> {
     let words = arguments(rt)?;
     run::<Unknown, _, _>(
@@ -60,7 +60,7 @@ fn carry_out(rt: &HostRuntime) -> Result<(), Fault> {
 fn main(rt: HostRuntime) -> ExitCode {
     let ended = carry_out(&rt);
     if let Err(fault) = &ended {
-        // There is nobody left to tell that standard error failed.
+        // If standard error fails, there is nowhere left to report it.
         let _ = eprintln!(rt; "{fault}");
     }
     ExitCode::from(status_of(&ended))

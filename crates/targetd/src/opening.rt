@@ -1,4 +1,4 @@
-//! What a target is made with: the units of a configuration, opened, and their targets' names.
+//! What a target is made from: the opened units of a configuration, and the names of its targets.
 
 ghost use Rattle.std.specs.Prelude.{◌≡◌, IfOk, IfErr, true, map, string_bytes};
 ghost use Rattle.target_config.specs.Configuration.{names_of, targets_view, configuration_view};
@@ -17,17 +17,17 @@ use std::rt::{Clock, Files};
 use target_config::Configuration;
 use target_units::{OpenedTargets, SystemStore};
 
-/// What a target is made with.
+/// What a target is made from.
 #[derive(Drop)]
 pub struct Setup<S: Start> {
     pub config: Config,
-    /// Where the log is written to.
+    /// The path of the log, if there is one.
     pub log: Option<String>,
-    /// Of each target, in order.
+    /// The units of each target, in order.
     pub units: Vec<Units<SystemStore<S>>>,
 }
 
-/// Returns what a target is made with, of a configuration whose units are opened.
+/// Returns what a target is made from, if these are the opened units of its configuration.
 fn setup_of<S: Start>(opened: OpenedTargets<S>) -> Setup<S>
     ensures listen { result.config.listen ≡ opened.listen }
     ensures names { result.config.targets ≡ opened.names }
@@ -63,7 +63,7 @@ pub fn open<S: Start>(
     Ok(setup_of(target_units::open(rt, configuration)?))
 }
 
-/// Does the same, and tells the log why units are not opened.
+/// Opens the units of all targets as [`open`] does. If one cannot be opened, writes the reason to the log.
 pub fn open_telling<S: Start>(
     rt: &(impl Files<File = File> + AllocGlobal + Net + Clock),
     configuration: Configuration,

@@ -1,4 +1,4 @@
-//! A whole run: its words, its configuration, its target, its lines or its turns.
+//! A whole run: its words, its configuration, its target, and its lines or its turns.
 
 ghost use Rattle.std.specs.Prelude.{◌≡◌, ◌⊎◌, ◌∷◌, [], IfOk, IfErr, OnOk, OnErr, IsOkUnless, map, string_bytes};
 ghost use Rattle.iscsi_ports.specs.Log.{Listened};
@@ -27,7 +27,7 @@ use std::rt::{Clock, Files};
 use target_config::{file_config, load};
 use target_replay::{Engine, replay};
 
-/// Takes the descriptors of the standard streams, so that no file that is opened gets one of them.
+/// Takes the descriptors of the standard streams, so that no file that is opened later gets one of them.
 fn take_streams<S: Start>(rt: &impl Files<File = File>, left: &mut Left<S>) -> Result<(), Fault>
     ensures told { left.new.told.calls ≡ left.old.told.calls }
     ensures taken { OnOk result (AreTaken left.new.streams) }
@@ -42,7 +42,7 @@ fn take_streams<S: Start>(rt: &impl Files<File = File>, left: &mut Left<S>) -> R
     }
 }
 
-/// Replays the input at the target of the configuration whose file has these contents.
+/// Replays the input to the target that a configuration file with these contents describes.
 fn replay_at<S: Start, R: Read, W: Write>(
     rt: &(impl Files<File = File> + AllocGlobal),
     contents: &[u8],
@@ -66,7 +66,7 @@ fn replay_at<S: Start, R: Read, W: Write>(
     Ok(())
 }
 
-/// Listens on an address, and tells the log why it is not listened on.
+/// Listens on an address. If that fails, writes the reason to the log.
 fn listen(
     rt: &(impl Files<File = File> + AllocGlobal + Net + Clock),
     address: &str,
@@ -84,7 +84,7 @@ fn listen(
     }
 }
 
-/// Serves at the configuration whose file has these contents, for so many turns.
+/// Serves the target that a configuration file with these contents describes, for `count` turns.
 fn serve_at<S: Start, W: Write>(
     rt: &(impl Files<File = File> + AllocGlobal + Net + Clock),
     contents: &[u8],
@@ -111,8 +111,8 @@ fn serve_at<S: Start, W: Write>(
     ended
 }
 
-/// Does what the words say that stand behind the program's name, from the first to the end of the
-/// input or of the turns. `S` stands for what the files hold as they are opened.
+/// Runs the program with the words after its name, from the beginning to the end of the input or of the turns. `S`
+/// stands for what the files hold when they are opened.
 pub fn run<S: Start, R: Read, W: Write>(
     rt: &(impl Files<File = File> + AllocGlobal + Net + Clock),
     words: &[String],

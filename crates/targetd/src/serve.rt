@@ -13,7 +13,7 @@ use std::io::Write;
 use std::net::SocketAddr;
 use target_replay::print_all;
 
-/// The line that says where the target listens.
+/// Returns the line that says where the target listens.
 fn announcement(alloc: Global, address: SocketAddr) -> Result<String, AllocError>
     ensures { IfOk result (λ line. string_bytes line ≡ listening_line address) }
 {
@@ -22,7 +22,7 @@ fn announcement(alloc: Global, address: SocketAddr) -> Result<String, AllocError
     Ok(line)
 }
 
-/// Prints the address that is listened on, and then serves for so many turns, or up to the first fault.
+/// Prints the address that the target listens on, then serves for `count` turns, or up to the first fault.
 pub fn serve<P: Ports, S: Store, W: Write>(
     alloc: Global,
     address: SocketAddr,
