@@ -9,11 +9,11 @@ use Rattle.scsi_unit.specs.Unit.{free_unit}
 use Rattle.scsi_unit.specs.Units.{UnitStates}
 use Rattle.target_config.specs.Configuration.{MediumEntry, MemoryDisk, FileDisk, MemoryTape, FileTape, UnitEntry, TargetEntry, natural}
 
--- what the file at each path held as it was opened
+-- what the file at each path held when it was opened
 abbrev pub Held : Type 0
 Held = List ℕ → List ℕ
 
--- profile: a disk of so many zero blocks in memory, whose store cannot fail
+-- profile: a disk of `blocks` blocks of zeros in memory, whose store cannot fail
 abbrev pub zero_disk : ℕ → DiskState
 zero_disk blocks = record { blocks = replicate blocks (replicate block_length 0); synced = false; failures = 0; honest = true; steady = true }
 
@@ -33,14 +33,14 @@ empty_tape capacity early = record {
   reach = capacity;
 }
 
--- own: a disk in a file, as it is opened: where the file told its length as it was, its blocks are those that it held
+-- own: a disk in a file when it is opened. If the file reported its length correctly, its blocks are those that it held
 pub record IsFileDisk (held : List ℕ) (disk : DiskState) : Type 0 where
   pub unfailed : disk.failures ≡ 0
   pub whole : IsTrue disk.honest → is_disk held ≡ true
   pub blocks : IsTrue disk.honest → disk.blocks ≡ disk_of held
 
--- own: a tape in a file, as it is opened, loaded and at its beginning: where the file told its length and the lengths of its items
--- as they were, its items are those that it held, and no more
+-- own: a tape in a file when it is opened, loaded and at its beginning. If the file reported its length and the lengths
+-- of its items correctly, its items are exactly those that it held
 pub record IsFileTape (capacity early : ℕ) (held : List ℕ) (tape : TapeState) : Type 0 where
   pub unfailed : tape.failures ≡ 0
   pub set : (tape.is_loaded ≡ true) × (tape.capacity ≡ capacity) × (tape.early_mark ≡ early)
@@ -58,18 +58,18 @@ IsMediumOf held (MemoryTape capacity early) medium = medium ≡ opened_tape (emp
 IsMediumOf held (FileTape path capacity early) medium =
     (tape : TapeState) × (medium ≡ opened_tape tape) × IsFileTape capacity early (held path) tape
 
--- own: a unit as it is opened: no nexus is joined to it
+-- own: a unit when it is opened: no nexus is joined to it
 pub record IsUnitOf (held : Held) (entry : UnitEntry) (unit : UnitState) : Type 0 where
   pub free : unit ≡ free_unit (natural entry.lun) entry.serial unit.device
   pub medium : IsMediumOf held entry.medium unit.device
 
--- each of the first list with the one at its place in the second, of which there are as many
+-- each element of the first list is related to the one at its place in the second, which is as long
 abbrev pub AreEach : {X Y : Type 0} → (X → Y → Type 0) → List X → List Y → Type 0
 AreEach R [] [] = Unit {0}
 AreEach R (x ∷ xs) (y ∷ ys) = R x y × AreEach R xs ys
 AreEach R xs ys = ⊥
 
--- own: the units that a target is made with
+-- own: the units that a target is made from
 abbrev pub IsTargetOf : Held → TargetEntry → UnitStates → Type 0
 IsTargetOf held target units = AreEach (IsUnitOf held) target.units units
 

@@ -1,4 +1,4 @@
--- Why units are not opened: only one in a file can fail.
+-- Why units are not opened: only a unit in a file can fail.
 use Rattle.std.specs.Prelude.{◌≡◌, ℕ, List, Bool, true, false, ◌&&◌, ◌==◌, bytes_eq, string_bytes}
 use Rattle.std.specs.List.{list_any}
 use Rattle.target_config.specs.Configuration.{MediumEntry, MemoryDisk, FileDisk, MemoryTape, FileTape, UnitEntry, TargetEntry, natural}
@@ -38,7 +38,7 @@ abbrev pub IsFaultIn : List UnitEntry → UnitFault → Type 0
 IsFaultIn units (whys.Device lun cause) = has_file_unit lun units ≡ true
 IsFaultIn units whys.Memory = Unit {0}
 
--- the same, of the units of all targets
+-- the same for the units of all targets
 abbrev pub IsUnopened : List TargetEntry → OpenFault → Type 0
 IsUnopened targets (faults.Device name lun cause) = has_file_unit_at (string_bytes name) lun targets ≡ true
 IsUnopened targets faults.Memory = Unit {0}

@@ -5,22 +5,22 @@ use std::io::{self, ErrorKind};
 /// What is wrong with the file of a unit that is not opened. No clause says which it is.
 #[derive(Clone, Copy, Debug, PartialEq, Eq)]
 pub enum DeviceCause {
-    /// The system does not open it for reading and writing, and gives this number (errno(3)), if it has one.
+    /// The system does not open it for reading and writing. The error has this number (errno(3)), if it has one.
     Unopened { code: Option<i32> },
     /// Another open of it holds its lock.
     Locked,
     /// Its length or its items cannot be read.
     Unread,
-    /// A disk, whose length is no positive multiple of 512 bytes.
+    /// The unit is a disk, and the length of its file is no positive multiple of 512 bytes.
     Length,
-    /// A tape, whose last item begins at this byte and is torn.
+    /// The unit is a tape, and the last item of its file, which begins at this byte, is torn.
     Torn { at: u64 },
-    /// A tape, which is longer than its capacity.
+    /// The unit is a tape, and its file is longer than its capacity.
     TooLong,
 }
 
 impl DeviceCause {
-    /// Returns what an error of the system as a file is opened means.
+    /// Returns the cause for an error that the system reports when the file is opened.
     pub(crate) fn of_error(error: &io::Error) -> DeviceCause {
         match error.kind() {
             ErrorKind::WouldBlock => DeviceCause::Locked,

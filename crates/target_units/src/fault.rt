@@ -9,7 +9,7 @@ use out_of_memory::Memory;
 use std::alloc::AllocFailed;
 use thiserror::Error;
 
-/// Why the unit of one target is not opened.
+/// Why a unit of one target is not opened.
 #[derive(Clone, Copy, Debug, PartialEq, Eq, Error)]
 pub(crate) enum UnitFault {
     /// Its file cannot be read and written, or is no disk, or no tape of its capacity.
@@ -23,7 +23,7 @@ pub(crate) enum UnitFault {
 /// Why the units of a configuration are not opened.
 #[derive(Debug, Drop, Error)]
 pub enum OpenFault {
-    /// The unit of a target: its file cannot be read and written, or is no disk, or no tape of its capacity.
+    /// A unit of a target: its file cannot be read and written, or is no disk, or no tape of its capacity.
     #[error("unit {lun} of {target} cannot be opened")]
     Device {
         target: String,

@@ -1,4 +1,4 @@
-//! The units that a configuration names, opened: disks and tapes in memory, or in files of the system.
+//! The opened units of a configuration: disks and tapes in memory, or in files of the system.
 //!
 //! ```text
 //!   lun = 0  kind = "disk"  blocks = 8          a disk of eight blocks of zeros, in memory
@@ -7,9 +7,10 @@
 //!   lun = 3  kind = "tape"  .., file = "t"      the records and filemarks that the file holds
 //! ```
 //!
-//! Promised, and proved: [`open`] returns the targets of a configuration with these units, each free of initiators, or a
-//! fault that names a unit in a file, or an allocation failed. That this file cannot be opened, or holds no such medium,
-//! is only tested. What each file holds as it is opened is a parameter of the contracts (`Start`).
+//! Promised, and proved: [`open`] returns the targets of a configuration with these units, each free of initiators.
+//! Otherwise it returns a fault that names a unit in a file, or an allocation failed. That this file cannot be opened,
+//! or holds no such medium, is only tested. What each file holds when it is opened is a parameter of the contracts
+//! (`Start`).
 #![tactic(auto)]
 
 mod cause;

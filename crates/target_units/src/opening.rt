@@ -1,4 +1,4 @@
-//! The units of a configuration, opened.
+//! Opening the units of a configuration.
 
 ghost use Rattle.std.specs.Prelude.{◌≡◌, ◌≢◌, IfOk, IfErr, true, map, string_bytes};
 ghost use Rattle.std.specs.IoError.{error_kind};
@@ -27,9 +27,9 @@ use target_config::{BlockCount, Configuration, MediumConfiguration, UnitConfigur
 /// The targets of a configuration, with their units opened.
 #[derive(Drop)]
 pub struct OpenedTargets<S: Start> {
-    /// The address that is listened on, as the configuration has it.
+    /// The address to listen on, from the configuration.
     pub listen: String,
-    /// Where the log is written to, as the configuration has it.
+    /// The path of the log, from the configuration.
     pub log: Option<String>,
     /// The names of the targets.
     pub names: Vec<String>,
@@ -37,7 +37,8 @@ pub struct OpenedTargets<S: Start> {
     pub units: Vec<Units<SystemStore<S>>>,
 }
 
-/// A disk of zero blocks in memory. Such a store is a disk and does not fail, so only an allocation can.
+/// Makes a disk of `blocks` blocks of zeros in memory. Such a store is a disk and does not fail, so only an allocation
+/// can fail.
 fn memory_disk<F: Store + Drop>(
     alloc: Global,
     blocks: BlockCount,
@@ -49,7 +50,8 @@ fn memory_disk<F: Store + Drop>(
     Ok(Disk::open(MediumStore::Memory(store)).unwrap())
 }
 
-/// An empty tape in memory. Such a store is a tape and does not fail as it is opened, so only an allocation can.
+/// Makes an empty tape in memory. Such a store is a tape and does not fail when it is opened, so only an allocation can
+/// fail.
 fn memory_tape<F: Store + Drop>(
     alloc: Global,
     capacity: u64,
@@ -67,7 +69,7 @@ fn memory_tape<F: Store + Drop>(
     }
 }
 
-/// Returns what an error of the system at the file of a unit is told as.
+/// Returns the fault for an error of the system at the file of a unit.
 fn fault_of(error: &io::Error, lun: u8) -> UnitFault
     ensures memory { error_kind error.now ≡ ErrorKind.OutOfMemory → result ≡ OutOfMemory }
     ensures other { error_kind error.now ≢ ErrorKind.OutOfMemory → IsDevice lun result }
@@ -81,7 +83,7 @@ fn fault_of(error: &io::Error, lun: u8) -> UnitFault
     }
 }
 
-/// Returns what a store that is not opened as a disk is told as.
+/// Returns the fault for a store that is not opened as a disk.
 fn disk_fault(fault: DiskOpenFault, lun: u8) -> UnitFault
     ensures { IsDevice lun result }
 {
@@ -92,7 +94,7 @@ fn disk_fault(fault: DiskOpenFault, lun: u8) -> UnitFault
     UnitFault::Device { lun, cause }
 }
 
-/// A disk in the file at a path, which is opened for reading and writing. None is made.
+/// Opens the file at a path for reading and writing, as a disk. The file is not created.
 fn file_disk<S: Start>(
     rt: &impl Files<File = File>,
     path: String,
@@ -110,7 +112,7 @@ fn file_disk<S: Start>(
     }
 }
 
-/// Returns what a store that is not opened as a tape is told as.
+/// Returns the fault for a store that is not opened as a tape.
 fn tape_fault(fault: TapeOpenFault, lun: u8) -> UnitFault
     ensures { result ≢ OutOfMemory → IsDevice lun result }
 {
@@ -123,7 +125,7 @@ fn tape_fault(fault: TapeOpenFault, lun: u8) -> UnitFault
     UnitFault::Device { lun, cause }
 }
 
-/// A tape in the file at a path, which is opened for reading and writing. None is made.
+/// Opens the file at a path for reading and writing, as a tape. The file is not created.
 fn file_tape<S: Start>(
     rt: &(impl Files<File = File> + AllocGlobal),
     path: String,
@@ -146,7 +148,7 @@ fn file_tape<S: Start>(
     }
 }
 
-/// A unit over its medium.
+/// Opens a unit with its medium.
 fn open_unit<S: Start>(
     rt: &(impl Files<File = File> + AllocGlobal),
     unit: UnitConfiguration,
@@ -185,7 +187,7 @@ fn open_unit<S: Start>(
     }
 }
 
-/// The units of a target, opened in their order.
+/// Opens the units of a target in their order.
 fn open_units<S: Start>(
     rt: &(impl Files<File = File> + AllocGlobal),
     units: Vec<UnitConfiguration>,

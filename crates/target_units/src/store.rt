@@ -1,15 +1,15 @@
-//! Where the bytes of a disk or a tape are kept.
+//! The store that keeps the bytes of a disk or a tape.
 
 use media_store::{FileStore, MemStore, Store, StoreFault, SystemFile};
 
-/// A store in memory, or in a file. `S` stands for what the files hold as they are opened.
+/// A store in memory, or a store `F` in a file.
 #[derive(Drop)]
 pub enum MediumStore<F: Store> {
     Memory(MemStore),
     File(F),
 }
 
-/// A store in memory, or in a file of the system.
+/// A store in memory, or in a file of the system. `S` stands for what the files hold when they are opened.
 pub type SystemStore<S> = MediumStore<FileStore<SystemFile, S>>;
 
 impl<F: Store> Store for MediumStore<F> {
