@@ -2,11 +2,11 @@
 use Rattle.std.specs.Prelude.{◌≡◌, ℕ, zero, suc, ◌+◌, ◌*◌, ◌≤◌, ◌/◌, ◌%◌, List, [], ◌∷◌, ◌++◌, length, take, drop, Bool, ◌==◌, ◌&&◌, nat_lt, Option, Some, None, option_map, slice_range, if◌then◌else◌}
 use Rattle.std.specs.List.{concat}
 
--- profile: the bytes of a block
+-- profile: the length of a block in bytes
 abbrev pub block_length : ℕ
 block_length = 512
 
--- own: the first so many blocks of a content
+-- own: the first `count` blocks of a content
 unfoldable pub blocks_of : ℕ → List ℕ → List (List ℕ)
 blocks_of zero content = []
 blocks_of (suc count) content = take block_length content ∷ blocks_of count (drop block_length content)
@@ -19,15 +19,15 @@ is_disk content = nat_lt 0 (length content) && (length content % block_length ==
 abbrev pub disk_of : List ℕ → List (List ℕ)
 disk_of content = blocks_of (length content / block_length) content
 
--- SBC-3 "READ (10) command": the data of so many blocks from the first one on
+-- SBC-3 "READ (10) command": the data of `count` blocks, beginning with number `first`
 abbrev pub data_of : List (List ℕ) → ℕ → ℕ → List ℕ
 data_of blocks first count = concat (slice_range blocks first (first + count))
 
--- own: the data of blocks is as long as so many blocks
+-- own: the data of `count` blocks has the length of `count` blocks
 abbrev pub AreWhole : List (List ℕ) → Type 0
 AreWhole blocks = (first count : ℕ) → first + count ≤ length blocks → length (data_of blocks first count) ≡ block_length * count
 
--- SBC-3 "WRITE (10) command": other blocks in the place of as many from the first one on
+-- SBC-3 "WRITE (10) command": other blocks in the place of as many, beginning with number `first`
 abbrev pub replaced : ℕ → List (List ℕ) → List (List ℕ) → List (List ℕ)
 replaced first others blocks = take first blocks ++ (others ++ drop (first + length others) blocks)
 
@@ -37,15 +37,15 @@ first_difference [] others = None
 first_difference (byte ∷ bytes) [] = None
 first_difference (byte ∷ bytes) (other ∷ others) = if byte == other then option_map (λ at. at + 1) (first_difference bytes others) else Some 0
 
--- own: the blocks outside a range are as before
+-- own: the blocks outside a range are unchanged
 pub record KeepsOthers (first count : ℕ) (old new : List (List ℕ)) : Type 0 where
   pub before : take first new ≡ take first old
   pub behind : drop (first + count) new ≡ drop (first + count) old
 
--- own: what a disk shows of itself
+-- own: the state of a disk, as contracts see it
 pub record DiskState : Type 0 where
   pub blocks : List (List ℕ)
-  -- as they are of its store
+  -- those of its store
   pub synced : Bool
   pub failures : ℕ
   pub honest : Bool

@@ -9,7 +9,7 @@ abbrev pub fault_number : DiskOpenFault → ℕ
 fault_number Length = 1
 fault_number Device = 2
 
--- own: the store's count of failures behind a fault: the device has failed, and a length is no failure of it
+-- own: the store's count of failures after a fault: `Device` is a failure of the store, and `Length` is not
 abbrev pub failures_after : DiskOpenFault → ℕ → ℕ
 failures_after Length count = count
 failures_after Device count = risen count

@@ -1,4 +1,4 @@
-//! Data written to a store as it lies.
+//! Writing data to a store, slice by slice.
 
 ghost use Rattle.std.specs.Prelude.{◌≡◌, ◌+◌, ◌<◌, ◌≤◌, ◌^◌, ◌==◌, length, take, false, if◌then◌else◌, IsTrue, IsOk, OnOk, OnErr};
 ghost use Rattle.media_store.specs.Content.{written, KeepsOutside};
@@ -7,7 +7,8 @@ ghost use Rattle.media_store.specs.Failures.{counted};
 use data_parts::Data;
 use media_store::{Store, StoreFault};
 
-/// Writes so many bytes of data within the content, slice by slice. Where it fails, any bytes may stand in their range.
+/// Writes the first `count` bytes of the data within the content, slice by slice. If it fails, their range may hold any
+/// bytes.
 pub(crate) fn write_data<S: Store>(
     store: &mut S,
     at: u64,

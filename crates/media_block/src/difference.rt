@@ -1,4 +1,4 @@
-//! Where bytes differ.
+//! The first place at which bytes differ.
 
 ghost use Rattle.std.specs.Prelude.{◌≡◌, ◌+◌, ◌<◌, ◌≤◌, ◌^◌, ◌++◌, length, take, slice_range, IsTrue, IsOk, IfOk, IfSome};
 ghost use Rattle.media_store.specs.Failures.{counted};
@@ -7,13 +7,13 @@ ghost use Rattle.media_block.specs.Blocks.{first_difference};
 use data_parts::Data;
 use media_store::{Store, StoreFault};
 
-/// Returns the least index at which bytes differ from others, of which there are as many.
+/// Returns the least index at which bytes differ from others of the same number.
 fn difference(held: &[u8], bytes: &[u8]) -> Option<usize>
     requires { length held.now ≡ length bytes.now }
     ensures least { result ≡ first_difference held.now bytes.now }
     ensures within { IfSome result (λ at. at < length held.now) }
 {
-    // Most bytes are the same, and the library compares many of them at a time.
+    // Most bytes are equal, and the library compares many of them at a time.
     if held == bytes {
         return None;
     }
@@ -25,7 +25,7 @@ fn difference(held: &[u8], bytes: &[u8]) -> Option<usize>
     None
 }
 
-/// Returns the bytes that lie together at the front of some bytes and the data after them, and what follows.
+/// Returns the slice that comes first in some bytes followed by data, and the data after that slice.
 fn next_slice<'a>(bytes: &'a [u8], behind: Data<'a>) -> (&'a [u8], Data<'a>)
     ensures joined { bytes.now ++ behind.entry ≡ result.0.now ++ result.1 }
     ensures some { 0 < length (bytes.now ++ behind.entry) → 0 < length result.0.now }
@@ -36,8 +36,8 @@ fn next_slice<'a>(bytes: &'a [u8], behind: Data<'a>) -> (&'a [u8], Data<'a>)
     (bytes, behind)
 }
 
-/// Returns the least index at which bytes within the content differ from those in front of the data, slice by slice. They
-/// are read into a buffer, as many at once as it has room for.
+/// Returns the least index at which bytes within the content differ from the first bytes of the data, slice by slice.
+/// Reads the content into a buffer, as many bytes at once as it has room for.
 pub(crate) fn compare_data<S: Store>(
     store: &mut S,
     at: u64,

@@ -13,7 +13,7 @@ use data_parts::Data;
 use media_store::{Store, StoreFault};
 use std::marker::Model;
 
-/// The bytes of a block.
+/// The length of a block in bytes.
 pub const BLOCK_LENGTH: usize = 512;
 
 /// Logical blocks of 512 bytes over a store. Places and lengths are in blocks.
@@ -44,7 +44,7 @@ impl<S: Store> Model for Disk<S> {
 }
 
 impl<S: Store> Disk<S> {
-    /// Opens a store as a disk, or gives it back.
+    /// Opens a store as a disk, or returns it with the reason why it is not opened.
     pub fn open(mut store: S) -> Result<Disk<S>, NotOpened<S>>
         ensures blocks { IfOk result (λ disk. IsTrue disk.honest → disk.blocks ≡ disk_of (S.Store.content store)) }
         ensures disk { IfOk result (λ disk. IsTrue disk.honest → is_disk (S.Store.content store) ≡ true) }
@@ -79,7 +79,7 @@ impl<S: Store> Disk<S> {
         })
     }
 
-    /// How many blocks there are: one at least.
+    /// Returns the number of blocks, which is at least one.
     pub fn block_count(&self) -> u64
         ensures count { result ≡ length self.now.blocks }
         ensures some { 0 < result }
@@ -105,7 +105,7 @@ impl<S: Store> Disk<S> {
         self.store.read_at(BLOCK_LENGTH as u64 * first, bytes)
     }
 
-    /// Writes blocks. Where it fails, any bytes may stand in these blocks.
+    /// Writes blocks. If it fails, these blocks may hold any bytes.
     pub fn write(&mut self, first: u64, count: u64, bytes: &[u8]) -> Result<(), StoreFault>
         requires range { first + count ≤ length self.old.blocks }
         requires whole { length bytes.now ≡ block_length * count }
@@ -123,8 +123,8 @@ impl<S: Store> Disk<S> {
         self.write_parts(first, count, &Data::whole(bytes))
     }
 
-    /// Writes blocks, with their bytes in front of the data as it lies. Where it fails, any bytes may stand in these
-    /// blocks.
+    /// Writes blocks from the first bytes of the data, which may lie in several slices. If it fails, these blocks may
+    /// hold any bytes.
     pub fn write_parts(&mut self, first: u64, count: u64, data: &Data) -> Result<(), StoreFault>
         requires range { first + count ≤ length self.old.blocks }
         requires enough { block_length * count ≤ length «data».now }
@@ -150,7 +150,7 @@ impl<S: Store> Disk<S> {
         )
     }
 
-    /// Returns the least index at which bytes differ from those of blocks.
+    /// Returns the least index at which bytes differ from those of the blocks.
     pub fn compare(
         &mut self,
         first: u64,
@@ -170,7 +170,8 @@ impl<S: Store> Disk<S> {
         self.compare_parts(first, count, &Data::whole(bytes))
     }
 
-    /// Returns the least index at which bytes in front of the data, as it lies, differ from those of blocks.
+    /// Returns the least index at which the first bytes of the data, which may lie in several slices, differ from those
+    /// of the blocks.
     pub fn compare_parts(
         &mut self,
         first: u64,
@@ -187,7 +188,7 @@ impl<S: Store> Disk<S> {
         ensures disk { self.new ≡ record self.old { failures = counted result self.old.failures; honest = self.new.honest } }
         ensures succeeds { IsTrue self.old.steady → IsTrue self.old.honest → IsOk result × (self.new ≡ self.old) }
     {
-        // No more room is filled than a few blocks take.
+        // No larger buffer is filled than a few blocks need.
         match count {
             0..=1 => self.compare_in(first, count, data, &mut [0; BLOCK_LENGTH]),
             2..=PART => self.compare_in(first, count, data, &mut [0; PART_LENGTH]),
@@ -195,7 +196,7 @@ impl<S: Store> Disk<S> {
         }
     }
 
-    /// Compares blocks, which are read into a buffer, with the bytes in front of the data.
+    /// Compares blocks, which are read into a buffer, with the first bytes of the data.
     fn compare_in(
         &mut self,
         first: u64,
@@ -223,7 +224,7 @@ impl<S: Store> Disk<S> {
         )
     }
 
-    /// Writes the same block to so many places. Where it fails, any bytes may stand in these blocks.
+    /// Writes the same block to `count` places. If it fails, these blocks may hold any bytes.
     pub fn same(&mut self, first: u64, count: u64, block: &[u8]) -> Result<(), StoreFault>
         requires range { first + count ≤ length self.old.blocks }
         requires whole { length block.now ≡ block_length }
@@ -238,7 +239,7 @@ impl<S: Store> Disk<S> {
         ensures steady { self.new.steady ≡ self.old.steady }
         ensures succeeds { IsTrue self.old.steady → IsTrue self.old.honest → IsOk result }
     {
-        // So the place of each block fits a u64.
+        // With this the disk's invariant shows that the place of each block fits a u64.
         let _ = &self.block_count;
         let copies = repeated(block);
         let mut number = 0;

@@ -18,7 +18,7 @@ pub enum DiskOpenFault {
 }
 
 impl DiskOpenFault {
-    /// The number of the fault, 1 or 2.
+    /// Returns the number of the fault, 1 or 2.
     pub fn number(self) -> u8
         ensures { result ≡ fault_number self }
     {

@@ -6,12 +6,13 @@
 //! 0         512       1024      1536      bytes of the store
 //! ```
 //!
-//! Promised of a disk whose store is honest after a call and did not fail in it: a read gives a slice of
-//! the blocks, a write puts other blocks in the place of a slice, a comparison tells the least index at
-//! which bytes differ, and after [`Disk::sync`] the store is synced. Where the store failed, a write has
-//! touched no block outside its range, and any other call none. A fault is told only where the store's
-//! count of failures rose in that call. Over a steady store that is honest, as one in memory, no call
-//! fails, and it stays honest.
+//! This is promised of a disk whose store is honest after a call and did not fail in it. A read returns a slice of the
+//! blocks, and a write replaces a slice by other blocks. A comparison returns the least index at which bytes differ,
+//! and after [`Disk::sync`] the store is synced.
+//!
+//! If the store failed, a write has touched no block outside its range, and any other call none. A fault is reported
+//! only if the store's count of failures rose in that call. Over a steady and honest store, such as one in memory, no
+//! call fails, and the store stays honest.
 //!
 //! The blocks joined are the content of the store ([`laws::blocks_are_the_content`]).
 #![tactic(auto)]
