@@ -7,7 +7,7 @@ use crate::wire::HEADER_LENGTH;
 use byteorder::{BigEndian, ByteOrder};
 use std::alloc::Global;
 
-/// An R2T: the target asks for a part of the data of a command.
+/// An R2T: the target requests a part of the data of a command.
 #[derive(Clone, Copy)]
 pub struct Asked {
     pub tag: u32,
@@ -16,20 +16,20 @@ pub struct Asked {
     pub length: usize,
 }
 
-/// The answers of a connection so far, and where the last of them is cut.
+/// The answers on a connection so far, and how much of the last one has arrived.
 #[derive(Drop)]
 pub struct Answers {
     header: Header,
-    /// So much has come of the header that comes next.
+    /// The number of bytes of the next header that have arrived.
     had: usize,
-    /// So much is missing of the data segment that was begun.
+    /// The number of bytes that are missing from the data segment that has begun.
     missing: usize,
     pub digest: Digest,
     /// The R2Ts that have not been answered.
     pub asked: Vec<Asked>,
-    /// How many answers came, Data-Ins and R2Ts left aside.
+    /// The number of answers, without Data-Ins and R2Ts.
     pub ended: u64,
-    /// How many SCSI Responses told GOOD.
+    /// The number of SCSI Responses with status GOOD.
     pub good: u64,
     /// The Target Transfer Tag of the last answer, and its byte 1.
     pub transfer: u32,
@@ -37,7 +37,7 @@ pub struct Answers {
 }
 
 impl Answers {
-    /// None.
+    /// Returns the answers of a connection on which nothing has arrived.
     pub fn new(alloc: Global) -> Answers {
         Answers {
             header: [0; 48],
@@ -52,7 +52,7 @@ impl Answers {
         }
     }
 
-    /// Takes what comes next.
+    /// Takes the bytes that arrive next.
     pub fn take(&mut self, bytes: &[u8]) -> Result<(), Fault> {
         self.digest.add(bytes);
         let mut rest = bytes;
@@ -66,7 +66,7 @@ impl Answers {
         Ok(())
     }
 
-    /// Takes some bytes at the front: how many.
+    /// Takes some of the first bytes, and returns how many.
     fn take_front(&mut self, bytes: &[u8]) -> Result<usize, Fault> {
         if self.missing > 0 {
             let count = self.missing.min(bytes.len());
@@ -84,7 +84,7 @@ impl Answers {
         Ok(count)
     }
 
-    /// A header is whole.
+    /// Records the header, which is complete.
     fn take_header(&mut self) -> Result<(), Fault> {
         let header = self.header;
         self.missing = (BigEndian::read_u24(&header[5..8]) as usize + 3) / 4 * 4;

@@ -1,4 +1,4 @@
-//! Archives go to a tape as tar writes them, are read back, and places among them are looked for.
+//! Archives that are written to a tape as tar does, read back, and searched for places.
 
 use crate::answers::Answers;
 use crate::devices::{Targets, name_of, one_tape};
@@ -25,7 +25,7 @@ const PLACES: usize = 8;
 /// The number of filemarks that are spaced over one by one.
 const STEPS: usize = 3;
 
-/// The length of the part of the wire at which a stream may begin.
+/// The length of the part of the wire in which a stream may begin.
 const BEGINNINGS: usize = 65_536;
 
 /// The tape, and the host that writes it.
@@ -57,7 +57,7 @@ impl Archives {
         Ok(archives)
     }
 
-    /// Tells what the target answered.
+    /// Returns what the target answered.
     pub fn answers(&self) -> &Answers {
         &self.initiator.host.answers
     }
@@ -77,17 +77,17 @@ impl Archives {
         exchange(&mut self.target, host, &mut self.wire, SEGMENT, CUT)
     }
 
-    /// Goes to the beginning of the tape.
+    /// Moves to the beginning of the tape.
     fn rewind(&mut self) -> Result<(), Fault> {
         self.give(NO_DATA, cdb_6(0x01, 0, 0), 0)
     }
 
-    /// Goes on over filemarks.
+    /// Spaces forward over filemarks.
     fn space_on(&mut self, marks: usize) -> Result<(), Fault> {
         self.give(NO_DATA, cdb_6(0x11, 1, marks), 0)
     }
 
-    /// Goes back over filemarks.
+    /// Spaces backward over filemarks.
     fn space_back(&mut self, marks: usize) -> Result<(), Fault> {
         let count = 0x100_0000usize.saturating_sub(marks);
         self.give(NO_DATA, cdb_6(0x11, 1, count), 0)
@@ -108,7 +108,7 @@ impl Archives {
         self.give(NO_DATA, cdb_6(0x10, 0, 1), 0)
     }
 
-    /// Reads a file, up to the filemark after it, where a READ is not GOOD.
+    /// Reads a file up to the filemark after it, at which a READ is not GOOD.
     fn read_file(&mut self) -> Result<(), Fault> {
         for _ in 0..LONGEST + 1 {
             let before = self.answers().good;
@@ -120,7 +120,7 @@ impl Archives {
         Ok(())
     }
 
-    /// Goes on over filemarks one by one.
+    /// Spaces forward over filemarks one by one.
     fn step_on(&mut self, steps: usize) -> Result<(), Fault> {
         for _ in 0..steps {
             self.space_on(1)?;
@@ -128,7 +128,7 @@ impl Archives {
         Ok(())
     }
 
-    /// Goes back over filemarks one by one.
+    /// Spaces backward over filemarks one by one.
     fn step_back(&mut self, steps: usize) -> Result<(), Fault> {
         for _ in 0..steps {
             self.space_back(1)?;
@@ -136,7 +136,7 @@ impl Archives {
         Ok(())
     }
 
-    /// Looks for a file, by many filemarks and by one each, and from there for the second file of the tape.
+    /// Looks for a file over many filemarks at once, then one by one. From there looks for the second file of the tape.
     fn look_up(&mut self) -> Result<(), Fault> {
         let marks = self.random.below(self.files.saturating_sub(STEPS));
         self.rewind()?;
@@ -163,7 +163,7 @@ impl Archives {
         Ok(())
     }
 
-    /// Adds files.
+    /// Adds the files of a round.
     fn write_files(&mut self) -> Result<(), Fault> {
         for _ in 0..FILES {
             self.write_file()?;
@@ -171,7 +171,7 @@ impl Archives {
         Ok(())
     }
 
-    /// Reads files.
+    /// Reads the files of a round.
     fn read_files(&mut self) -> Result<(), Fault> {
         for _ in 0..FILES {
             self.read_file()?;

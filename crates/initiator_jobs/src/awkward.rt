@@ -1,5 +1,5 @@
-//! What strangers and slow ways give: single bytes, small segments, commands out of order, tasks that are aborted with
-//! half their data, long texts in pieces.
+//! What unusual initiators and slow connections send: single bytes, small segments and commands out of order. Tasks are
+//! aborted with half of their data, and long texts come in pieces.
 
 use crate::devices::{Targets, disks};
 use crate::exchange::{bring, drain, exchange, feed, log_in};
@@ -13,19 +13,19 @@ use crate::requests::{
 use crate::wire::Wire;
 use std::alloc::Global;
 
-/// The blocks of the disk: 64 MiB.
+/// The number of blocks of the disk: 64 MiB.
 const BLOCKS: usize = 131_072;
 
-/// The segments of Data-Ins and Data-Outs, as small as they may be.
+/// The length of the segments of Data-Ins and Data-Outs, which is the smallest allowed.
 const SEGMENT: usize = 512;
 
 /// The number of commands in a window.
 const WINDOW: usize = 32;
 
-/// Places at which a stream may begin.
+/// The number of places at which a stream may begin.
 const PLACES: usize = 262_144;
 
-/// The disk, and a host that is a trial to it.
+/// The disk, and a host that puts it to the test.
 #[derive(Drop)]
 struct Trial {
     target: Targets,
@@ -36,7 +36,7 @@ struct Trial {
 }
 
 impl Trial {
-    /// A command to blocks of the disk.
+    /// Returns a WRITE or a READ of blocks at a random place of the disk.
     fn command(&mut self, writes: bool, blocks: usize) -> Command {
         let at = self.random.below(BLOCKS.saturating_sub(blocks));
         let blocks = blocks.min(2_048);
@@ -48,12 +48,12 @@ impl Trial {
         }
     }
 
-    /// A stream begins anywhere.
+    /// Begins a stream at a random place of the wire.
     fn begin(&mut self) {
         self.wire.begin(self.random.below(PLACES));
     }
 
-    /// A WRITE of 1 KiB, a READ and a NOP-Out come byte by byte.
+    /// Sends a WRITE of 1 KiB, a READ and a NOP-Out byte by byte.
     fn by_bytes(&mut self) -> Result<(), Fault> {
         self.begin();
         let write = self.command(true, 2);
@@ -66,7 +66,7 @@ impl Trial {
         exchange(&mut self.target, &mut self.host, &mut self.wire, SEGMENT, 1)
     }
 
-    /// A WRITE and a READ of 128 KiB go in the smallest segments.
+    /// Sends a WRITE and a READ of 128 KiB in the smallest segments.
     fn in_small_segments(&mut self) -> Result<(), Fault> {
         self.begin();
         let write = self.command(true, 256);
@@ -82,7 +82,7 @@ impl Trial {
         )
     }
 
-    /// A full window of READs and WRITEs of a block comes with the last first, as one piece.
+    /// Sends a full window of READs and WRITEs of one block as one piece, with the last command first.
     fn out_of_order(&mut self) -> Result<(), Fault> {
         self.begin();
         let first = self.host.cmd_sn();
@@ -99,7 +99,7 @@ impl Trial {
         drain(&mut self.target, &mut self.host)
     }
 
-    /// Half of the data that was asked for comes, in small segments, and then the task is aborted.
+    /// Sends half of the data that was requested, in small segments, and then aborts the task.
     fn aborted(&mut self) -> Result<(), Fault> {
         self.begin();
         let command = self.command(true, 256);
@@ -127,7 +127,7 @@ impl Trial {
         )
     }
 
-    /// Returns a text of about `length` bytes, of keys that nobody knows.
+    /// Returns a text of about `length` bytes, with unknown keys.
     fn long_text(&mut self, length: usize) -> Result<Vec<u8>, Fault> {
         let mut all = Vec::with_capacity(self.alloc, length)?;
         for number in 0..length / 64 {
@@ -140,7 +140,7 @@ impl Trial {
         Ok(all)
     }
 
-    /// A text of 64 KiB comes in pieces of 512 bytes, and its answer is asked for piece by piece.
+    /// Sends a text of 64 KiB in pieces of 512 bytes, and requests its answer piece by piece.
     fn text_in_pieces(&mut self) -> Result<(), Fault> {
         let all = self.long_text(65_000)?;
         let mut transfer = 0xffff_ffff;
@@ -165,7 +165,7 @@ impl Trial {
         Ok(())
     }
 
-    /// A Text Request goes, and is answered.
+    /// Sends a Text Request, and takes its answer.
     fn ask(&mut self, flags: u8, transfer: u32, piece: &[u8]) -> Result<(), Fault> {
         let (tag, cmd_sn) = (self.host.next_tag(), self.host.next_cmd_sn());
         let header: Header = text(flags, tag, transfer, cmd_sn, piece.len());
@@ -181,7 +181,7 @@ impl Trial {
         )
     }
 
-    /// All of that.
+    /// Sends the commands of each kind four times, and then the long text.
     fn round(&mut self) -> Result<(), Fault> {
         for _ in 0..4 {
             self.by_bytes()?;
@@ -193,7 +193,7 @@ impl Trial {
     }
 }
 
-/// Does this many rounds.
+/// Runs `rounds` rounds.
 pub fn awkward(alloc: Global, seed: u64, rounds: usize) -> Result<Outcome, Fault> {
     let mut random = Random::new(seed);
     let mut wire = Wire::new(alloc, &mut random, 4 * PLACES)?;

@@ -1,4 +1,4 @@
-//! Hosts that start, and share a disk: discovery, logins, what initiators ask at first, registrations and reservations.
+//! Hosts that start, and share a disk: discovery, logins, what initiators ask first, registrations and reservations.
 
 use crate::devices::{Targets, disks};
 use crate::exchange::{close, exchange, log_in, open};
@@ -13,10 +13,10 @@ use std::alloc::Global;
 /// The number of hosts.
 const HOSTS: usize = 64;
 
-/// As much as the loop reads at a time.
+/// The most bytes that the loop reads at a time.
 const CUT: usize = 65_536;
 
-/// What an initiator asks of a disk that it has found.
+/// What an initiator asks a disk that it has found.
 const QUESTIONS: [(u8, usize, usize); 10] = [
     (0x12, 0, 36),
     (0x12, 0x01_00, 255),
@@ -39,7 +39,7 @@ struct Starting {
 }
 
 impl Starting {
-    /// The stream goes to the target, and is answered.
+    /// Sends the stream to the target, and takes the answers.
     fn send(&mut self, host: &mut Host) -> Result<(), Fault> {
         exchange(&mut self.target, host, &mut self.wire, 8_192, CUT)
     }
@@ -58,7 +58,7 @@ impl Starting {
         self.send(host)
     }
 
-    /// A PERSISTENT RESERVE OUT with a service action, a type and keys.
+    /// Sends a PERSISTENT RESERVE OUT with a service action, a type and keys.
     fn reserve(
         &mut self,
         host: &mut Host,
@@ -80,7 +80,7 @@ impl Starting {
         self.send(host)
     }
 
-    /// A discovery session.
+    /// Opens a discovery session, asks for all targets, and logs out.
     fn discover(&mut self, host: &mut Host) -> Result<(), Fault> {
         let c = host.c;
         open(&mut self.target, c)?;
@@ -93,7 +93,7 @@ impl Starting {
         self.log_out(host)
     }
 
-    /// The session ends, and its connection.
+    /// Ends the session, and its connection.
     fn log_out(&mut self, host: &mut Host) -> Result<(), Fault> {
         self.wire.begin(0);
         host.lay_logout(&mut self.wire);
@@ -101,7 +101,7 @@ impl Starting {
         close(&mut self.target, host.c)
     }
 
-    /// What an initiator asks at first.
+    /// Asks what an initiator asks first.
     fn look(&mut self, host: &mut Host) -> Result<(), Fault> {
         self.ask(host, cdb_6(0, 0, 0), 0)?;
         self.ask(host, cdb_6(0, 0, 0), 0)?;
@@ -116,7 +116,7 @@ impl Starting {
         self.ask(host, cdb_10(0x28, 0, 0, 8), 4_096)
     }
 
-    /// A host registers with a key of its own, and tries to reserve.
+    /// Registers a host with a key of its own, and tries to reserve.
     fn join(&mut self, host: &mut Host) -> Result<(), Fault> {
         let key = self.random.number();
         self.reserve(host, 6, 0, [0, key])?;
@@ -131,7 +131,7 @@ impl Starting {
         Ok(())
     }
 
-    /// A block is written, and exchanged for another twice by COMPARE AND WRITE.
+    /// Writes a block, and exchanges it for another twice by COMPARE AND WRITE.
     fn lock(&mut self, host: &mut Host) -> Result<(), Fault> {
         let at = self.random.below(1_024);
         let from = 48 + self.random.below(65_536);
@@ -140,7 +140,7 @@ impl Starting {
         self.block(host, from + 512, cdb_16(0x89, 0, at, 1), 1_024)
     }
 
-    /// A command with the data that stands at a place of the wire.
+    /// Sends a command with the data at a place of the wire.
     fn block(
         &mut self,
         host: &mut Host,
@@ -159,7 +159,7 @@ impl Starting {
         self.send(host)
     }
 
-    /// A host starts.
+    /// Starts a host: it discovers the targets, logs in, asks its first questions, and registers.
     fn start(&mut self, host: &mut Host) -> Result<(), Fault> {
         host.begin(host.number);
         self.discover(host)?;
@@ -176,7 +176,7 @@ impl Starting {
     }
 }
 
-/// All hosts.
+/// Makes all hosts.
 fn hosts(alloc: Global, random: &mut Random) -> Result<Vec<Host>, Fault> {
     let mut hosts = Vec::new(alloc);
     for number in 0..HOSTS {
@@ -185,7 +185,7 @@ fn hosts(alloc: Global, random: &mut Random) -> Result<Vec<Host>, Fault> {
     Ok(hosts)
 }
 
-/// All hosts start, one after the other from any of them on, and then all log out.
+/// Starts all hosts one after the other, beginning with a random one, and then logs all of them out.
 fn start_all(starting: &mut Starting, hosts: &mut [Host]) -> Result<(), Fault> {
     let first = starting.random.below(HOSTS);
     for place in 0..HOSTS {
@@ -200,7 +200,7 @@ fn start_all(starting: &mut Starting, hosts: &mut [Host]) -> Result<(), Fault> {
     Ok(())
 }
 
-/// Starts all hosts this many times, on two targets.
+/// Starts all hosts `rounds` times, on two targets.
 pub fn clusters(alloc: Global, seed: u64, rounds: usize) -> Result<Outcome, Fault> {
     let mut random = Random::new(seed);
     let wire = Wire::new(alloc, &mut random, 131_072)?;

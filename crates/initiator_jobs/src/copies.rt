@@ -1,4 +1,5 @@
-//! Disks are copied, restored, backed up and checked: long WRITEs, READs and VERIFYs one after the other, and WRITE SAME.
+//! Disks that are copied, restored, backed up and checked: long WRITEs, READs and VERIFYs one after the other, and
+//! WRITE SAME.
 
 use crate::devices::{Targets, disks};
 use crate::exchange::{exchange, log_in};
@@ -10,33 +11,33 @@ use crate::requests::{Cdb, Command, NO_DATA, READS, WRITES, cdb_10};
 use crate::wire::Wire;
 use std::alloc::Global;
 
-/// The blocks of the disk: 128 MiB.
+/// The number of blocks of the disk: 128 MiB.
 const BLOCKS: usize = 262_144;
 
-/// So much data comes with its command.
+/// The length of the data that comes with its command.
 const IMMEDIATE: usize = 65_536;
 
-/// Places at which a stream may begin.
+/// The number of places at which a stream may begin.
 const PLACES: usize = 1_048_576;
 
-/// As sockets give bytes, and as a slow way does.
+/// The lengths of the pieces in which bytes arrive, from sockets and over a slow connection.
 const CUTS: [usize; 2] = [65_536, 1_448];
 
-/// The segments of Data-Outs.
+/// The lengths of the segments of Data-Outs.
 const SEGMENTS: [usize; 3] = [8_192, 65_536, 262_144];
 
-/// The disk, who copies, and what is sent.
+/// The disk, the hosts that copy, and what is sent.
 #[derive(Drop)]
 struct Copying {
     target: Targets,
-    /// One takes Data-Ins of 8 KiB, one of 256 KiB.
+    /// The first takes Data-Ins of 8 KiB, the second of 256 KiB.
     hosts: [Host; 2],
     wire: Wire,
     random: Random,
 }
 
 impl Copying {
-    /// A command with so much data that goes to the target, from a place of the wire on.
+    /// Sends a command with `length` bytes of data, in a stream that begins at a place of the wire.
     fn give(&mut self, by: usize, cdb: Cdb, length: usize, way: &Way) -> Result<(), Fault> {
         let command = Command {
             flags: WRITES,
@@ -50,7 +51,7 @@ impl Copying {
         exchange(&mut self.target, host, &mut self.wire, way.segment, way.cut)
     }
 
-    /// A command with so much data that comes from the target.
+    /// Sends a command that takes `length` bytes of data from the target.
     fn get(&mut self, by: usize, cdb: Cdb, length: usize) -> Result<(), Fault> {
         let flags = if length == 0 { NO_DATA } else { READS };
         let command = Command {
@@ -65,7 +66,7 @@ impl Copying {
         exchange(&mut self.target, host, &mut self.wire, 8_192, CUTS[0])
     }
 
-    /// How the next data goes.
+    /// Returns how the next data is sent.
     fn way(&mut self) -> Way {
         Way {
             from: self.random.below(PLACES),
@@ -74,7 +75,7 @@ impl Copying {
         }
     }
 
-    /// A part of a disk is written, checked now and then, and read.
+    /// Writes a part of the disk, checks it now and then, and reads it.
     fn copy(&mut self, at: usize, blocks: usize) -> Result<(), Fault> {
         let way = self.way();
         let length = blocks.min(2_048) * 512;
@@ -86,7 +87,7 @@ impl Copying {
         self.get(by, cdb_10(0x28, 0, at, blocks), length)
     }
 
-    /// Eight MiB are set to one block, and the first of them is read.
+    /// Sets eight MiB to one block, and reads the first 4 KiB of them.
     fn erase(&mut self, at: usize) -> Result<(), Fault> {
         let way = self.way();
         self.give(0, cdb_10(0x41, 0, at, 16_384), 512, &way)?;
@@ -94,7 +95,7 @@ impl Copying {
     }
 }
 
-/// How data goes to the target: where it lies, and how it is cut.
+/// How data is sent to the target: its place, and how it is cut.
 #[derive(Clone, Copy)]
 struct Way {
     from: usize,
@@ -102,7 +103,7 @@ struct Way {
     cut: usize,
 }
 
-/// A host with its session.
+/// Returns a host that has logged in.
 fn host(
     alloc: Global,
     target: &mut Targets,
@@ -116,7 +117,7 @@ fn host(
     Ok(host)
 }
 
-/// Does this many rounds, each of 16 parts.
+/// Runs `rounds` rounds, each of 16 parts.
 pub fn copies(alloc: Global, seed: u64, rounds: usize) -> Result<Outcome, Fault> {
     let mut random = Random::new(seed);
     let mut wire = Wire::new(alloc, &mut random, 3 * PLACES)?;

@@ -10,7 +10,7 @@ use std::alloc::Global;
 /// The targets of the jobs.
 pub type Targets = Target<MemStore>;
 
-/// Their names.
+/// The names of the targets.
 const NAMES: [&str; 4] = [
     "iqn.2024-01.com.example:t0",
     "iqn.2024-01.com.example:t1",
@@ -18,12 +18,12 @@ const NAMES: [&str; 4] = [
     "iqn.2024-01.com.example:t3",
 ];
 
-/// The name of a target.
+/// Returns the name of a target.
 pub fn name_of(number: usize) -> &'static str {
     NAMES[number % 4]
 }
 
-/// Returns a disk of this many blocks, which has this LUN.
+/// Returns a disk of `blocks` blocks, which has this LUN.
 fn disk(alloc: Global, lun: u8, blocks: usize) -> Result<Unit<MemStore>, Fault> {
     let length = blocks.min(1 << 24) * BLOCK_LENGTH;
     let store = MemStore::new(alloc, length, length)?;
@@ -31,7 +31,7 @@ fn disk(alloc: Global, lun: u8, blocks: usize) -> Result<Unit<MemStore>, Fault> 
     Ok(Unit::disk(alloc, lun.min(15), serial, Disk::open(store)?))
 }
 
-/// Returns a tape of this many bytes, LUN 0.
+/// Returns a tape of `capacity` bytes, which has LUN 0.
 fn tape(alloc: Global, capacity: usize) -> Result<Unit<MemStore>, Fault> {
     let store = MemStore::new(alloc, 0, capacity)?;
     let serial = Serial::new(String::from_str(alloc, "TAPE")?);
@@ -39,7 +39,7 @@ fn tape(alloc: Global, capacity: usize) -> Result<Unit<MemStore>, Fault> {
     Ok(Unit::tape(alloc, 0, serial, tape))
 }
 
-/// Targets with these units.
+/// Returns targets with these units.
 fn targets(alloc: Global, units: Vec<Units<MemStore>>) -> Result<Targets, Fault> {
     let mut names = Vec::new(alloc);
     for number in 0..units.len() {
@@ -55,7 +55,7 @@ fn targets(alloc: Global, units: Vec<Units<MemStore>>) -> Result<Targets, Fault>
     Ok(Target::new(alloc, config, units)?)
 }
 
-/// Returns `count` targets, each with a disk of this many blocks.
+/// Returns `count` targets, each with a disk of `blocks` blocks.
 pub fn disks(alloc: Global, count: usize, blocks: usize) -> Result<Targets, Fault> {
     let mut all = Vec::new(alloc);
     for _ in 0..count {
@@ -66,7 +66,7 @@ pub fn disks(alloc: Global, count: usize, blocks: usize) -> Result<Targets, Faul
     targets(alloc, all)
 }
 
-/// Returns a target with a tape of this many bytes.
+/// Returns a target with a tape of `capacity` bytes.
 pub fn one_tape(alloc: Global, capacity: usize) -> Result<Targets, Fault> {
     let mut units = Vec::new(alloc);
     units.push(tape(alloc, capacity)?)?;

@@ -5,7 +5,7 @@ ghost use Rattle.std.specs.Prelude.{◌<◌, ◌≤◌, length};
 /// The number of bytes mixed at a time: two words into each of four lanes.
 const BLOCK: usize = 64;
 
-/// An odd number with bits all over.
+/// An odd number whose set bits are spread over all of it.
 const FACTOR: u64 = 0x9e37_79b9_7f4a_7c15;
 
 /// A digest of the bytes that were added.
@@ -18,7 +18,7 @@ pub struct Digest {
     total: u64,
 }
 
-/// The word with this number of a block.
+/// Returns the word of a block that has this number.
 fn word(block: &[u8; BLOCK], number: usize) -> u64
     requires { number < 8 }
 {
@@ -50,7 +50,7 @@ fn mix_block(lanes: [u64; 4], block: &[u8; BLOCK]) -> [u64; 4] {
     ]
 }
 
-/// Mixes the first block of some bytes into the lanes, where there is one.
+/// Mixes the first block of some bytes into the lanes, if there is one.
 fn mix_front(lanes: [u64; 4], bytes: &[u8]) -> [u64; 4] {
     match bytes.first_chunk::<BLOCK>() {
         Some(block) => mix_block(lanes, block),
@@ -59,7 +59,7 @@ fn mix_front(lanes: [u64; 4], bytes: &[u8]) -> [u64; 4] {
 }
 
 impl Digest {
-    /// The digest of no bytes.
+    /// Returns the digest of no bytes.
     pub fn new() -> Digest {
         Digest {
             lanes: [1, 2, 3, 4],
@@ -69,7 +69,7 @@ impl Digest {
         }
     }
 
-    /// Adds bytes to those of the block that has begun, as far as there is room, and returns their number.
+    /// Adds bytes to those of the block that has begun, as far as there is room, and returns how many were added.
     fn fill(&mut self, bytes: &[u8]) -> usize
         ensures { result ≤ length bytes.now }
     {
@@ -80,7 +80,8 @@ impl Digest {
         taken
     }
 
-    /// The same where a block has begun. It is mixed into the lanes once it is whole.
+    /// Adds bytes to the block that has begun, if one has, and returns how many were added. If the block becomes whole,
+    /// mixes it into the lanes.
     fn end_block(&mut self, bytes: &[u8]) -> usize
         ensures { result ≤ length bytes.now }
     {
@@ -95,7 +96,7 @@ impl Digest {
         taken
     }
 
-    /// Mixes all whole blocks into the lanes: of how many bytes.
+    /// Mixes all whole blocks into the lanes, and returns the number of their bytes.
     fn mix_blocks(&mut self, bytes: &[u8]) -> usize
         ensures { result ≤ length bytes.now }
     {
@@ -123,7 +124,7 @@ impl Digest {
         self.add(&number.to_le_bytes());
     }
 
-    /// The digest.
+    /// Returns the digest.
     pub fn value(&self) -> u64 {
         let mut ended = *self;
         ended.add_number(self.total);

@@ -1,4 +1,4 @@
-//! An initiator's bytes are brought to the target, and its answers are taken, as the loop over sockets does it.
+//! How an initiator's bytes are brought to the target, and its answers are taken, as the loop over sockets does it.
 
 use crate::devices::{Targets, name_of};
 use crate::fault::Fault;
@@ -11,7 +11,7 @@ const MOST_READ: usize = 65_536;
 /// The number of exchanges that is enough for any command.
 const MOST_EXCHANGES: usize = 64;
 
-/// A connection is opened under a number.
+/// Opens a connection with this number.
 pub fn open(target: &mut Targets, c: usize) -> Result<(), Fault> {
     if c >= 64 || target.is_open(c) {
         return Err(Fault::Unanswered);
@@ -20,7 +20,7 @@ pub fn open(target: &mut Targets, c: usize) -> Result<(), Fault> {
     Ok(())
 }
 
-/// A connection has ended, once all that waited on it was sent.
+/// Ends a connection after everything that waited on it was sent.
 pub fn close(target: &mut Targets, c: usize) -> Result<(), Fault> {
     if c >= 64 || !target.is_open(c) || !target.closing(c) {
         return Err(Fault::Unanswered);
@@ -29,7 +29,7 @@ pub fn close(target: &mut Targets, c: usize) -> Result<(), Fault> {
     Ok(())
 }
 
-/// Feeds bytes whole.
+/// Feeds bytes in one piece.
 pub fn feed(target: &mut Targets, c: usize, bytes: &[u8]) -> Result<(), Fault> {
     if c >= 64 || !target.is_open(c) {
         return Err(Fault::Unanswered);
@@ -38,7 +38,7 @@ pub fn feed(target: &mut Targets, c: usize, bytes: &[u8]) -> Result<(), Fault> {
     Ok(())
 }
 
-/// Brings bytes that came together: of them as much as is wanted is fed at a time.
+/// Brings bytes that arrived together. Feeds as many of them at a time as the target wants.
 fn bring_piece(target: &mut Targets, c: usize, bytes: &[u8]) -> Result<(), Fault> {
     let mut rest = bytes;
     for _ in 0..bytes.len() {
@@ -70,7 +70,7 @@ pub fn bring(target: &mut Targets, c: usize, stream: &[u8], cut: usize) -> Resul
     Ok(())
 }
 
-/// Takes all that the target answers.
+/// Takes everything that the target answers.
 pub fn drain(target: &mut Targets, host: &mut Host) -> Result<(), Fault> {
     let c = host.c;
     for _ in 0..u64::MAX {
@@ -88,7 +88,7 @@ pub fn drain(target: &mut Targets, host: &mut Host) -> Result<(), Fault> {
     Ok(())
 }
 
-/// Brings the stream and the data that is asked for, in Data-Outs of `segment` bytes, until all is answered.
+/// Brings the stream and the data that is requested, in Data-Outs of `segment` bytes, until everything is answered.
 pub fn exchange(
     target: &mut Targets,
     host: &mut Host,

@@ -14,7 +14,7 @@ pub enum Fault {
     OutOfMemory,
     /// A unit cannot be opened.
     Unopened,
-    /// The target closed a connection, or did not answer what was asked of it.
+    /// The target closed a connection, or did not answer a request.
     Unanswered,
     /// Standard output failed.
     Stream,

@@ -13,18 +13,18 @@ use std::mem;
 pub struct Host {
     /// The number of its connection.
     pub c: usize,
-    /// Its name and ISID have this number.
+    /// The number in its name and its ISID.
     pub number: usize,
     tag: u32,
     cmd_sn: u32,
     pub answers: Answers,
-    /// How many answers it waits for in all, Data-Ins and R2Ts left aside.
+    /// The number of answers that it expects in all, without Data-Ins and R2Ts.
     pub expected: u64,
     alloc: Global,
 }
 
 impl Host {
-    /// An initiator that has sent nothing.
+    /// Returns an initiator that has sent nothing.
     pub fn new(alloc: Global, c: usize, number: usize, random: &mut Random) -> Host {
         Host {
             c,
@@ -37,40 +37,40 @@ impl Host {
         }
     }
 
-    /// A new session begins, on a connection of its own.
+    /// Begins a new session, on a connection of its own.
     pub fn begin(&mut self, c: usize) {
         self.c = c;
     }
 
-    /// A tag that no other request of it bears.
+    /// Returns a tag that no other request of this initiator has.
     pub fn next_tag(&mut self) -> u32 {
         self.tag = self.tag.wrapping_add(1) & 0x7fff_ffff;
         self.tag
     }
 
-    /// The CmdSN of its next request.
+    /// Returns the CmdSN of its next request.
     pub fn cmd_sn(&self) -> u32 {
         self.cmd_sn
     }
 
-    /// The CmdSN of its next request, which is used.
+    /// Returns the CmdSN of its next request, and uses it up.
     pub fn next_cmd_sn(&mut self) -> u32 {
         let cmd_sn = self.cmd_sn;
         self.cmd_sn = cmd_sn.wrapping_add(1);
         cmd_sn
     }
 
-    /// One more answer is waited for.
+    /// Expects one more answer.
     pub fn expect(&mut self) {
         self.expected = self.expected.wrapping_add(1);
     }
 
-    /// Nothing more is waited for.
+    /// Returns whether no more answers are expected.
     pub fn has_all(&self) -> bool {
         self.answers.ended == self.expected
     }
 
-    /// A SCSI Command comes next, with so much immediate data. Its tag.
+    /// Lays a SCSI Command next, with `data` bytes of immediate data, and returns its tag.
     pub fn lay(&mut self, wire: &mut Wire, command: &Command, data: usize) -> u32 {
         let tag = self.next_tag();
         let cmd_sn = self.next_cmd_sn();
@@ -79,7 +79,7 @@ impl Host {
         tag
     }
 
-    /// A SCSI Command comes next, with this immediate data.
+    /// Lays a SCSI Command next, with this immediate data.
     pub fn lay_data(&mut self, wire: &mut Wire, command: &Command, data: &[u8]) {
         let tag = self.next_tag();
         let cmd_sn = self.next_cmd_sn();
@@ -87,7 +87,7 @@ impl Host {
         self.expect();
     }
 
-    /// A text that asks for all targets comes next.
+    /// Lays a Text Request next that asks for all targets.
     pub fn lay_send_targets(&mut self, wire: &mut Wire) {
         let asked = b"SendTargets=All\0";
         let tag = self.next_tag();
@@ -96,7 +96,7 @@ impl Host {
         self.expect();
     }
 
-    /// A Logout Request comes next.
+    /// Lays a Logout Request next.
     pub fn lay_logout(&mut self, wire: &mut Wire) {
         let tag = self.next_tag();
         let cmd_sn = self.next_cmd_sn();
@@ -104,7 +104,7 @@ impl Host {
         self.expect();
     }
 
-    /// Lays the data that was asked for next, in Data-Outs of `segment` bytes.
+    /// Lays the requested data next, in Data-Outs of `segment` bytes.
     pub fn lay_asked(&mut self, wire: &mut Wire, segment: usize) {
         let asked = mem::replace(&mut self.answers.asked, Vec::new(self.alloc));
         for part in asked.iter() {
@@ -127,7 +127,7 @@ impl Host {
         Ok(())
     }
 
-    /// A discovery login comes next.
+    /// Lays a discovery login next.
     pub fn lay_discovery(&mut self, wire: &mut Wire) -> Result<(), Fault> {
         let number = self.number;
         let text = format!(in self.alloc;
@@ -137,7 +137,7 @@ impl Host {
         Ok(())
     }
 
-    /// A login with this text comes next.
+    /// Lays a login with this text next.
     fn lay_login_text(&mut self, wire: &mut Wire, text: &str) {
         let isid = (self.number & 0xffff) as u16;
         wire.lay_text(&login(isid, self.cmd_sn, text.len()), text.as_bytes());
@@ -145,7 +145,7 @@ impl Host {
     }
 }
 
-/// The Data-Outs of a part that was asked for come next.
+/// Lays the Data-Outs of a requested part next, each of at most `segment` bytes, or 512 if that is more.
 fn lay_part(wire: &mut Wire, part: &Asked, segment: usize) {
     let segment = segment.max(512);
     let mut sent = 0usize;

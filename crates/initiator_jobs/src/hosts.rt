@@ -1,4 +1,5 @@
-//! Hosts log in as libiscsi and open-iscsi do, share a disk, most of them with one ISID, and write archives to a tape.
+//! Hosts that log in as libiscsi and open-iscsi do, most of them with one ISID. They share a disk, and write archives
+//! to a tape.
 
 use crate::archives::Archives;
 use crate::devices::{Targets, disks, name_of};
@@ -15,10 +16,10 @@ use std::alloc::Global;
 /// The number of hosts.
 const HOSTS: usize = 64;
 
-/// The blocks of the disk: 32 MiB.
+/// The number of blocks of the disk: 32 MiB.
 const BLOCKS: usize = 65_536;
 
-/// The blocks of a long WRITE: 256 KiB.
+/// The number of blocks of a long WRITE: 256 KiB.
 const LONG: usize = 512;
 
 /// The number of blocks of a short READ or WRITE.
@@ -27,7 +28,7 @@ const SHORT: usize = 8;
 /// The length of the data that comes with its command.
 const IMMEDIATE: usize = 65_536;
 
-/// The length of the part of the wire at which a stream may begin.
+/// The length of the part of the wire in which a stream may begin.
 const BEGINNINGS: usize = 524_288;
 
 /// The disk, and what is sent to it.
@@ -39,7 +40,7 @@ struct Sharing {
 }
 
 impl Sharing {
-    /// Sends a command, and what it is asked for, until it is answered.
+    /// Sends a command, and the data that is requested for it, until it is answered.
     fn give(&mut self, host: &mut Host, flags: u8, cdb: Cdb, expected: usize) -> Result<(), Fault> {
         let command = Command {
             flags,
@@ -79,7 +80,7 @@ impl Sharing {
         exchange(&mut self.target, host, &mut self.wire, SEGMENT, CUT)
     }
 
-    /// Starts a host: it logs in, is told of the power on, looks at the disk, and registers with its key.
+    /// Starts a host: it logs in, takes the report of the power on, looks at the disk, and registers with its key.
     fn start(&mut self, initiator: &mut Initiator) -> Result<(), Fault> {
         initiator.log_in(&mut self.target, &mut self.wire)?;
         let host = &mut initiator.host;
@@ -113,7 +114,7 @@ impl Sharing {
     }
 }
 
-/// Tells a host's reservation key.
+/// Returns a host's reservation key.
 fn key_of(host: &Host) -> u64 {
     0x1_0000 | host.number as u64
 }
@@ -135,7 +136,8 @@ fn start_all(sharing: &mut Sharing, all: &mut [Initiator]) -> Result<(), Fault> 
     Ok(())
 }
 
-/// Lets one host do a service action of PERSISTENT RESERVE OUT, of the type write exclusive, registrants only.
+/// Sends a PERSISTENT RESERVE OUT with this service action from one host. The type is write exclusive, registrants
+/// only.
 fn hold(
     sharing: &mut Sharing,
     all: &mut [Initiator],
@@ -150,7 +152,7 @@ fn hold(
     Ok(())
 }
 
-/// Lets all hosts work. Eight of them, each with another way to log in, also write 256 KiB, and eight send a text.
+/// Lets all hosts work. Eight of them, each with a different way to log in, also write 256 KiB, and eight send a text.
 fn work_all(sharing: &mut Sharing, all: &mut [Initiator]) -> Result<(), Fault> {
     let writing = sharing.random.below(8);
     let asking = sharing.random.below(8);
@@ -184,7 +186,7 @@ fn round(sharing: &mut Sharing, all: &mut [Initiator]) -> Result<(), Fault> {
     log_all_out(sharing, all)
 }
 
-/// Does a number of rounds.
+/// Runs `rounds` rounds.
 pub fn hosts(alloc: Global, seed: u64, rounds: usize) -> Result<Outcome, Fault> {
     let mut random = Random::new(seed);
     let mut archives = Archives::new(alloc, random.stream(1), rounds)?;

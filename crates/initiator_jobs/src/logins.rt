@@ -12,35 +12,36 @@ use std::alloc::Global;
 /// The length of the longest data segment that both sides take.
 pub const SEGMENT: usize = 262_144;
 
-/// As much as the loop reads at a time.
+/// The most bytes that the loop reads at a time.
 pub const CUT: usize = 65_536;
 
-/// T, CSG and NSG of a Login Request: from security to operational negotiation, from there to full feature phase, and no
-/// further for now.
+/// T, CSG and NSG of a Login Request: from security to operational negotiation, from there to full feature phase, and
+/// no transition.
 const TO_OPERATIONAL: u8 = 0x81;
 
 const TO_FULL_FEATURE: u8 = 0x87;
 
 const STAYS: u8 = 0x04;
 
-/// The ISID of each open-iscsi, which counts from 00023d000000 on each host.
+/// The ISID of each open-iscsi initiator, which counts from 00023d000000 on each host.
 const OPEN_ISCSI_ISID: [u8; 6] = [0x00, 0x02, 0x3d, 0x00, 0x00, 0x01];
 
-/// The ISID of a libiscsi, which has bytes at random in place of three zeros.
+/// The ISID of a libiscsi initiator, which has random bytes in place of three of these zeros.
 const LIBISCSI_ISID: [u8; 6] = [0x80, 0x00, 0x00, 0x00, 0x00, 0x00];
 
-/// What libiscsi 1.19.0 says after both names.
+/// The keys that libiscsi 1.19.0 sends after both names.
 const LIBISCSI_KEYS: &str =
     "SessionType=Normal\0HeaderDigest=None,CRC32C\0DataDigest=None\0InitialR2T=No\0ImmediateData=Yes\0MaxBurstLength=262144\0FirstBurstLength=262144\0DefaultTime2Wait=2\0DefaultTime2Retain=0\0MaxOutstandingR2T=1\0ErrorRecoveryLevel=0\0IFMarker=No\0OFMarker=No\0MaxConnections=1\0MaxRecvDataSegmentLength=262144\0DataPDUInOrder=Yes\0DataSequenceInOrder=Yes\0";
 
-/// What open-iscsi 2.1.8 says after both names, its alias and the type of the session, up to the keys of bursts.
+/// The keys that open-iscsi 2.1.8 sends after both names, its alias and the type of the session, up to the keys of
+/// bursts.
 const OPEN_ISCSI_FRONT: &str =
     "HeaderDigest=None\0DataDigest=None\0DefaultTime2Wait=2\0DefaultTime2Retain=0\0IFMarker=No\0OFMarker=No\0ErrorRecoveryLevel=0\0InitialR2T=No\0ImmediateData=Yes\0";
 
 /// Its keys of bursts.
 const OPEN_ISCSI_BURSTS: &str = "MaxBurstLength=16776192\0FirstBurstLength=262144\0";
 
-/// What it says after them.
+/// The keys that it sends after them.
 const OPEN_ISCSI_END: &str =
     "MaxOutstandingR2T=1\0MaxConnections=1\0DataPDUInOrder=Yes\0DataSequenceInOrder=Yes\0MaxRecvDataSegmentLength=262144\0";
 
@@ -71,11 +72,11 @@ enum Way {
     Guest,
     /// The same with further keys, up to 40.
     GuestAndMore,
-    /// By the keys of a guest in both stages.
+    /// With the keys of a guest, in both stages.
     BothStages,
-    /// By these keys in two texts of one stage.
+    /// With these keys in two texts of one stage.
     TwoTexts,
-    /// By these keys in eight texts of one stage.
+    /// With these keys in eight texts of one stage.
     EightTexts,
 }
 
@@ -147,7 +148,7 @@ impl Initiator {
         Ok(())
     }
 
-    /// Adds keys that nobody knows to the last Login Request, three for each unit of `more`, but at most 20.
+    /// Adds unknown keys to the last Login Request: three for each unit of `more`, but at most 20.
     fn add_further_keys(&mut self, more: usize) -> Result<(), Fault> {
         let keys = further_keys(self.alloc, more.saturating_mul(3).min(20))?;
         if let Some(part) = self.parts.last_mut() {
@@ -190,7 +191,7 @@ impl Initiator {
         )
     }
 
-    /// Writes what a guest says of itself and of its session.
+    /// Returns the keys with which a guest describes itself and its session.
     fn guest(&self, target: &str) -> Result<String, Fault> {
         let number = self.host.number;
         Ok(format!(in self.alloc;
@@ -277,7 +278,7 @@ impl Part {
     }
 }
 
-/// Writes a text of keys that nobody knows.
+/// Returns a text of `count` unknown keys.
 fn further_keys(alloc: Global, count: usize) -> Result<Vec<u8>, Fault> {
     let mut all = Vec::new(alloc);
     for number in 0..count {

@@ -1,7 +1,7 @@
-//! What hosts do all day, on targets in memory, so that it can be timed.
+//! The everyday work of hosts, on targets in memory, so that it can be timed.
 //!
-//! `initiator_jobs JOB SEED ROUNDS` does a job for ROUNDS rounds, on data that the seed decides. It prints its name, a
-//! digest of all bytes that the target answered, and the number of answers: the same at each run.
+//! `initiator_jobs JOB SEED ROUNDS` runs a job for ROUNDS rounds, on data that the seed decides. It prints its name, a
+//! digest of all bytes that the target answered, and the number of answers: the same in each run.
 //!
 //! ```text
 //! machines   READs and WRITEs of 4 KiB at random places, served by the loop
@@ -14,7 +14,7 @@
 //! all        each of them
 //! ```
 //!
-//! A fault of the target, or of the program, ends it with status 1, and a want of memory with status 3.
+//! A fault of the target, or of the program, ends it with status 1. If an allocation fails, it ends with status 3.
 #![tactic(auto)]
 
 mod answers;
@@ -54,7 +54,7 @@ const JOBS: [&str; 7] = [
     "machines", "copies", "crowds", "clusters", "tapes", "awkward", "hosts",
 ];
 
-/// Does a job for this many rounds, and prints its digest.
+/// Runs a job for `rounds` rounds, and prints its digest.
 fn run_job(rt: &HostRuntime, job: &str, seed: u64, rounds: usize) -> Result<(), Fault> {
     let alloc = rt.alloc();
     let outcome = match job {
@@ -76,7 +76,7 @@ fn run_job(rt: &HostRuntime, job: &str, seed: u64, rounds: usize) -> Result<(), 
     Ok(())
 }
 
-/// Does what these words name.
+/// Runs the job that these words name, or all jobs.
 fn run_words(rt: &HostRuntime, words: &[String]) -> Result<(), Fault> {
     let [_, job, seed, rounds] = words else {
         return Err(Fault::Usage);
@@ -96,7 +96,7 @@ fn run_words(rt: &HostRuntime, words: &[String]) -> Result<(), Fault> {
     Ok(())
 }
 
-/// Does what the words of the command line name.
+/// Runs what the words of the command line name.
 fn run(rt: &HostRuntime) -> Result<(), Fault> {
     let mut words = Vec::new(rt.alloc());
     for word in env::args(rt)? {

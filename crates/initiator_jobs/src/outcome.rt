@@ -1,4 +1,4 @@
-//! What came of a job.
+//! The outcome of a job.
 
 use crate::answers::Answers;
 
@@ -7,14 +7,14 @@ use crate::answers::Answers;
 pub struct Outcome {
     /// A digest of all bytes.
     pub digest: u64,
-    /// How many answers came, Data-Ins and R2Ts left aside.
+    /// The number of answers, without Data-Ins and R2Ts.
     pub answers: u64,
-    /// How many SCSI Responses told GOOD.
+    /// The number of SCSI Responses with status GOOD.
     pub good: u64,
 }
 
 impl Outcome {
-    /// Of no initiator.
+    /// Returns the outcome of no initiator.
     pub fn new() -> Outcome {
         Outcome {
             digest: 0,
@@ -23,7 +23,7 @@ impl Outcome {
         }
     }
 
-    /// Another initiator was answered this.
+    /// Adds the answers to another initiator.
     pub fn add(&mut self, answers: &Answers) {
         self.digest = self
             .digest

@@ -1,4 +1,4 @@
-//! An initiator with work of its own, which sends what is due and takes what is answered.
+//! An initiator with work of its own, which sends what is due and takes the answers.
 
 use crate::answers::Answers;
 use crate::fault::Fault;
@@ -7,13 +7,13 @@ use crate::random::Random;
 use crate::requests::{Command, NO_DATA, READS, WRITES, cdb_10};
 use crate::wire::{HEADER_LENGTH, Wire};
 
-/// While a header is ahead an answer shorter than this is put off, as the ports over sockets do it.
+/// While a header is still to be sent, an answer shorter than this is put off, as the ports over sockets do.
 const LONG_ANSWER: usize = 262_144;
 
-/// The segments of the Data-Outs.
+/// The length of the segments of Data-Outs.
 const SEGMENT: usize = 65_536;
 
-/// What an initiator does again and again.
+/// The work that an initiator repeats.
 #[derive(Clone, Copy)]
 pub enum Work {
     /// The disk of a virtual machine: short READs and WRITEs, 1, 8 or 32 at a time.
@@ -31,16 +31,16 @@ pub struct Peer {
     work: Work,
     /// The number of rounds left to do.
     left: usize,
-    /// The blocks of its disk.
+    /// The number of blocks of its disk.
     blocks: usize,
-    /// So much of the stream was read.
+    /// The number of bytes of the stream that were read.
     sent: usize,
-    /// It was read since the last poll.
+    /// Whether any were read since the last poll.
     has_sent: bool,
 }
 
 impl Peer {
-    /// Returns an initiator that is to log in to a target, and to do `rounds` rounds of its work there.
+    /// Returns an initiator that will log in to a target, and do `rounds` rounds of its work there.
     pub fn new(
         mut host: Host,
         mut wire: Wire,
@@ -63,22 +63,22 @@ impl Peer {
         })
     }
 
-    /// It has done all its work.
+    /// Returns whether it has done all its work.
     pub fn is_done(&self) -> bool {
         self.left == 0 && self.ahead() == 0 && self.host.has_all()
     }
 
-    /// What it was answered.
+    /// Returns the answers that it took.
     pub fn answers(&self) -> &Answers {
         &self.host.answers
     }
 
-    /// So much of the stream is left.
+    /// Returns the number of bytes of the stream that are left.
     fn ahead(&self) -> usize {
         self.wire.stream().len().saturating_sub(self.sent)
     }
 
-    /// It may have something to send.
+    /// Returns whether it has something to send. If nothing is left of the stream, first lays what is due.
     pub fn is_ready(&mut self) -> bool {
         self.has_sent = false;
         if self.ahead() == 0 {
@@ -87,7 +87,7 @@ impl Peer {
         self.ahead() > 0
     }
 
-    /// Sends what comes next, as far as there is room: how much.
+    /// Sends what comes next, as far as there is room, and returns the number of bytes.
     pub fn read(&mut self, buffer: &mut [u8]) -> usize {
         let stream = self.wire.stream();
         let from = self.sent.min(stream.len());
@@ -98,7 +98,7 @@ impl Peer {
         count
     }
 
-    /// Takes what is answered: how much.
+    /// Takes an answer, or puts it off, and returns the number of bytes taken.
     pub fn write(&mut self, bytes: &[u8]) -> Result<usize, Fault> {
         if self.has_sent && self.ahead() >= HEADER_LENGTH && bytes.len() < LONG_ANSWER {
             return Ok(0);
@@ -107,7 +107,8 @@ impl Peer {
         Ok(bytes.len())
     }
 
-    /// All that was to be sent is sent: what is asked for comes next, or the next round, once all is answered.
+    /// Lays what comes next after everything was sent: the requested data, or, after everything is answered, the next
+    /// round.
     fn go_on(&mut self) {
         if !self.host.answers.asked.is_empty() {
             self.wire.go_on();
@@ -124,7 +125,7 @@ impl Peer {
         self.begin_round();
     }
 
-    /// The commands of a round come next. The first of a session is TEST UNIT READY, which is told of the power on.
+    /// Lays the commands of a round next. The first of a session is TEST UNIT READY, which reports the power on.
     fn begin_round(&mut self) {
         if self.host.answers.ended == 1 {
             let command = Command {
@@ -183,7 +184,7 @@ impl Peer {
         }
     }
 
-    /// A long READ or WRITE comes next.
+    /// Lays a long READ or WRITE next, if there is room.
     fn lay_long(&mut self, flags: u8, blocks: usize) {
         let length = 512 * blocks.min(2_048);
         let data = if flags == WRITES {

@@ -10,18 +10,18 @@ use crate::peer::Peer;
 use connection_numbers::CONNECTIONS;
 use iscsi_ports::{Accepted, IoResult, Named, PortFault, Ports};
 
-/// Initiators, each of which connects as soon as it may. They keep no log.
+/// Initiators, each of which connects as soon as it can. They keep no log.
 #[derive(Drop)]
 pub struct Peers {
     peers: Vec<Peer>,
-    /// The number accepted so far.
+    /// The number of those that were accepted so far.
     accepted: usize,
-    /// Nothing was asked of them yet.
+    /// Whether no call has been made to them yet.
     tells: bool,
 }
 
 impl Peers {
-    /// These initiators.
+    /// Returns ports to these initiators, none of which is accepted yet.
     pub fn new(peers: Vec<Peer>) -> Peers {
         Peers {
             peers,
@@ -30,7 +30,7 @@ impl Peers {
         }
     }
 
-    /// Each of them has done all that it was to do.
+    /// Returns whether each of them was accepted and has done all its work.
     pub fn are_done(&self) -> bool {
         for peer in self.peers.iter() {
             if !peer.is_done() {
@@ -40,7 +40,7 @@ impl Peers {
         self.accepted == self.peers.len()
     }
 
-    /// What they were answered.
+    /// Returns what they were answered, if they have done all their work.
     pub fn outcome(&self) -> Result<Outcome, Fault> {
         if !self.are_done() {
             return Err(Fault::Unanswered);
@@ -53,7 +53,7 @@ impl Peers {
     }
 }
 
-/// Which of the peers may have something to send.
+/// Returns which of the peers have something to send, and whether one waits to be accepted.
 fn named(peers: &mut [Peer], accepted: usize) -> Named {
     let mut named = Named {
         listener: accepted < peers.len(),
@@ -65,7 +65,7 @@ fn named(peers: &mut [Peer], accepted: usize) -> Named {
     named
 }
 
-/// What a peer gives to a read.
+/// Returns what a peer gives to a read.
 fn read_of(peers: &mut [Peer], c: usize, buffer: &mut [u8]) -> IoResult
     ensures { count_of result ≤ length buffer.new }
 {
@@ -76,7 +76,7 @@ fn read_of(peers: &mut [Peer], c: usize, buffer: &mut [u8]) -> IoResult
     IoResult::Bytes(count.min(buffer.len()))
 }
 
-/// How many bytes a peer takes of a write.
+/// Returns how many bytes of a write a peer takes.
 fn write_of(peers: &mut [Peer], c: usize, bytes: &[u8]) -> IoResult
     ensures { count_of result ≤ length bytes.now }
 {

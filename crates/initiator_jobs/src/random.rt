@@ -9,12 +9,12 @@ pub struct Random {
 }
 
 impl Random {
-    /// The numbers of this seed.
+    /// Returns the generator with this seed.
     pub fn new(seed: u64) -> Random {
         Random { state: seed }
     }
 
-    /// The numbers of another stream of the same seed.
+    /// Returns the generator of another stream of the same seed.
     pub fn stream(self, number: usize) -> Random {
         let mut other = Random {
             state: self.state ^ (number as u64).wrapping_mul(0xd6e8_feb8_6659_fd93),
@@ -22,7 +22,7 @@ impl Random {
         Random::new(other.number())
     }
 
-    /// The next number.
+    /// Returns the next number.
     pub fn number(&mut self) -> u64 {
         self.state = self.state.wrapping_add(0x9e37_79b9_7f4a_7c15);
         let mut mixed = self.state;
@@ -31,7 +31,7 @@ impl Random {
         mixed ^ (mixed >> 31)
     }
 
-    /// The next number below this one, or 0.
+    /// Returns the next number below `end`, or 0 if `end` is 0.
     pub fn below(&mut self, end: usize) -> usize
         ensures { result ≤ end }
     {
@@ -41,7 +41,7 @@ impl Random {
         (self.number() % end as u64) as usize
     }
 
-    /// Returns `true` once in this many times.
+    /// Returns `true` about once in `times` times.
     pub fn once_in(&mut self, times: usize) -> bool {
         self.below(times) == 0
     }

@@ -10,7 +10,7 @@ pub type Header = [u8; 48];
 /// A command descriptor block.
 pub type Cdb = [u8; 16];
 
-/// F, W and R of a SCSI Command, whose task attribute is SIMPLE.
+/// The flags F, W and R of a SCSI Command, whose task attribute is SIMPLE.
 pub const NO_DATA: u8 = 0x81;
 
 pub const WRITES: u8 = 0xa1;
@@ -34,7 +34,7 @@ fn put(header: &mut Header, at: usize, number: u32)
     BigEndian::write_u32(&mut header[at..at + 4], number);
 }
 
-/// A header with an opcode, flags, a tag and DataSegmentLength.
+/// Returns a header with an opcode, flags, a tag and DataSegmentLength.
 fn begun(opcode: u8, flags: u8, tag: u32, data: usize) -> Header {
     let mut header = [0; 48];
     header[0] = opcode;
@@ -46,7 +46,7 @@ fn begun(opcode: u8, flags: u8, tag: u32, data: usize) -> Header {
     header
 }
 
-/// A SCSI Command with so much immediate data.
+/// Returns a SCSI Command with `data` bytes of immediate data.
 pub fn scsi_command(command: &Command, tag: u32, cmd_sn: u32, data: usize) -> Header {
     let mut header = begun(0x01, command.flags, tag, data);
     header[9] = command.lun;
@@ -56,7 +56,7 @@ pub fn scsi_command(command: &Command, tag: u32, cmd_sn: u32, data: usize) -> He
     header
 }
 
-/// A SCSI Data-Out.
+/// Returns a SCSI Data-Out with `data` bytes of data.
 pub fn data_out(
     tag: u32,
     transfer: u32,
@@ -72,7 +72,7 @@ pub fn data_out(
     header
 }
 
-/// A Login Request from operational negotiation to full feature phase.
+/// Returns a Login Request from operational negotiation to full feature phase.
 pub fn login(isid: u16, cmd_sn: u32, data: usize) -> Header {
     let mut header = begun(0x43, 0x87, 0, data);
     header[8] = 0x80;
@@ -81,7 +81,7 @@ pub fn login(isid: u16, cmd_sn: u32, data: usize) -> Header {
     header
 }
 
-/// A Text Request.
+/// Returns a Text Request with `data` bytes of text.
 pub fn text(flags: u8, tag: u32, transfer: u32, cmd_sn: u32, data: usize) -> Header {
     let mut header = begun(0x04, flags, tag, data);
     put(&mut header, 20, transfer);
@@ -89,14 +89,14 @@ pub fn text(flags: u8, tag: u32, transfer: u32, cmd_sn: u32, data: usize) -> Hea
     header
 }
 
-/// A Logout Request that closes the session.
+/// Returns a Logout Request that closes the session.
 pub fn logout(tag: u32, cmd_sn: u32) -> Header {
     let mut header = begun(0x06, 0x80, tag, 0);
     put(&mut header, 24, cmd_sn);
     header
 }
 
-/// A NOP-Out with data that comes back.
+/// Returns a NOP-Out with `data` bytes of data, which come back.
 pub fn ping(tag: u32, cmd_sn: u32, data: usize) -> Header {
     let mut header = begun(0x00, 0x80, tag, data);
     put(&mut header, 20, 0xffff_ffff);
@@ -104,7 +104,7 @@ pub fn ping(tag: u32, cmd_sn: u32, data: usize) -> Header {
     header
 }
 
-/// ABORT TASK, for immediate delivery.
+/// Returns an ABORT TASK, for immediate delivery.
 pub fn abort_task(tag: u32, aborted: u32, aborted_sn: u32, cmd_sn: u32) -> Header {
     let mut header = begun(0x42, 0x81, tag, 0);
     put(&mut header, 20, aborted);
@@ -113,7 +113,7 @@ pub fn abort_task(tag: u32, aborted: u32, aborted_sn: u32, cmd_sn: u32) -> Heade
     header
 }
 
-/// A block of six bytes: its operation code, byte 1, and bytes 2 to 4 as one number.
+/// Returns a block of six bytes: its operation code, byte 1, and bytes 2 to 4 as one number.
 pub fn cdb_6(code: u8, flags: u8, number: usize) -> Cdb {
     let mut cdb = [0; 16];
     cdb[0] = code;
@@ -122,7 +122,7 @@ pub fn cdb_6(code: u8, flags: u8, number: usize) -> Cdb {
     cdb
 }
 
-/// A block of ten bytes: its operation code, byte 1, a number in bytes 2 to 5, and one in bytes 7 and 8.
+/// Returns a block of ten bytes: its operation code, byte 1, a number in bytes 2 to 5, and one in bytes 7 and 8.
 pub fn cdb_10(code: u8, flags: u8, at: usize, count: usize) -> Cdb {
     let mut cdb = [0; 16];
     cdb[0] = code;
@@ -132,7 +132,7 @@ pub fn cdb_10(code: u8, flags: u8, at: usize, count: usize) -> Cdb {
     cdb
 }
 
-/// A block of sixteen bytes: its operation code, byte 1, a number in bytes 2 to 9, and one in bytes 10 to 13.
+/// Returns a block of sixteen bytes: its operation code, byte 1, a number in bytes 2 to 9, and one in bytes 10 to 13.
 pub fn cdb_16(code: u8, flags: u8, at: usize, count: usize) -> Cdb {
     let mut cdb = [0; 16];
     cdb[0] = code;
@@ -142,7 +142,7 @@ pub fn cdb_16(code: u8, flags: u8, at: usize, count: usize) -> Cdb {
     cdb
 }
 
-/// LOCATE (10) to an item of a tape.
+/// Returns a LOCATE (10) to an item of a tape.
 pub fn cdb_locate(at: usize) -> Cdb {
     let mut cdb = [0; 16];
     cdb[0] = 0x2b;

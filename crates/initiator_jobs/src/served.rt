@@ -11,19 +11,19 @@ use crate::wire::Wire;
 use iscsi_serve::turns;
 use std::alloc::Global;
 
-/// Who is served.
+/// The initiators that are served, and their targets.
 #[derive(Drop)]
 struct Crowd {
     hosts: usize,
     targets: usize,
-    /// The blocks of each target's disk.
+    /// The number of blocks of each target's disk.
     blocks: usize,
-    /// The bytes from which an initiator takes what it sends.
+    /// The number of bytes from which an initiator takes what it sends.
     wire: usize,
     work: Work,
 }
 
-/// These initiators.
+/// Makes these initiators.
 fn peers(alloc: Global, crowd: &Crowd, seed: u64, rounds: usize) -> Result<Vec<Peer>, Fault> {
     let mut peers = Vec::new(alloc);
     for number in 0..crowd.hosts {
@@ -37,7 +37,7 @@ fn peers(alloc: Global, crowd: &Crowd, seed: u64, rounds: usize) -> Result<Vec<P
     Ok(peers)
 }
 
-/// They are served until they have done their work.
+/// Serves them until they have done their work.
 fn serve(alloc: Global, crowd: &Crowd, seed: u64, rounds: usize) -> Result<Outcome, Fault> {
     let mut peers = Peers::new(peers(alloc, crowd, seed, rounds)?);
     let mut target = disks(alloc, crowd.targets, crowd.blocks)?;

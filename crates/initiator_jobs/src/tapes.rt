@@ -1,4 +1,4 @@
-//! Backups go to a tape, are read back, and places on it are looked for.
+//! Backups that are written to a tape, read back, and searched for places.
 
 use crate::devices::{Targets, one_tape};
 use crate::exchange::{exchange, log_in};
@@ -19,20 +19,20 @@ const DEPTH: usize = 16;
 /// The most bytes of a record.
 const LONGEST: usize = 65_536;
 
-/// Places at which a stream may begin.
+/// The number of places at which a stream may begin.
 const PLACES: usize = 524_288;
 
-/// What records a backup has.
+/// The records of a backup.
 #[derive(Clone, Copy)]
 enum Records {
     Long,
     Short,
     OfAnySize,
-    /// 128 blocks of 512 bytes by a command.
+    /// 128 blocks of 512 bytes per command.
     Blocks,
 }
 
-/// The tape, and who writes it.
+/// The tape, and the host that writes it.
 #[derive(Drop)]
 struct Backup {
     target: Targets,
@@ -46,7 +46,7 @@ struct Backup {
 }
 
 impl Backup {
-    /// All that was laid is sent, and answered.
+    /// Sends everything that was laid, and takes the answers.
     fn flush(&mut self) -> Result<(), Fault> {
         exchange(
             &mut self.target,
@@ -60,7 +60,7 @@ impl Backup {
         Ok(())
     }
 
-    /// A command comes next. Where enough are there they are sent.
+    /// Lays a command next. If there are enough commands, sends them.
     fn lay(&mut self, flags: u8, cdb: Cdb, expected: usize) -> Result<(), Fault> {
         let command = Command {
             flags,
@@ -77,7 +77,7 @@ impl Backup {
         Ok(())
     }
 
-    /// The block length becomes 512, or that of no blocks.
+    /// Sets the block length to 512 bytes if `length` is 2. If `length` is 0, there are no fixed blocks.
     fn set_blocks(&mut self, length: u8) -> Result<(), Fault> {
         self.flush()?;
         let list = [0, 0, 0x10, 8, 0, 0, 0, 0, 0, 0, length, 0];
@@ -91,7 +91,7 @@ impl Backup {
         self.flush()
     }
 
-    /// The next record is written.
+    /// Writes the next record, or the next blocks.
     fn write(&mut self, records: Records) -> Result<(), Fault> {
         let length = match records {
             Records::Long => LONGEST,
@@ -105,7 +105,7 @@ impl Backup {
         self.lay(WRITES, cdb_6(0x0a, 0, length), length)
     }
 
-    /// A backup: records, and a filemark every few hundred and at the end.
+    /// Writes a backup: records, and a filemark every few hundred and at the end.
     fn back_up(&mut self, records: Records, count: usize) -> Result<(), Fault> {
         for number in 0..count {
             self.items = self.items.saturating_add(1);
@@ -120,7 +120,7 @@ impl Backup {
         self.flush()
     }
 
-    /// A round of backups: short records, some long ones, some of any size, and blocks.
+    /// Writes a round of backups: short records, some long ones, some of any size, and blocks.
     fn write_round(&mut self) -> Result<(), Fault> {
         self.back_up(Records::Short, ITEMS / 2)?;
         self.back_up(Records::Long, 16)?;
@@ -130,7 +130,7 @@ impl Backup {
         self.set_blocks(0)
     }
 
-    /// The tape is read from its beginning on.
+    /// Reads the tape from its beginning.
     fn read_back(&mut self) -> Result<(), Fault> {
         self.lay(NO_DATA, cdb_6(0x01, 0, 0), 0)?;
         for _ in 0..self.items {
@@ -139,7 +139,7 @@ impl Backup {
         self.flush()
     }
 
-    /// A place is looked for: by its number, by records and by filemarks on and back, and told.
+    /// Looks for a place by its number, then by records and filemarks forward and backward, and asks for the position.
     fn look_up(&mut self) -> Result<(), Fault> {
         let at = self.random.below(self.items);
         let by = 1 + self.random.below(200);
@@ -154,7 +154,7 @@ impl Backup {
     }
 }
 
-/// Does this many rounds of 1,000 items and more, which are read back, and in which places are looked for.
+/// Writes `rounds` rounds of 1,000 items and more, reads them back, and looks for places among them.
 pub fn tapes(alloc: Global, seed: u64, rounds: usize) -> Result<Outcome, Fault> {
     let mut random = Random::new(seed);
     let mut wire = Wire::new(alloc, &mut random, 4 * PLACES)?;

@@ -17,7 +17,7 @@ pub struct Wire {
 }
 
 impl Wire {
-    /// Returns `length` random bytes.
+    /// Returns a wire of `length` random bytes, without a stream.
     pub fn new(alloc: Global, random: &mut Random, length: usize) -> Result<Wire, AllocError> {
         let mut bytes = Vec::with_capacity(alloc, length)?;
         for _ in 0..length / 8 {
@@ -30,23 +30,23 @@ impl Wire {
         })
     }
 
-    /// A stream begins at this place, with nothing in it.
+    /// Begins an empty stream at this place.
     pub fn begin(&mut self, at: usize) {
         self.from = at.min(self.bytes.len());
         self.to = self.from;
     }
 
-    /// Continues the stream after what was in it, with nothing in it.
+    /// Begins an empty stream after the end of the last one.
     pub fn go_on(&mut self) {
         self.from = self.to;
     }
 
-    /// Returns whether there is room for a PDU with this much data.
+    /// Returns whether there is room for a PDU with `data` bytes of data.
     pub fn has_room(&self, data: usize) -> bool {
         data.saturating_add(HEADER_LENGTH + 3) <= self.bytes.len().saturating_sub(self.to)
     }
 
-    /// Bytes come next in the stream.
+    /// Puts bytes next in the stream, if there is room.
     pub fn put(&mut self, bytes: &[u8]) {
         let to = self.to;
         let all = self.bytes.len();
@@ -66,7 +66,7 @@ impl Wire {
             .min(self.bytes.len());
     }
 
-    /// A PDU comes next in the stream, with this data.
+    /// Lays a PDU next in the stream, with this text as its data.
     pub fn lay_text(&mut self, header: &Header, text: &[u8]) {
         self.put(header);
         self.put(text);
@@ -74,7 +74,7 @@ impl Wire {
         self.put(&[0; 3][..padding]);
     }
 
-    /// The bytes of the stream.
+    /// Returns the bytes of the stream.
     pub fn stream(&self) -> &[u8] {
         if self.from <= self.to && self.to <= self.bytes.len() {
             &self.bytes.as_slice()[self.from..self.to]
