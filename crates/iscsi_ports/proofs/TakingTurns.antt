@@ -225,17 +225,12 @@ module _ (ready : List Bool) (turns : Turns) where
 
 -- ---- that it is fair
 
-module _ (before seen after : Readiness) (long : seen.turns.long ≡ before.turns.long) (cursor : seen.turns.cursor ≡ before.turns.cursor)
-    (names : Names seen after) where
+module _ (before seen after : Readiness) (turns : seen.turns ≡ before.turns) (names : Names seen after) where
   ready_is : after.ready ≡ seen.ready
   ready_is = ap (λ (r : Readiness). r.ready) names.same
 
   long_is : after.turns.long ≡ seen.turns.long
   long_is = names.connections.long
-
-  named_is : (c : ℕ) → c < connection_limit
-      → flag_of c after.named.connections ≡ is_named seen.ready.connections seen.turns (turn seen.ready.connections seen.turns) c
-  named_is = names.connections.names
 
   -- what a flag of a named one says
   is_ready : (t : Option ℕ) (c : ℕ) → is_named seen.ready.connections seen.turns t c ≡ true → flag_of c seen.ready.connections ≡ true
@@ -258,11 +253,25 @@ module _ (before seen after : Readiness) (long : seen.turns.long ≡ before.turn
       let same : (c == t) ≡ true = right (flag_of c seen.ready.connections) (c == t) (rw is_long at e) in
       ap Some (sym (eqb-true c t same))
 
-  pub fair : IsFair before after
-  fair = record {
+  all_named : seen.turns.left_out ≡ true → IsFair before after
+  all_named e =
+      let named_is : after.named.connections ≡ after.ready.connections =
+      (names.connections.all e).names ∙ sym (ap (λ (r : Readiness). r.ready.connections) names.same) in
+      let left_out : before.turns.left_out ≡ true = sym (ap (λ (t : Turns). t.left_out) turns) ∙ e in
+      record {
+        ready = λ c lt named. ap (flag_of c) (sym named_is) ∙ named;
+        short = λ c lt ready short. ap (flag_of c) named_is ∙ ready;
+        all = λ _ c lt ready. ap (flag_of c) named_is ∙ ready;
+        one = λ none. absurd (false≢true (sym none ∙ left_out));
+        nearer = λ c lt ready out. absurd (false≢true (sym out ∙ ap (flag_of c) named_is ∙ ready));
+      }
+
+  one_named : seen.turns.left_out ≡ false → IsFair before after
+  one_named none = record {
     ready = λ c lt e. rw ready_is (is_ready (turn seen.ready.connections seen.turns) c (sym (named_is c lt) ∙ e));
     short = λ c lt ready short. named_is c lt ∙ is_short (turn seen.ready.connections seen.turns) c (rw ready_is at ready) (rw long_is at short);
-    one = λ c d c_lt d_lt c_named c_long d_named d_long.
+    all = λ e. absurd (false≢true (sym none ∙ ap (λ (t : Turns). t.left_out) turns ∙ e));
+    one = λ _ c d c_lt d_lt c_named c_long d_named d_long.
         some_is c d
         (sym (is_turn (turn seen.ready.connections seen.turns) c (sym (named_is c c_lt) ∙ c_named) (rw long_is at c_long))
         ∙ is_turn (turn seen.ready.connections seen.turns) d (sym (named_is d d_lt) ∙ d_named) (rw long_is at d_long));
@@ -270,6 +279,13 @@ module _ (before seen after : Readiness) (long : seen.turns.long ≡ before.turn
         (turn seen.ready.connections seen.turns) refl;
   }
     where
+      named_is : (c : ℕ) → c < connection_limit
+          → flag_of c after.named.connections ≡ is_named seen.ready.connections seen.turns (turn seen.ready.connections seen.turns) c
+      named_is = (names.connections.one none).names
+
+      cursor : seen.turns.cursor ≡ before.turns.cursor
+      cursor = ap (λ (t : Turns). t.cursor) turns
+
       nearer_than : (c : ℕ) → c < connection_limit → flag_of c seen.ready.connections ≡ true
           → is_named seen.ready.connections seen.turns (turn seen.ready.connections seen.turns) c ≡ false
           → (t : Option ℕ) → turn seen.ready.connections seen.turns ≡ t → turns_to c after.turns.cursor < turns_to c before.turns.cursor
@@ -283,5 +299,8 @@ module _ (before seen after : Readiness) (long : seen.turns.long ≡ before.turn
           let is_due_here : is_due seen.ready.connections seen.turns c ≡ true = rw ready (long_one (flag_of c seen.turns.long) short) in
           let other : (c ≡ t → ⊥) = λ same. false≢true (sym (nor (not (flag_of c seen.turns.long)) (c == t) either) ∙ eq-eqb c t same) in
           let after_is : after.turns.cursor ≡ t + 1 =
-          names.connections.cursor ∙ ap (λ (o : Option ℕ). cursor_after o seen.turns.cursor) is in
+          (names.connections.one none).cursor ∙ ap (λ (o : Option ℕ). cursor_after o seen.turns.cursor) is in
           rw (after_is, sym cursor) (nearer seen.ready.connections seen.turns t c is is_due_here lt other)
+
+  pub fair : IsFair before after
+  fair = by_test seen.turns.left_out all_named one_named

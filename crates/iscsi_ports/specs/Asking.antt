@@ -4,7 +4,7 @@ use Rattle.std.specs.Duration.{as_nanos}
 use Rattle.iscsi_ports.specs.Calls.{Call}
 use Rattle.iscsi_ports.specs.Polls.{wait_for, unasked_in}
 use Rattle.iscsi_ports.specs.Flags.{flag_of, flags_with, none_of}
-use Rattle.iscsi_ports.specs.Turns.{after_offer, counted_anew, looks_on}
+use Rattle.iscsi_ports.specs.Turns.{after_offer, after_carrying}
 use Rattle.iscsi_ports.specs.Readiness.{goes_on, accept_goes_on, after_accept, after_write}
 use Rattle.iscsi_ports.specs.declared.readiness.Readiness.{Readiness}
 use Rattle.iscsi_ports.specs.declared.socket_ports.SocketPorts.{SocketPorts}
@@ -58,11 +58,11 @@ module _ {K : Type 0} where
       is_due ports.unasked ports.most_unasked ports.carried || not (is_to_go_on ports.holding ports.busy ports.unasked) || has_passed
 
   abbrev pub wait_now : SocketPorts K → Option ℕ
-  wait_now ports = wait_for (ports.busy || looks_on ports.readiness.turns) ports.refused (option_map as_nanos ports.wait)
+  wait_now ports = wait_for (ports.busy || ports.readiness.turns.left_out) ports.refused (option_map as_nanos ports.wait)
 
-  -- who was ready before a poll: where bytes were carried since the last, the polls that left one out are counted anew
+  -- who was ready before a poll, and whether nothing was carried since one was left out
   abbrev pub rested : SocketPorts K → Readiness
-  rested ports = record ports.readiness { turns = counted_anew ports.busy ports.readiness.turns }
+  rested ports = record ports.readiness { turns = after_carrying ports.busy ports.readiness.turns }
 
   -- own: by these calls it counts the polls that were answered without asking, of which 63 may stand in a row
   pub record AsksInTime (calls : List Call) (ports : SocketPorts K) : Type 0 where

@@ -4,7 +4,7 @@ use Rattle.mio.specs.declared.event.event.Event.{Event}
 use Rattle.mio.specs.Event.{event_token, is_readable, is_writable, is_error, is_read_closed, is_priority}
 use Rattle.connection_numbers.specs.Numbers.{connection_limit}
 use Rattle.iscsi_ports.specs.Flags.{flag_of, flags_with, none_of}
-use Rattle.iscsi_ports.specs.Turns.{no_turns, counted_anew}
+use Rattle.iscsi_ports.specs.Turns.{no_turns}
 use Rattle.iscsi_ports.specs.declared.readiness.Readiness.{Readiness}
 use Rattle.iscsi_ports.specs.declared.readiness.ReadyEvent.{ReadyEvent}
 use Rattle.iscsi_ports.specs.declared.socket_failure.SocketFailure.{SocketFailure}
@@ -46,7 +46,6 @@ with_event c event readiness = record readiness {
   ended = flags_with event.has_ended c true readiness.ended;
   urgent = flags_with event.is_urgent c true readiness.urgent;
   full = flags_with (may_take event) c false readiness.full;
-  turns = counted_anew (may_give event) readiness.turns;
 }
 
 abbrev pub listener_ready : Bool → Readiness → Readiness

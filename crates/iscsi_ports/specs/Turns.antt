@@ -8,7 +8,7 @@ use Rattle.iscsi_ports.specs.declared.readiness.Readiness.{Readiness}
 use Rattle.iscsi_ports.specs.declared.turns.Turns.{Turns}
 
 abbrev pub no_turns : Turns
-no_turns = record { long = none_of; cursor = 0; left_out = 0 }
+no_turns = record { long = none_of; cursor = 0; left_out = false }
 
 -- own: a write that is offered this number of bytes is a long one
 abbrev pub is_long : ℕ → Bool
@@ -18,13 +18,9 @@ is_long offered = nat_le 65536 offered
 abbrev pub after_offer : ℕ → ℕ → Bool → Turns → Turns
 after_offer c offered has_read turns = record turns { long = flags_with (is_long offered || has_read) c (is_long offered) turns.long }
 
--- own: the polls that leave one out are counted anew where bytes were carried, or where there may be more to read
-abbrev pub counted_anew : Bool → Turns → Turns
-counted_anew says turns = record turns { left_out = if says then 0 else turns.left_out }
-
--- own: where the last poll left out one that is ready, the next does not wait, unless 64 in a row did so and nothing came of it
-abbrev pub looks_on : Turns → Bool
-looks_on turns = nat_lt 0 turns.left_out && nat_lt turns.left_out 64
+-- own: where something was carried after a poll, the next takes turns as ever, whomever this one left out
+abbrev pub after_carrying : Bool → Turns → Turns
+after_carrying carried turns = record turns { left_out = turns.left_out && not carried }
 
 module _ (ready : List Bool) (turns : Turns) where
   -- own: ready, and long
@@ -52,16 +48,23 @@ abbrev pub cursor_after : Option ℕ → ℕ → ℕ
 cursor_after None cursor = cursor
 cursor_after (Some chosen) cursor = chosen + 1
 
--- own: the number of polls in a row that left one out, after a poll for which this number of long ones were ready
-abbrev pub left_out_after : ℕ → ℕ → ℕ
-left_out_after due left_out = if nat_le due 1 then 0 else min (left_out + 1) 64
-
--- own: of those that are ready a poll names these
-pub record TakesTurn (ready : List Bool) (before after : Turns) (named : List Bool) : Type 0 where
+-- own: of the long ones that are ready it names the one whose turn it is, and leaves out the others
+pub record NamesOne (ready : List Bool) (before after : Turns) (named : List Bool) : Type 0 where
   pub names : (c : ℕ) → c < connection_limit → flag_of c named ≡ is_named ready before (turn ready before) c
   pub cursor : after.cursor ≡ cursor_after (turn ready before) before.cursor
+  pub left_out : after.left_out ≡ nat_lt 1 (due_count ready before)
+
+-- own: it names all that are ready
+pub record NamesAll (ready : List Bool) (before after : Turns) (named : List Bool) : Type 0 where
+  pub names : named ≡ ready
+  pub cursor : after.cursor ≡ before.cursor
+  pub left_out : after.left_out ≡ false
+
+-- own: of those that are ready a poll names these: all where nothing came of the last one, which left one out
+pub record TakesTurn (ready : List Bool) (before after : Turns) (named : List Bool) : Type 0 where
+  pub one : before.left_out ≡ false → NamesOne ready before after named
+  pub all : before.left_out ≡ true → NamesAll ready before after named
   pub long : after.long ≡ before.long
-  pub left_out : after.left_out ≡ left_out_after (due_count ready before) before.left_out
 
 -- own: what a poll names of those whom this knows to be ready
 pub record Names (before after : Readiness) : Type 0 where
@@ -76,12 +79,15 @@ abbrev pub turns_to : ℕ → ℕ → ℕ
 turns_to c cursor = if nat_le cursor c then c - cursor else (c + connection_limit) - min cursor connection_limit
 
 -- own: a poll names all that are ready and not long, and one of the long ones. Each other that is ready is nearer to its turn,
--- which is less than 64 polls away.
+-- which is less than 64 polls away. Where nothing came of a poll that left one out, the next names all that are ready.
 pub record IsFair (before after : Readiness) : Type 0 where
   pub ready : (c : ℕ) → c < connection_limit → flag_of c after.named.connections ≡ true → flag_of c after.ready.connections ≡ true
   pub short : (c : ℕ) → c < connection_limit → flag_of c after.ready.connections ≡ true → flag_of c after.turns.long ≡ false
       → flag_of c after.named.connections ≡ true
-  pub one : (c d : ℕ) → c < connection_limit → d < connection_limit → flag_of c after.named.connections ≡ true
+  pub all : before.turns.left_out ≡ true → (c : ℕ) → c < connection_limit → flag_of c after.ready.connections ≡ true
+      → flag_of c after.named.connections ≡ true
+  pub one : before.turns.left_out ≡ false → (c d : ℕ) → c < connection_limit → d < connection_limit
+      → flag_of c after.named.connections ≡ true
       → flag_of c after.turns.long ≡ true → flag_of d after.named.connections ≡ true → flag_of d after.turns.long ≡ true → c ≡ d
   pub nearer : (c : ℕ) → c < connection_limit → flag_of c after.ready.connections ≡ true → flag_of c after.named.connections ≡ false
       → turns_to c after.turns.cursor < turns_to c before.turns.cursor

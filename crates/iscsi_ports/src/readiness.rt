@@ -11,7 +11,7 @@ ghost use Rattle.std.specs.Prelude.{◌≡◌, ◌<◌};
 ghost use Rattle.iscsi_ports.specs.Readiness.{nothing_ready, may_give, may_take, still_readable, with_event, after_taking, ready_again, filled, forgotten};
 ghost use Rattle.iscsi_ports.specs.Readiness as ready;
 ghost use Rattle.iscsi_ports.specs.Flags.{flags_with, flag_of};
-ghost use Rattle.iscsi_ports.specs.Turns.{looks_on, after_offer, counted_anew, Names};
+ghost use Rattle.iscsi_ports.specs.Turns.{after_offer, after_carrying, Names};
 
 use crate::results::Named;
 use crate::socket_failure::SocketFailure;
@@ -129,7 +129,6 @@ impl Readiness {
         set_where(event.has_ended, &mut self.ended, c, true);
         set_where(event.is_urgent, &mut self.urgent, c, true);
         set_where(event.may_take(), &mut self.full, c, false);
-        self.turns.count_anew(event.may_give());
     }
 
     /// After a read of the system into so much room.
@@ -158,18 +157,18 @@ impl Readiness {
         self.named.connections = self.turns.take(&self.ready.connections);
     }
 
-    /// Whether the next poll is not to wait, since the last one left out a connection that is ready.
-    pub(crate) fn looks_on(&self) -> bool
-        ensures { result ≡ looks_on self.now.turns }
+    /// Whether the last poll left out a connection that is ready: the next is not to wait.
+    pub(crate) fn left_out(&self) -> bool
+        ensures { result ≡ self.now.turns.left_out }
     {
-        self.turns.looks_on()
+        self.turns.left_out()
     }
 
-    /// Counts the polls that leave out a ready connection anew, where bytes were carried.
-    pub(crate) fn count_anew(&mut self, carried: bool)
-        ensures { self.new ≡ record self.old { turns = counted_anew carried self.old.turns } }
+    /// Takes note of whether something was carried since the last poll.
+    pub(crate) fn note_carried(&mut self, carried: bool)
+        ensures { self.new ≡ record self.old { turns = after_carrying carried self.old.turns } }
     {
-        self.turns.count_anew(carried);
+        self.turns.note_carried(carried);
     }
 
     /// Takes note of how many bytes a write of a connection is offered, of which bytes may have been read since the

@@ -241,16 +241,16 @@ impl<K: SocketCalls + Drop> Ports for SocketPorts<K> {
             → OnOk result (IsNamed (K.events self.new.sockets) (rested self.old) self.new.readiness) }
         ensures unseen { OnErr result (self.new.readiness ≡ rested self.old) }
         ensures named { IfOk result (λ named. named ≡ self.new.readiness.named) }
-        ensures fair { OnOk result (IsFair self.old.readiness self.new.readiness) }
+        ensures fair { OnOk result (IsFair (rested self.old) self.new.readiness) }
         ensures in_time { AsksInTime (K.calls self.old.sockets) self.old → AsksInTime (K.calls self.new.sockets) self.new }
     {
         let asks = self.is_to_ask();
         let wait = to_wait(
-            self.busy || self.readiness.looks_on(),
+            self.busy || self.readiness.left_out(),
             self.refused,
             self.wait,
         );
-        self.readiness.count_anew(self.busy);
+        self.readiness.note_carried(self.busy);
         self.busy = false;
         self.holding = false;
         self.has_read = [false; CONNECTIONS];

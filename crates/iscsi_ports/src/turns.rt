@@ -2,11 +2,12 @@
 //!
 //! A connection is long from a write on that was offered 65,536 bytes or more, until fewer are offered after bytes of
 //! it were read. Of the long ones that are ready a poll names one, each in its turn: so the answers of one are on their
-//! way before those of the next are made, however many there are.
+//! way before those of the next are made, however many there are. Where nothing came of a poll that left one out, the
+//! next names all.
 
 ghost use Rattle.std.specs.Prelude.{◌≡◌, ◌<◌, ◌&&◌, not, false, ℕ, slice_set, IfSome};
 ghost use Rattle.iscsi_ports.specs.Flags.{flag_of};
-ghost use Rattle.iscsi_ports.specs.Turns.{no_turns, after_offer, counted_anew, looks_on as is_to_look_on, left_out_after, due_from, due_count, turn, TakesTurn};
+ghost use Rattle.iscsi_ports.specs.Turns.{no_turns, after_offer, after_carrying, due_from, due_count, turn, TakesTurn};
 
 use crate::readiness::set_where;
 use connection_numbers::CONNECTIONS;
@@ -14,28 +15,14 @@ use connection_numbers::CONNECTIONS;
 /// A connection whose last write was offered as many bytes is long.
 const LONG: usize = 65_536;
 
-/// The most polls in a row that leave one out that are counted: within as many each is named.
-const MOST_LEFT_OUT: u32 = 64;
-
 /// Which connections are long, and which of them is named next.
 #[derive(Clone, Copy, Debug)]
 pub(crate) struct Turns {
     long: [bool; CONNECTIONS],
     /// From this number on a poll looks for the next one.
     cursor: usize,
-    /// The number of polls in a row that left out one that is ready, since bytes were carried or an event told of more to
-    /// read.
-    left_out: u32,
-}
-
-/// Counts a poll for which this number of long connections were ready, of which it names one.
-fn left_out_after(due: usize, left_out: u32) -> u32
-    ensures { result ≡ left_out_after due left_out }
-{
-    if due <= 1 {
-        return 0;
-    }
-    MOST_LEFT_OUT.min(left_out.saturating_add(1))
+    /// The last poll left out one that is ready, and nothing was carried since.
+    left_out: bool,
 }
 
 impl Turns {
@@ -46,7 +33,7 @@ impl Turns {
         Turns {
             long: [false; CONNECTIONS],
             cursor: 0,
-            left_out: 0,
+            left_out: false,
         }
     }
 
@@ -67,20 +54,18 @@ impl Turns {
         self.long[c] = false;
     }
 
-    /// Counts the polls that leave one out anew, where something says so.
-    pub(crate) fn count_anew(&mut self, says: bool)
-        ensures { self.new ≡ counted_anew says self.old }
+    /// Takes note of whether something was carried since the last poll.
+    pub(crate) fn note_carried(&mut self, carried: bool)
+        ensures { self.new ≡ after_carrying carried self.old }
     {
-        if says {
-            self.left_out = 0;
-        }
+        self.left_out &= !carried;
     }
 
-    /// Whether the next poll is not to wait, since the last one left out a connection that is ready.
-    pub(crate) fn looks_on(&self) -> bool
-        ensures { result ≡ is_to_look_on self.now }
+    /// Whether the last poll left out a connection that is ready.
+    pub(crate) fn left_out(&self) -> bool
+        ensures { result ≡ self.now.left_out }
     {
-        0 < self.left_out && self.left_out < MOST_LEFT_OUT
+        self.left_out
     }
 
     /// Returns the first long connection from this number on that is ready.
@@ -122,13 +107,18 @@ impl Turns {
         count
     }
 
-    /// Takes from those that are ready the long connections whose turn it is not.
+    /// Takes from those that are ready the long connections whose turn it is not. Takes none where nothing came of the
+    /// last poll, which left one out.
     pub(crate) fn take(&mut self, ready: &[bool; CONNECTIONS]) -> [bool; CONNECTIONS]
         ensures { TakesTurn ready.now self.old self.new result }
     {
+        if self.left_out {
+            self.left_out = false;
+            return *ready;
+        }
         let mut named = *ready;
         let due = self.pass_over(&mut named);
-        self.left_out = left_out_after(due, self.left_out);
+        self.left_out = due > 1;
         if due == 0 {
             return named;
         }
