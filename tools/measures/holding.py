@@ -68,8 +68,8 @@ def flight(bench):
             most, later = ([found[name][k] for found in rounds] for k in range(2))
             what = f"READ of {length >> 10} KiB"
             row(what, name, spread(most), spread(later),
-                bench.aims.judged(f"Memory of {name}, {what}, {FLIGHT['window']} on each of {FLIGHT['connections']} connections",
-                                  most, FLIGHT_AIM, "MiB") if name.startswith(OURS) else "")
+                bench.aims.judged(f"Memory of {name}, {what}, 2 in flight on each of 64 connections", most, FLIGHT_AIM, "MiB")
+                if name.startswith(OURS) else "")
 
 
 def headers_of(bench, name):

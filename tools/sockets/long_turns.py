@@ -147,7 +147,7 @@ def lets_nobody_wait_for_more_than_64_turns():
 
 def answers_64_that_read_much_and_little_by_turns():
     content = random.Random(14).randbytes(LENGTH)
-    lengths = [SHORT, 1, BLOCKS, 1, 1, 2 * BLOCKS, SHORT - 1, SHORT, 8, SHORT, 1, BLOCKS]
+    lengths = [SHORT, 1, SHORT, 1, 1, BLOCKS, SHORT - 1, 8, SHORT, 1]
     wanted = [(7 * n, blocks) for n, blocks in enumerate(lengths)]
     with disk_file(content) as (_, units), serving(units=units) as (_, address):
         clients = [logged_in(address, number) for number in range(CONNECTIONS)]
@@ -186,20 +186,20 @@ def writes_on(client, content, start):
     return told
 
 
-def writes_for_8_at_once_among_those_that_read_much():
+def writes_for_4_at_once_among_those_that_read_much():
     chance, own = random.Random(15), 5 * BLOCKS  # blocks that each of them writes
-    content = chance.randbytes(512 * 9 * own)
+    content = chance.randbytes(512 * 5 * own)
     with disk_file(content[:LENGTH] + bytes(len(content) - LENGTH)) as (path, units), \
-            serving(units=units) as (_, address), ThreadPoolExecutor(8) as pool:
-        readers = [logged_in(address, number) for number in range(56)]
-        writers = [logged_in(address, 56 + number) for number in range(8)]
+            serving(units=units) as (_, address), ThreadPoolExecutor(4) as pool:
+        readers = [logged_in(address, number) for number in range(24)]
+        writers = [logged_in(address, 24 + number) for number in range(4)]
         for client in readers:
-            client.sendall(reads(3, 4 * BLOCKS))
+            client.sendall(reads(2, 4 * BLOCKS))
         told = [pool.submit(writes_on, writer, content, (n + 1) * own) for n, writer in enumerate(writers)]
-        for _ in range(3):
+        for _ in range(2):
             for number, client in enumerate(readers):
                 assert answer_of(client) == (content[:LENGTH], 0, b""), number
-        assert [one.result() for one in told] == [[0, 0]] * 8
+        assert [one.result() for one in told] == [[0, 0]] * 4
         found = path.read_bytes()
         assert found[:LENGTH] == content[:LENGTH] and found[LENGTH:512 * own] == bytes(512 * own - LENGTH)
         assert found[512 * own:] == content[512 * own:]
@@ -222,6 +222,6 @@ CHECKS = [
     lets_nobody_wait_for_more_than_64_turns,
     answers_64_that_read_much_and_little_by_turns,
     writes_much_among_those_that_read_much,
-    writes_for_8_at_once_among_those_that_read_much,
+    writes_for_4_at_once_among_those_that_read_much,
     logs_in_one_after_the_other_beside_those_that_read_much,
 ]
