@@ -141,11 +141,13 @@ def tells_how_a_session_ended():
             assert is_answered(client, 1, 0)
             client.sendall(LOGIN)
             assert is_closed(client)
-            assert lines_in(path, 10)[-1] == "session of connection 0 ended: violation"
+            assert lines_in(path, 10)[-1] == (
+                "session of connection 0 ended: violation: Login Request (00000001h), in full feature phase")
         with connect(address) as client:
             client.sendall(READY)
             assert is_closed(client)
-            assert lines_in(path, 12)[-1] == "connection 0 ended without a login: violation"
+            assert lines_in(path, 12)[-1] == (
+                "connection 0 ended without a login: violation: SCSI Command (00000002h), before full feature phase")
 
 
 def tells_by_which_connection_a_session_was_reinstated():

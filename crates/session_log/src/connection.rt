@@ -4,11 +4,12 @@ ghost use Rattle.std.specs.Prelude.{◌≤◌, length};
 
 use crate::answer::{Answer, answer_of};
 use crate::login_names::LoginNames;
-use crate::operation::CDB;
+use crate::login_values::LoginValues;
 use crate::pdu_stream::{Part, PduStream};
 use crate::sense::{SenseFront, Sensed};
-use crate::tasks::{Command, RecentTasks};
-use iscsi_pdu::{HEADER_LENGTH, Header, Opcode, TaskFunction};
+use crate::tasks::RecentTasks;
+use crate::transfer::Ask;
+use iscsi_pdu::{Header, Opcode, TaskFunction};
 use std::net::SocketAddr;
 
 /// How far a connection has come.
@@ -78,19 +79,19 @@ pub(crate) struct Connection {
     pub(crate) isid: [u8; 6],
     /// The last PDU that came is a Login Request.
     is_login: bool,
+    /// The number of Login Requests that were not answered.
+    pub(crate) unanswered_logins: u32,
+    /// The last PDU that was sent is a Login Response.
+    is_login_answer: bool,
+    pub(crate) values: LoginValues,
     /// Something came.
     pub(crate) has_come: bool,
-    requests: PduStream,
+    pub(crate) requests: PduStream,
     answers: PduStream,
-    tasks: RecentTasks,
+    pub(crate) tasks: RecentTasks,
+    /// The last PDU that came, if it is a Data-Out. It broke no rule if another one follows.
+    data_out: Option<Header>,
     sense: SenseFront,
-}
-
-/// Returns the CDB of a SCSI Command by its header.
-fn cdb_of(header: &[u8; HEADER_LENGTH]) -> [u8; CDB] {
-    let mut cdb = [0; CDB];
-    cdb.copy_from_slice(&header[HEADER_LENGTH - CDB..]);
-    cdb
 }
 
 impl Connection {
@@ -103,10 +104,14 @@ impl Connection {
             names: LoginNames::new(),
             isid: [0; 6],
             is_login: false,
+            unanswered_logins: 0,
+            is_login_answer: false,
+            values: LoginValues::new(),
             has_come: false,
             requests: PduStream::new(),
             answers: PduStream::new(),
             tasks: RecentTasks::new(),
+            data_out: None,
             sense: SenseFront::new(),
         }
     }
@@ -136,23 +141,40 @@ impl Connection {
     /// Hears a request's header.
     fn hear_request(&mut self) -> Option<Told> {
         let header = Header::new(*self.requests.header());
+        if let Some(out) = self.data_out.take() {
+            self.tasks.take_data(&out);
+        }
         let opcode = header.opcode();
         self.is_login = opcode == Opcode::Login && self.state == State::LoggingIn;
-        let tag = header.initiator_task_tag();
-        if self.is_login {
-            self.isid = header.isid();
-        } else if opcode == Opcode::ScsiCommand {
-            let lun = header.lun();
-            let cdb = cdb_of(self.requests.header());
-            self.tasks.note(tag, Command { lun, cdb });
-        } else if opcode == Opcode::TaskManagement && self.state == State::LoggedIn {
-            return Some(Told::Asked {
-                function: header.task_function(),
-                lun: header.lun(),
-                tag,
-            });
+        match opcode {
+            Opcode::Login => self.hear_login(&header),
+            Opcode::ScsiCommand => self.tasks.note_command(&header),
+            Opcode::TaskManagement => return self.hear_function(&header),
+            Opcode::DataOut => self.data_out = Some(header),
+            _ => {}
         }
         None
+    }
+
+    /// Hears the header of a Login Request.
+    fn hear_login(&mut self, header: &Header) {
+        self.unanswered_logins = self.unanswered_logins.saturating_add(1);
+        if self.is_login {
+            self.isid = header.isid();
+        }
+    }
+
+    /// Hears the header of a Task Management Function Request.
+    fn hear_function(&mut self, header: &Header) -> Option<Told> {
+        self.tasks.note_function(header);
+        if self.state != State::LoggedIn {
+            return None;
+        }
+        Some(Told::Asked {
+            function: header.task_function(),
+            lun: header.lun(),
+            tag: header.initiator_task_tag(),
+        })
     }
 
     /// Sees the first part of bytes that were sent.
@@ -162,7 +184,7 @@ impl Connection {
         let taken = self.answers.take(piece);
         let told = match taken.part {
             Part::Header => self.see_answer(),
-            Part::Data => self.see_sense(&piece[..taken.count]),
+            Part::Data => self.see_data(&piece[..taken.count]),
             Part::Other => None,
         };
         Heard {
@@ -174,30 +196,60 @@ impl Connection {
     /// Sees an answer's header.
     fn see_answer(&mut self) -> Option<Told> {
         self.sense.end();
+        self.is_login_answer = false;
         match answer_of(self.answers.header()) {
             Answer::LoggedIn { tsih } => {
+                self.see_login();
                 self.state = State::LoggedIn;
-                Some(Told::LoggedIn { tsih })
+                return Some(Told::LoggedIn { tsih });
             }
+            Answer::LoginGoesOn => self.see_login(),
             Answer::Refused { status } => {
                 self.state = State::Refused;
-                Some(Told::Refused { status })
+                return Some(Told::Refused { status });
             }
-            Answer::LoggedOut => {
-                self.state = State::LoggedOut;
-                None
+            Answer::LoggedOut => self.state = State::LoggedOut,
+            Answer::Function { response, tag } => {
+                self.tasks.end(tag);
+                return Some(Told::Answered { response, tag });
             }
-            Answer::Function { response, tag } => Some(Told::Answered { response, tag }),
             Answer::CheckCondition { tag } => {
                 self.sense.begin(self.tasks.command_of(tag));
-                None
+                self.tasks.end(tag);
             }
-            Answer::Other => None,
+            Answer::Ended { tag } => self.tasks.end(tag),
+            Answer::Asked {
+                tag,
+                transfer_tag,
+                offset,
+                length,
+            } => self.see_ask(tag, transfer_tag, offset, length),
+            Answer::Other => {}
         }
+        None
     }
 
-    /// Sees data that was sent: the front of sense data, or what is passed over.
-    fn see_sense(&mut self, data: &[u8]) -> Option<Told> {
+    /// Sees the header of a Login Response without a refusal.
+    fn see_login(&mut self) {
+        self.is_login_answer = true;
+        self.unanswered_logins = self.unanswered_logins.saturating_sub(1);
+    }
+
+    /// Sees an R2T to the command with this tag.
+    fn see_ask(&mut self, tag: u32, transfer_tag: u32, offset: u32, length: u32) {
+        let ask = Ask {
+            tag: transfer_tag,
+            end: offset.saturating_add(length),
+        };
+        self.tasks.ask(tag, ask);
+    }
+
+    /// Sees data that was sent: the text of a login, the front of sense data, or what is passed over.
+    fn see_data(&mut self, data: &[u8]) -> Option<Told> {
+        if self.is_login_answer {
+            self.values.see(data);
+            return None;
+        }
         let sensed = self.sense.see(data)?;
         Some(Told::Sensed(sensed))
     }

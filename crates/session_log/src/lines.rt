@@ -4,6 +4,7 @@ use crate::escape::put_escaped;
 use crate::login_names::LoginNames;
 use crate::operation::put_operation;
 use crate::sense::Sensed;
+use crate::violation::Offence;
 use iscsi_pdu::TaskFunction;
 use std::alloc::{AllocError, Global};
 use std::net::SocketAddr;
@@ -160,6 +161,20 @@ pub(crate) fn ended(
     }
     if let Some(other) = by {
         write!(line, " by connection {other}")?;
+    }
+    Ok(line)
+}
+
+/// A connection ended by a violation of the protocol, with the PDU and the rule as far as they are known.
+pub(crate) fn violated(
+    alloc: Global,
+    c: usize,
+    has_session: bool,
+    offence: Option<Offence>,
+) -> Result<String, AllocError> {
+    let mut line = ended(alloc, c, has_session, "violation", None)?;
+    if let Some(offence) = offence {
+        write!(line, ": {offence}")?;
     }
     Ok(line)
 }

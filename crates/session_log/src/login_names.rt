@@ -1,9 +1,7 @@
 //! Who logs in to what, from the text of Login Requests (RFC 7143 §6.1, §13).
 
+use crate::pairs::{MOST_PAIR, Pairs};
 use arrayvec::ArrayVec;
-
-/// So many bytes of a pair `key=value` are looked at. A name has at most 223 (RFC 7143 §4.2.7.1).
-const MOST_PAIR: usize = 256;
 
 /// A name, as it was sent.
 pub(crate) type Name = ArrayVec<u8, MOST_PAIR>;
@@ -11,8 +9,7 @@ pub(crate) type Name = ArrayVec<u8, MOST_PAIR>;
 /// What a login said so far.
 #[derive(Drop)]
 pub(crate) struct LoginNames {
-    /// The front of the pair that is not whole yet.
-    pair: ArrayVec<u8, MOST_PAIR>,
+    pairs: Pairs,
     pub(crate) initiator: Name,
     pub(crate) target: Name,
     pub(crate) is_discovery: bool,
@@ -34,7 +31,7 @@ impl LoginNames {
     /// Nothing.
     pub(crate) fn new() -> LoginNames {
         LoginNames {
-            pair: ArrayVec::new(),
+            pairs: Pairs::new(),
             initiator: ArrayVec::new(),
             target: ArrayVec::new(),
             is_discovery: false,
@@ -44,18 +41,14 @@ impl LoginNames {
     /// Hears the next bytes of the text: pairs that end with a zero byte.
     pub(crate) fn hear(&mut self, text: &[u8]) {
         for byte in text {
-            if *byte == 0 {
-                self.end_pair();
-            } else {
-                let _ = self.pair.try_push(*byte);
+            if let Some(pair) = self.pairs.take(*byte) {
+                self.take_pair(pair.as_slice());
             }
         }
     }
 
-    /// Takes the value of the pair that has ended, if its key counts.
-    fn end_pair(&mut self) {
-        let pair = self.pair.take();
-        let pair = pair.as_slice();
+    /// Takes the value of a pair, if its key counts.
+    fn take_pair(&mut self, pair: &[u8]) {
         if let Some(value) = value_of(pair, b"InitiatorName=") {
             self.initiator = name_of(value);
         } else if let Some(value) = value_of(pair, b"TargetName=") {

@@ -2,7 +2,7 @@
 
 ghost use Rattle.std.specs.Prelude.{◌≤◌, ◌<◌, length};
 
-use iscsi_pdu::{HEADER_LENGTH, Header};
+use iscsi_pdu::{HEADER_LENGTH, Header, MOST_DATA};
 
 /// What the first bytes of a piece are.
 #[derive(Clone, Copy, Debug, PartialEq, Eq)]
@@ -50,6 +50,16 @@ impl PduStream {
     /// The header that came last.
     pub(crate) fn header(&self) -> &[u8; HEADER_LENGTH] {
         &self.header
+    }
+
+    /// Nothing has come after the last whole PDU.
+    pub(crate) fn is_whole(&self) -> bool {
+        self.come == 0
+    }
+
+    /// The header that came last names more data than a PDU may bear.
+    pub(crate) fn is_long(&self) -> bool {
+        self.come == HEADER_LENGTH && Header::new(self.header).data_length() > MOST_DATA
     }
 
     /// Takes the part that a piece begins with.

@@ -221,6 +221,19 @@ impl<'r, R: Files<File = File> + Clock> SessionLog<'r, R> {
     }
 }
 
+/// The line of a connection that ended by a violation. Where there is no memory for all of it, the PDU is left out.
+fn violation_line(
+    alloc: Global,
+    c: usize,
+    has_session: bool,
+    connection: &Connection,
+) -> Result<String, AllocError> {
+    match lines::violated(alloc, c, has_session, connection.offence()) {
+        Ok(line) => Ok(line),
+        Err(AllocError) => lines::violated(alloc, c, has_session, None),
+    }
+}
+
 /// The unit is among these.
 fn is_noted(failed: &[FailedUnit], target: &[u8], lun: [u8; 8]) -> bool {
     failed
@@ -311,7 +324,7 @@ impl<R: Files<File = File> + Clock> Observer for SessionLog<'_, R> {
             (None, Some(other)) if has_session => {
                 lines::ended(self.alloc, c, true, "reinstated", Some(other))
             }
-            (None, _) => lines::ended(self.alloc, c, has_session, "violation", None),
+            (None, _) => violation_line(self.alloc, c, has_session, &connection),
         };
         self.say(whose, line);
     }
