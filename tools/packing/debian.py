@@ -25,8 +25,8 @@ def number():
 
 def changelog(moment):
     """The changelog of the package: the release, whose changes the changelog of the program tells."""
-    return (f"targetd ({number()}) stable; urgency=medium\n\n  * Release {version()}: changelog.gz beside this file says what is "
-            f"new.\n\n -- {MAINTAINER}  {email.utils.formatdate(moment)}\n").encode("ascii")
+    return (f"targetd ({number()}) stable; urgency=medium\n\n  * Release {version()}: changelog.gz beside this file says what "
+            f"is new.\n\n -- {MAINTAINER}  {email.utils.formatdate(moment)}\n").encode("ascii")
 
 
 def add_files(folder, program, origin, moment):
@@ -61,7 +61,8 @@ def package(program, origin, moment, room, out):
     """Makes the package, with the lines that say what the program was built from. Gives its path."""
     folder, path = room / "debian", out / f"targetd_{number()}_{ARCHITECTURE}.deb"
     add_files(folder, program, origin, moment)
-    data = {"control": control(program, files.size_of(folder)), "conffiles": f"/{CONFFILE}\n".encode(), "md5sums": sums(folder)}
+    data = {"control": control(program, files.size_of(folder)), "conffiles": f"/{CONFFILE}\n".encode("ascii"),
+            "md5sums": sums(folder)}
     for name, content in data.items():
         files.put(folder / "DEBIAN" / name, content)
     for name in SCRIPTS:
@@ -69,8 +70,9 @@ def package(program, origin, moment, room, out):
     files.settle(folder, moment)
     made = room / "package.deb"
     try:
-        ended = subprocess.run(["dpkg-deb", "--root-owner-group", "-Zxz", "-z9", "--threads-max=1", "--build", folder, made],
-                               env={**os.environ, "SOURCE_DATE_EPOCH": str(moment)}, capture_output=True, text=True, check=False)
+        ended = subprocess.run(["dpkg-deb", "--root-owner-group", "-Zxz", "-z9", "--build", folder, made], capture_output=True,
+                               env={**os.environ, "SOURCE_DATE_EPOCH": str(moment), "DPKG_DEB_THREADS_MAX": "1"}, text=True,
+                               check=False)
     except OSError as error:
         raise Unfit(f"dpkg-deb cannot be run: {error.strerror}") from None
     if ended.returncode:
