@@ -70,7 +70,7 @@ def notes_of(told):
     _, said, fault = told
     words = [line.partition(": note: ")[2] for line in fault if ": note: " in line]
     comments = [line.removeprefix("# note: ") for line in said if line.startswith("# note: ")]
-    assert not said or sorted(comments) == sorted(words), (comments, words)
+    assert not said or sorted(comments) == sorted(words) or any("on standard error alone" in line for line in said), words
     return words
 
 
@@ -97,6 +97,18 @@ def carries_over_each_directive_of_tgt_or_notes_it():
             assert ('file = "/srv/d"' in told[1]) == ("left out" not in (wanted or "")), told
             assert wanted or not any(directive.split()[0] in note for note in notes), notes
             is_taken_by_explain_config(top, told)
+
+
+def reads_a_mebibyte_of_anything_in_a_few_seconds():
+    with installed() as top:
+        for line in ("backing-store /srv/{}\n", "<backing-store /srv/{}>\nlun 3\n</backing-store>\n", "vendor_id {}\n",
+                     "include /none/{}\n", "</target>\n<target {}>\nbacking-store /srv/{}\n", "{}\n", "{} \\\n"):
+            lines = [line.format(number, number) for number in range((1 << 20) // len(line.format(7, 7)))]
+            began = time.monotonic()
+            status, said, _ = imported(top, "<target t>\nbacking-store /srv/d\n" + "".join(lines) + "\n</target>\n")
+            assert (status, said.count("[[target]]") > 0) == (0, True), (line, status)
+            assert len("\n".join(said)) < 1 << 20, line  # more is no configuration
+            assert time.monotonic() - began < LIMIT / 2, line
 
 
 def notes_who_may_log_in_and_shows_no_secret():
@@ -279,6 +291,7 @@ def serves_a_disk_by_what_it_prints():
 
 CHECKS = [
     carries_over_each_directive_of_tgt_or_notes_it,
+    reads_a_mebibyte_of_anything_in_a_few_seconds,
     notes_who_may_log_in_and_shows_no_secret,
     numbers_disks_as_tgt_does_and_gives_each_target_a_lun_0,
     follows_includes_and_notes_those_that_it_cannot,

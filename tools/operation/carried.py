@@ -3,11 +3,12 @@
 import hashlib
 from dataclasses import dataclass, field
 
-from operation.configuration import MOST_BLOCKS, MOST_LUN, MOST_NAME, MOST_SERIAL, MOST_TARGETS, MOST_UNITS
+from operation.configuration import MOST_BLOCKS, MOST_BYTES, MOST_LUN, MOST_NAME, MOST_SERIAL, MOST_TARGETS, MOST_UNITS
 
 LOOPBACK, PORT = "127.0.0.1", 3260
 SERVED = "/var/lib/targetd/"  # the folder whose files the systemd units may open
 ESCAPED = {'"': '\\"', "\\": "\\\\"}
+MOST_COMMENTS = 50  # at one place of the configuration
 HEAD = "# By targetd-import. A note says what is not as it was.\n"
 
 
@@ -36,7 +37,9 @@ class Target:
 
 def shown(text):
     """A text as it may stand in one line."""
-    return "".join(letter if letter.isprintable() else letter.encode("unicode_escape").decode("ascii") for letter in str(text))
+    text = str(text)
+    return text if text.isprintable() else "".join(
+        letter if letter.isprintable() else letter.encode("unicode_escape").decode("ascii") for letter in text)
 
 
 def is_text(value):
@@ -179,16 +182,26 @@ class Carried:
         if not self.targets:
             raise NotCarried("no target with a disk is carried over")
         listen = self.listen()
-        lines = [HEAD, *comments(self.notes), f"listen = {quoted(listen)}\n", 'log = "-"\n']
+        for most in (MOST_COMMENTS, 0):
+            document = self.written(listen, most)
+            if len(document.encode("utf-8")) <= MOST_BYTES:
+                return document
+        raise NotCarried(f"the configuration would have more than {MOST_BYTES} bytes")
+
+    def written(self, listen, most):
+        """The configuration, with this number of notes at each place at most."""
+        lines = [HEAD, *comments(self.notes, most), f"listen = {quoted(listen)}\n", 'log = "-"\n']
         for target in self.targets:
-            lines += ["\n", *comments(target.notes), "[[target]]\n", f"name = {quoted(target.name)}\n"]
+            lines += ["\n", *comments(target.notes, most), "[[target]]\n", f"name = {quoted(target.name)}\n"]
             for unit in sorted(target.units, key=lambda one: one.lun):
                 held = f"file = {quoted(unit.file)}\n" if unit.file is not None else f"blocks = {unit.blocks}\n"
-                lines += ["\n", *comments(unit.notes), "[[target.unit]]\n", f"lun = {unit.lun}\n", 'kind = "disk"\n',
+                lines += ["\n", *comments(unit.notes, most), "[[target.unit]]\n", f"lun = {unit.lun}\n", 'kind = "disk"\n',
                           f"serial = {quoted(unit.serial)}\n", held]
         return "".join(lines).rstrip("\n")
 
 
-def comments(notes):
-    """Notes as comments."""
-    return [f"# note: {words}\n" for words in notes]
+def comments(notes, most):
+    """The first of these notes as comments, and how many others there are."""
+    others = len(notes) - most
+    return [*(f"# note: {words}\n" for words in notes[:most]),
+            *([f"# note: {others} more are told on standard error alone\n"] if others > 0 else [])]

@@ -79,16 +79,19 @@ class Reader:
 
     def file(self, path, text):
         """Reads a file, whose blocks are all closed in it."""
-        depth, waiting, in_comment = len(self.open), "", False
+        depth, waiting, in_comment = len(self.open), [], False
         self.seen.add(path)
         self.deep += 1
         for number, line in enumerate(text.split("\n"), 1):
             if in_comment or line.lstrip().startswith("/*"):
                 in_comment = "*/" not in line
                 continue
-            line = waiting + COMMENT.sub("", line).replace("\\#", "#").strip()
-            waiting = line[:-1] if line.endswith("\\") else ""
-            if line and not waiting:
+            line = COMMENT.sub("", line).replace("\\#", "#").strip()
+            waiting.append(line.removesuffix("\\"))
+            if line.endswith("\\"):
+                continue
+            line, waiting = "".join(waiting).strip(), []
+            if line:
                 self.line(line, f"{path}:{number}", depth)
         if len(self.open) > depth:
             last = self.open[-1]
@@ -150,13 +153,14 @@ class Stores:
 
     def __init__(self, carried, target, blocks):
         self.carried, self.target = carried, target
-        self.options = [option for block in blocks for option in block.options]
+        self.common = [option for block in blocks for option in block.options if option[0] in OF_STORES]
+        self.settings = {name: value for name, value, _ in self.common}
         self.found = []  # each store: its kind, path, own directives and place
         for kind in STORES:
             for block in blocks:
                 self.found += [(kind, value, [], where) for name, value, where in block.options if name == kind]
                 self.found += [(kind, one.name, self.inside(one), one.where) for one in block.blocks if one.kind == kind]
-        self.taken = {self.number(own) for _, _, own, _ in self.found}
+        self.taken, self.free = {self.number(own) for _, _, own, _ in self.found}, 1
 
     def inside(self, block):
         """The directives of a store; a block inside it is none of them."""
@@ -167,7 +171,7 @@ class Stores:
 
     def number(self, own):
         """The LUN that a store names, or nothing."""
-        value = next((value for name, value, _ in reversed([*self.options, *own]) if name == "lun"), None)
+        value = {**self.settings, **{name: value for name, value, _ in own}}.get("lun")
         return int(value) if value is not None and re.fullmatch("[0-9]{1,9}", value) else value
 
     def carry(self):
@@ -175,15 +179,21 @@ class Stores:
         for kind, path, own, where in self.found:
             lun = self.number(own)
             if lun is None:
-                lun = next(number for number in range(1, len(self.found) + len(self.taken) + 2) if number not in self.taken)
-                self.taken.add(lun)
+                while self.free in self.taken:
+                    self.free += 1
+                lun, self.free = self.free, self.free + 1
             self.store(kind, path, own, where, lun)
+        self.note(self.common, self.target.notes)
+
+    def note(self, options, notes):
+        """Notes the directives that are not carried over."""
+        for name, value, where in options:
+            if name not in ("lun", "scsi_sn") and name not in LEAVES_OUT and value not in AS_IT_IS.get(name, ()):
+                self.carried.note(where, words_of(name, value), notes)
 
     def store(self, kind, path, own, where, lun):
         """Carries one store over, or notes why it is left out."""
-        named = [name for name, *_ in own]
-        common = [option for option in self.options if option[0] in OF_STORES and option[0] not in named]
-        settings = {name: value for name, value, _ in [*common, *own]}
+        settings = {**self.settings, **{name: value for name, value, _ in own}}
         for name, words in LEAVES_OUT.items():
             if name in settings and settings[name] not in AS_IT_IS[name]:
                 self.carried.note(where, f"the disk {path} is left out: {words.format(settings[name])}", self.target.notes)
@@ -194,9 +204,7 @@ class Stores:
         if kind == "direct-store":
             self.carried.note(where, "the vendor, product and serial of the device (direct-store) are not carried over",
                               unit.notes)
-        for name, value, place in [*common, *own]:
-            if name not in ("lun", "scsi_sn") and value not in AS_IT_IS.get(name, ()):
-                self.carried.note(place, words_of(name, value), unit.notes)
+        self.note(own, unit.notes)
 
 
 def words_of(name, value):
