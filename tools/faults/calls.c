@@ -1,17 +1,24 @@
 /* Makes calls of the C library fail in the program that this is loaded into (LD_PRELOAD).
  *
  *   FAIL_CALL    allocation, input (read of descriptor 0), file (read of another), output (write to 1),
- *                store (a read or write at a place of a file, a sync of it, or a change of its length), accept,
- *                receive (a read of a connection), or send (a write to one)
+ *                store (a read or write at a place of a file, a sync of it, or a change of its length), unit (one of
+ *                these, or a seek to the end of a file), accept, receive (a read of a connection), or send (a write to one)
  *   FAIL_NUMBER  which call of these fails, counted from 1 since the program's own start
+ *   FAIL_TIMES   how many fail from that one on; 1 unless it is set
+ *   FAIL_THEN    errno of the call after these, which fails too, unless it is 0
  *   FAIL_ON      1: all calls behind it fail too
  *   FAIL_ERROR   errno of the failed call; 0: it reads or writes no byte and is no error
+ *   FAIL_PART    the call, a read or write at a place of a file, moves its bytes divided by this, at least one; FAIL_TIMES
+ *                is of those behind it, and 0 unless it is set
  *   FAIL_PIECE   the most bytes that a read of descriptor 0 or a write to descriptor 1 moves, or, where FAIL_CALL is send,
  *                a write to a connection, or, where it is store, a read or a write at a place of a file
  *   FAIL_REPORT  the descriptor that is told `failed` for each call that failed
+ *   FAIL_TRACE   the descriptor that is told each call of the kind unit, in a line: read, write, cut, sync or seek, its
+ *                descriptor, offset and bytes, and what it returned, or its errno below 0
  */
 #include <errno.h>
 #include <stddef.h>
+#include <stdio.h>
 #include <stdlib.h>
 #include <string.h>
 #include <sys/socket.h>
@@ -25,7 +32,7 @@ extern void *__libc_realloc(void *, size_t);
 extern void *__libc_memalign(size_t, size_t);
 
 static const char *which;
-static long number, every_one, error, piece, report, calls;
+static long number, times, then, every_one, error, part, piece, report, trace, calls;
 
 static long setting(const char *name)
 {
@@ -37,11 +44,28 @@ static long setting(const char *name)
 __attribute__((constructor)) static void read_settings(void)
 {
     number = setting("FAIL_NUMBER");
+    times = setting("FAIL_TIMES");
+    then = setting("FAIL_THEN");
     every_one = setting("FAIL_ON");
     error = setting("FAIL_ERROR");
+    part = setting("FAIL_PART");
     piece = setting("FAIL_PIECE");
     report = setting("FAIL_REPORT");
+    trace = setting("FAIL_TRACE");
+    if (!times && !part)
+        times = 1;
     which = getenv("FAIL_CALL");
+}
+
+/* Returns the errno of the call that was counted last, or -1 if it is not to fail. */
+static long error_of_last(void)
+{
+    long first = number + (part != 0);
+    if (!number || calls < first)
+        return -1;
+    if (every_one || calls < first + times)
+        return error;
+    return then && calls == first + times ? then : -1;
 }
 
 /* Counts a call, and says whether it is to fail. */
@@ -50,11 +74,12 @@ static int fails(const char *call)
     if (!which || strcmp(call, which))
         return 0;
     calls++;
-    if (calls != number && !(every_one && calls > number))
+    long found = error_of_last();
+    if (found < 0)
         return 0;
     if (report)
         syscall(SYS_write, report, "failed\n", 7);
-    errno = error;
+    errno = (int)found;
     return 1;
 }
 
@@ -121,9 +146,46 @@ ssize_t __write(int descriptor, const void *bytes, size_t count)
     return write(descriptor, bytes, count);
 }
 
+/* Counts a call on a file, and returns whether it is to fail. */
+static int fails_on_file(void)
+{
+    return fails("store") || fails("unit");
+}
+
+/* Returns what a read or write of a file returns that fails. */
+static ssize_t failed(void)
+{
+    return errno ? -1 : 0;
+}
+
+/* Returns the most bytes that a read or write of a file moves. */
+static size_t at_most_of_file(size_t count)
+{
+    if (!part || calls != number)
+        return at_most_of("store", count);
+    size_t moved = count / (size_t)part;
+    return moved || !count ? moved : 1;
+}
+
+/* Reports a call on a file, and returns what it returned. */
+static ssize_t traced(const char *kind, int descriptor, off_t at, size_t count, ssize_t result)
+{
+    char line[120];
+    int kept = errno;
+    if (trace) {
+        int length = snprintf(line, sizeof line, "%s %d %lld %zu %lld\n", kind, descriptor, (long long)at, count,
+                              result < 0 ? -(long long)kept : (long long)result);
+        syscall(SYS_write, trace, line, (size_t)length);
+    }
+    errno = kept;
+    return result;
+}
+
 ssize_t pread64(int descriptor, void *out, size_t count, off_t at)
 {
-    return fails("store") ? -1 : syscall(SYS_pread64, descriptor, out, at_most_of("store", count), at);
+    ssize_t moved = fails_on_file() ? failed()
+                                    : syscall(SYS_pread64, descriptor, out, at_most_of_file(count), at);
+    return traced("read", descriptor, at, count, moved);
 }
 
 ssize_t pread(int descriptor, void *out, size_t count, off_t at)
@@ -133,7 +195,9 @@ ssize_t pread(int descriptor, void *out, size_t count, off_t at)
 
 ssize_t pwrite64(int descriptor, const void *bytes, size_t count, off_t at)
 {
-    return fails("store") ? -1 : syscall(SYS_pwrite64, descriptor, bytes, at_most_of("store", count), at);
+    ssize_t moved = fails_on_file() ? failed()
+                                    : syscall(SYS_pwrite64, descriptor, bytes, at_most_of_file(count), at);
+    return traced("write", descriptor, at, count, moved);
 }
 
 ssize_t pwrite(int descriptor, const void *bytes, size_t count, off_t at)
@@ -143,22 +207,34 @@ ssize_t pwrite(int descriptor, const void *bytes, size_t count, off_t at)
 
 int fsync(int descriptor)
 {
-    return fails("store") ? -1 : (int)syscall(SYS_fsync, descriptor);
+    return (int)traced("sync", descriptor, 0, 0, fails_on_file() ? -1 : syscall(SYS_fsync, descriptor));
 }
 
 int fdatasync(int descriptor)
 {
-    return fails("store") ? -1 : (int)syscall(SYS_fdatasync, descriptor);
+    return (int)traced("sync", descriptor, 0, 0, fails_on_file() ? -1 : syscall(SYS_fdatasync, descriptor));
 }
 
 int ftruncate64(int descriptor, off_t length)
 {
-    return fails("store") ? -1 : (int)syscall(SYS_ftruncate, descriptor, length);
+    return (int)traced("cut", descriptor, length, 0, fails_on_file() ? -1 : syscall(SYS_ftruncate, descriptor, length));
 }
 
 int ftruncate(int descriptor, off_t length)
 {
     return ftruncate64(descriptor, length);
+}
+
+off_t lseek64(int descriptor, off_t offset, int from)
+{
+    if (from != SEEK_END)
+        return syscall(SYS_lseek, descriptor, offset, from);
+    return traced("seek", descriptor, offset, 0, fails("unit") ? -1 : syscall(SYS_lseek, descriptor, offset, from));
+}
+
+off_t lseek(int descriptor, off_t offset, int from)
+{
+    return lseek64(descriptor, offset, from);
 }
 
 ssize_t recv(int connection, void *out, size_t count, int flags)
