@@ -191,9 +191,51 @@ impl<S: Store> Disk<S> {
         // No larger buffer is filled than a few blocks need.
         match count {
             0..=1 => self.compare_in(first, count, data, &mut [0; BLOCK_LENGTH]),
-            2..=PART => self.compare_in(first, count, data, &mut [0; PART_LENGTH]),
-            _ => self.compare_in(first, count, data, &mut [0; LONG_PART_LENGTH]),
+            2..=PART => self.compare_few(first, count, data),
+            _ => self.compare_many(first, count, data),
         }
+    }
+
+    /// Compares a few blocks. It stays a call, since its buffer would lie on the stack of every command.
+    #[inline(never)]
+    fn compare_few(
+        &mut self,
+        first: u64,
+        count: u64,
+        data: &Data,
+    ) -> Result<Option<usize>, StoreFault>
+        requires range { first + count ≤ length self.old.blocks }
+        requires enough { block_length * count ≤ length «data».now }
+        ensures compared { IfOk result (λ at. IsTrue self.new.honest
+            → at ≡ first_difference (data_of self.old.blocks first count) (take (block_length * count) «data».now)) }
+        ensures within { IfOk result (λ at. IfSome at (λ n. n < block_length * count)) }
+        ensures none { count ≡ 0 → IsOk result }
+        ensures back { IsTrue self.new.honest → IsTrue self.old.honest }
+        ensures disk { self.new ≡ record self.old { failures = counted result self.old.failures; honest = self.new.honest } }
+        ensures succeeds { IsTrue self.old.steady → IsTrue self.old.honest → IsOk result × (self.new ≡ self.old) }
+    {
+        self.compare_in(first, count, data, &mut [0; PART_LENGTH])
+    }
+
+    /// Compares many blocks. It stays a call, as [`Disk::compare_few`] does.
+    #[inline(never)]
+    fn compare_many(
+        &mut self,
+        first: u64,
+        count: u64,
+        data: &Data,
+    ) -> Result<Option<usize>, StoreFault>
+        requires range { first + count ≤ length self.old.blocks }
+        requires enough { block_length * count ≤ length «data».now }
+        ensures compared { IfOk result (λ at. IsTrue self.new.honest
+            → at ≡ first_difference (data_of self.old.blocks first count) (take (block_length * count) «data».now)) }
+        ensures within { IfOk result (λ at. IfSome at (λ n. n < block_length * count)) }
+        ensures none { count ≡ 0 → IsOk result }
+        ensures back { IsTrue self.new.honest → IsTrue self.old.honest }
+        ensures disk { self.new ≡ record self.old { failures = counted result self.old.failures; honest = self.new.honest } }
+        ensures succeeds { IsTrue self.old.steady → IsTrue self.old.honest → IsOk result × (self.new ≡ self.old) }
+    {
+        self.compare_in(first, count, data, &mut [0; LONG_PART_LENGTH])
     }
 
     /// Compares blocks, which are read into a buffer, with the first bytes of the data.
