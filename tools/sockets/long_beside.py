@@ -25,7 +25,7 @@ WAIT = 30  # seconds that an answer may take: that is far more than it does
 FLOODED = 3  # seconds for which others connect and close at least
 FLOODS = 2  # processes that do
 MANY = 20  # READs of a client: if of 1 MiB, the system does not take all their answers while nobody reads them
-SLOWLY = 50000  # bytes that are read each by a call of its own
+SLOWLY = 2000  # bytes that are read each by a call of its own: within the 60 seconds after which a peer counts as gone
 
 
 def header_of(client):
@@ -209,12 +209,23 @@ def goes_on_when_those_that_read_much_end_in_the_middle_of_their_data():
                     stream = Stream(client, read(client, count))
                     end(client)
                     if end == half_close:
-                        for number in range(4):
-                            assert answer_of(stream) == (content, 0, b""), (count, number)
+                        assert is_front(read(stream, 5 * LENGTH), content), count
                         assert is_closed(client), count
                         client.close()
         assert has_at_last(process, alone)
         assert all(count > 0 and told == 0 for count, told in done), done
+
+
+def is_front(answers, content):
+    """These are the first bytes of the answers to READs of this content, each of which stands in its place."""
+    at = 0
+    while at + pdu.HEADER <= len(answers):
+        header = answers[at:at + pdu.HEADER]
+        length, offset = int.from_bytes(header[5:8], "big"), int.from_bytes(header[40:44], "big")
+        data, at = answers[at + pdu.HEADER:at + pdu.HEADER + length], at + pdu.HEADER + length
+        if header[0] == 0x25 and data != content[offset:offset + len(data)]:
+            return False
+    return True
 
 
 def has_at_last(process, descriptors):
