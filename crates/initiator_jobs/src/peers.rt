@@ -7,8 +7,8 @@ ghost use Rattle.iscsi_ports.specs.Results.{carried_by, count_of, poll_entry, ac
 use crate::fault::Fault;
 use crate::outcome::Outcome;
 use crate::peer::Peer;
-use connection_numbers::CONNECTIONS;
 use iscsi_ports::{Accepted, IoResult, Named, PortFault, Ports};
+use target_limits::CONNECTIONS;
 
 /// Initiators, each of which connects as soon as it can. They keep no log.
 #[derive(Drop)]

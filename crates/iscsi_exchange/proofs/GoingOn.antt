@@ -8,7 +8,7 @@ use Rattle.iscsi_pdu.specs.DataOut.{target_transfer_tag}
 use Rattle.iscsi_pdu.specs.LoginRequest.{is_continued}
 use Rattle.iscsi_pdu.specs.declared.text_response.TextStep.TheVariants.{Continued, GoesOn}
 use Rattle.iscsi_text.specs.Pairs.{longest_text}
-use Rattle.iscsi_login.specs.declared.params.Params.{Params}
+use Rattle.iscsi_login.specs.declared.session_params.SessionParams.{SessionParams}
 use Rattle.iscsi_exchange.specs.ExchangeState.{ExchangeState, open_with}
 use Rattle.iscsi_exchange.specs.Exchange.{begins, is_of_exchange, tells, piece_limit, sends, keeps, hears_in, hears, text_on}
 
@@ -39,12 +39,12 @@ begins_none exchange request of =
     rw tag refl
 
 -- a piece of a text is kept
-pub record IsKept (exchange : ExchangeState) (request : Frame) (params : Params) : Type 0 where
+pub record IsKept (exchange : ExchangeState) (request : Frame) (params : SessionParams) : Type 0 where
   pub is_open : exchange.is_open ≡ true
   pub text : text_on exchange request params ≡ Some 0
   pub hears : hears exchange request params ≡ tells (open_with (exchange.kept ++ request.body) []) GoesOn []
 
-pub kept_on : (exchange : ExchangeState) (request : Frame) (params : Params) → is_some (text_on exchange request params) ≡ true
+pub kept_on : (exchange : ExchangeState) (request : Frame) (params : SessionParams) → is_some (text_on exchange request params) ≡ true
     → ltb 0 (length exchange.due) ≡ false → IsKept exchange request params
 unfolding text_on hears hears_in keeps
 kept_on exchange request params some none =
@@ -58,13 +58,13 @@ kept_on exchange request params some none =
     }
 
 -- the next piece of an answer is sent
-pub record IsSent (exchange : ExchangeState) (request : Frame) (params : Params) : Type 0 where
+pub record IsSent (exchange : ExchangeState) (request : Frame) (params : SessionParams) : Type 0 where
   pub is_open : exchange.is_open ≡ true
   pub more : piece_limit params < length exchange.due
   pub text : text_on exchange request params ≡ Some (piece_limit params)
   pub hears : hears exchange request params ≡ tells (open_with [] (drop (piece_limit params) exchange.due)) Continued (take (piece_limit params) exchange.due)
 
-pub sent_on : (exchange : ExchangeState) (request : Frame) (params : Params) → is_some (text_on exchange request params) ≡ true
+pub sent_on : (exchange : ExchangeState) (request : Frame) (params : SessionParams) → is_some (text_on exchange request params) ≡ true
     → ltb 0 (length exchange.due) ≡ true → IsSent exchange request params
 unfolding text_on hears hears_in sends
 sent_on exchange request params some due =
@@ -79,14 +79,14 @@ sent_on exchange request params some due =
 
 -- ---- what is told
 
-pub kept_told : (before now : ExchangeState) (request : Frame) (params : Params) (text : List ℕ) → IsKept before request params
+pub kept_told : (before now : ExchangeState) (request : Frame) (params : SessionParams) (text : List ℕ) → IsKept before request params
     → now.is_open ≡ before.is_open → now.kept ≡ before.kept ++ request.body → now.due ≡ [] → text ≡ []
     → record { exchange = now; piece = Some (record { step = GoesOn; text = text }) } ≡ hears before request params
 kept_told before now request params text is is_open kept due none =
     ap (λ (s : ExchangeState). tells s GoesOn text) (rw (is_open, kept, due, is.is_open) refl)
     ∙ ap (tells (open_with (before.kept ++ request.body) []) GoesOn) none ∙ sym is.hears
 
-pub sent_told : (before now : ExchangeState) (request : Frame) (params : Params) (text : List ℕ) → IsSent before request params
+pub sent_told : (before now : ExchangeState) (request : Frame) (params : SessionParams) (text : List ℕ) → IsSent before request params
     → now.is_open ≡ before.is_open → now.kept ≡ [] → now.due ≡ drop (piece_limit params) before.due → text ≡ take (piece_limit params) before.due
     → record { exchange = now; piece = Some (record { step = Continued; text = text }) } ≡ hears before request params
 sent_told before now request params text is is_open kept due piece =

@@ -6,12 +6,12 @@ use Rattle.iscsi_pdu.specs.Frames.{Frame}
 use Rattle.iscsi_pdu.specs.LoginRequest.{is_continued}
 use Rattle.iscsi_text.specs.Pairs.{Pair, text_pairs, text_of, longest_text}
 use Rattle.iscsi_text.specs.declared.fault.TextFault.{TextFault}
-use Rattle.iscsi_login.specs.declared.params.Params.{Params}
+use Rattle.iscsi_login.specs.declared.session_params.SessionParams.{SessionParams}
 use Rattle.iscsi_exchange.specs.ExchangeState.{ExchangeState}
 use Rattle.iscsi_exchange.specs.Exchange.{IsShort, ToldState, begins, is_of_exchange, rejects, is_final, exchange_of, piece_limit, sends, keeps, answers_to, hears_in, hears}
 use Rattle.iscsi_exchange.specs.SendTargets.{pairs_answer}
 
-sends_short : (params : Params) (request : Frame) (text : List ℕ) → IsShort (sends params request text).piece
+sends_short : (params : SessionParams) (request : Frame) (text : List ℕ) → IsShort (sends params request text).piece
 unfolding sends
 sends_short params request text = by_length (ltb (piece_limit params) (length text)) refl
   where
@@ -31,7 +31,7 @@ keeps_short text = by_length (ltb longest_text (length text)) refl
     by_length true e = rw e tt
     by_length false e = rw e (omega arith)
 
-told_short : (params : Params) (request : Frame) (pairs : Result (List Pair) TextFault) → IsShort (answers_to params request pairs).piece
+told_short : (params : SessionParams) (request : Frame) (pairs : Result (List Pair) TextFault) → IsShort (answers_to params request pairs).piece
 told_short params request (Ok pairs) = sends_short params request (text_of (pairs_answer params pairs))
 told_short params request (Err fault) = tt
 
@@ -39,7 +39,7 @@ short_by : (b : Bool) (x y : ToldState) → IsShort x.piece → IsShort y.piece 
 short_by true x y a b = a
 short_by false x y a b = b
 
-heard_short : (exchange : ExchangeState) (request : Frame) (params : Params) → IsShort (hears_in exchange request params).piece
+heard_short : (exchange : ExchangeState) (request : Frame) (params : SessionParams) → IsShort (hears_in exchange request params).piece
 unfolding hears_in
 heard_short exchange request params =
     short_by (ltb 0 (length exchange.due)) _ _
@@ -47,7 +47,7 @@ heard_short exchange request params =
     (short_by (is_continued request.header) _ _ (keeps_short (exchange.kept ++ request.body))
     (told_short params request (text_pairs (exchange.kept ++ request.body))))
 
-pub hears_short : (exchange : ExchangeState) (request : Frame) (params : Params) → IsShort (hears exchange request params).piece
+pub hears_short : (exchange : ExchangeState) (request : Frame) (params : SessionParams) → IsShort (hears exchange request params).piece
 unfolding hears
 hears_short exchange request params =
     short_by (begins request || is_of_exchange exchange request) (hears_in (exchange_of exchange request) request params) rejects

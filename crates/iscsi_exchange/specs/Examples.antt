@@ -8,7 +8,7 @@ use Rattle.iscsi_login.specs.ExamplesKeys.{computed as keys_computed}
 use Rattle.iscsi_login.specs.ExamplesLogin.{pair}
 use Rattle.iscsi_login.specs.Values.{default_values}
 use Rattle.iscsi_login.specs.Session.{target_named}
-use Rattle.iscsi_login.specs.declared.params.Params.{Params}
+use Rattle.iscsi_login.specs.declared.session_params.SessionParams.{SessionParams}
 use Rattle.iscsi_exchange.specs.SendTargets.{told_of, send_targets, pair_answer, pairs_answer}
 use Rattle.iscsi_exchange.specs.ExchangeState.{ExchangeState, no_exchange, open_with}
 use Rattle.iscsi_exchange.specs.Exchange.{ToldState, rejects, tells, sends, keeps, hears_in, hears}
@@ -21,7 +21,7 @@ computed = true
 
 -- a session of `a` with these targets at 127.0.0.1:3260, which takes 512 bytes in one PDU; a discovery session, or one
 -- with target 0
-abbrev params : Option ℕ → List (List ℕ) → Params
+abbrev params : Option ℕ → List (List ℕ) → SessionParams
 params target names = record {
   nexus = record { initiator_name = codes "a"; isid = replicate 6 0 };
   target = target;

@@ -9,7 +9,7 @@ use Rattle.iscsi_pdu.specs.declared.text_response.TextStep.{TextStep}
 use Rattle.iscsi_pdu.specs.declared.text_response.TextStep.TheVariants.{Continued, GoesOn, Ends}
 use Rattle.iscsi_text.specs.Pairs.{Pair, text_pairs, text_of, longest_text}
 use Rattle.iscsi_text.specs.declared.fault.TextFault.{TextFault}
-use Rattle.iscsi_login.specs.declared.params.Params.{Params}
+use Rattle.iscsi_login.specs.declared.session_params.SessionParams.{SessionParams}
 use Rattle.iscsi_exchange.specs.SendTargets.{pairs_answer}
 use Rattle.iscsi_exchange.specs.ExchangeState.{ExchangeState, no_exchange, open_with}
 
@@ -47,11 +47,11 @@ abbrev pub tells : ExchangeState → TextStep → List ℕ → ToldState
 tells exchange step text = record { exchange = exchange; piece = Some (record { step = step; text = text }) }
 
 -- RFC 7143 §13.12: what the initiator takes in one PDU, and no more than a PDU of this target has
-abbrev pub piece_limit : Params → ℕ
+abbrev pub piece_limit : SessionParams → ℕ
 piece_limit params = min params.values.max_recv_data_segment_length most_data
 
 -- RFC 7143 §6.2: of a long answer the next piece is sent; the exchange ends with the last one if the request has F
-unfoldable pub sends : Params → Frame → List ℕ → ToldState
+unfoldable pub sends : SessionParams → Frame → List ℕ → ToldState
 sends params request text =
     if nat_lt (piece_limit params) (length text) then tells (open_with [] (drop (piece_limit params) text)) Continued (take (piece_limit params) text)
     else if is_final request then tells no_exchange Ends text
@@ -62,12 +62,12 @@ unfoldable pub keeps : List ℕ → ToldState
 keeps text = if nat_lt longest_text (length text) then rejects else tells (open_with text []) GoesOn []
 
 -- a whole text is answered pair by pair, or rejected if it is malformed
-abbrev pub answers_to : Params → Frame → Result (List Pair) TextFault → ToldState
+abbrev pub answers_to : SessionParams → Frame → Result (List Pair) TextFault → ToldState
 answers_to params request (Ok pairs) = sends params request (text_of (pairs_answer params pairs))
 answers_to params request (Err fault) = rejects
 
 -- RFC 7143 §11.10.2: C takes precedence over F; text that comes while a piece is due is rejected
-unfoldable pub hears_in : ExchangeState → Frame → Params → ToldState
+unfoldable pub hears_in : ExchangeState → Frame → SessionParams → ToldState
 hears_in exchange request params =
     if nat_lt 0 (length exchange.due) then (if length request.body == 0 then sends params request exchange.due else rejects)
     else if is_continued request.header then keeps (exchange.kept ++ request.body)
@@ -79,13 +79,13 @@ IsShort None = ⊤
 IsShort (Some piece) = length piece.text ≤ most_data
 
 -- The answer to a Text Request, if this is remembered of its exchange.
-unfoldable pub hears : ExchangeState → Frame → Params → ToldState
+unfoldable pub hears : ExchangeState → Frame → SessionParams → ToldState
 hears exchange request params =
     if begins request || is_of_exchange exchange request then hears_in (exchange_of exchange request) request params else rejects
 
 -- own: the length of the text that answers a request which only continues its exchange. Such a request brings a piece
 -- of a text that is kept, or asks for a piece of an answer after which more is due.
-unfoldable pub text_on : ExchangeState → Frame → Params → Option ℕ
+unfoldable pub text_on : ExchangeState → Frame → SessionParams → Option ℕ
 text_on exchange request params =
     if not (is_of_exchange exchange request) then None
     else if nat_lt 0 (length exchange.due) then (

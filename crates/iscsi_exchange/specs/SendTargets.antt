@@ -4,7 +4,7 @@ use Rattle.iscsi_text.specs.Pairs.{Pair}
 use Rattle.iscsi_login.specs.Keys.{is_known, is_passed_over}
 use Rattle.iscsi_login.specs.Directory.{KnownTargets}
 use Rattle.iscsi_login.specs.Session.{target_named}
-use Rattle.iscsi_login.specs.declared.params.Params.{Params}
+use Rattle.iscsi_login.specs.declared.session_params.SessionParams.{SessionParams}
 
 -- RFC 7143 §13.4, §13.8: a target's name, and where it is: the portal, with the tag of its group, which is 1
 abbrev pub target_pairs : List ℕ → List ℕ → List Pair
@@ -40,7 +40,7 @@ normal_answer directory value =
     if length value == 0 || is_some (target_named directory.names value) then told_of directory None else refused (codes "SendTargets")
 
 -- RFC 7143 §13.3: by the kind of the session
-unfoldable pub send_targets : Params → List ℕ → List Pair
+unfoldable pub send_targets : SessionParams → List ℕ → List Pair
 send_targets params value = if is_none params.target then discovery_answer params.directory value else normal_answer params.directory value
 
 -- RFC 7143 §6.2: a known key is rejected, since it is not for full feature phase (own), and any other is not understood
@@ -48,12 +48,12 @@ abbrev pub other_answer : List ℕ → List Pair
 other_answer key = (key, if is_known key then codes "Reject" else codes "NotUnderstood") ∷ []
 
 -- own: a value that is itself an answer is passed over, except for a key that names
-unfoldable pub pair_answer : Params → Pair → List Pair
+unfoldable pub pair_answer : SessionParams → Pair → List Pair
 pair_answer params pair =
     if is_passed_over pair.0 pair.1 then []
     else if bytes_eq pair.0 (codes "SendTargets") then send_targets params pair.1
     else other_answer pair.0
 
 -- in the order of the text
-abbrev pub pairs_answer : Params → List Pair → List Pair
+abbrev pub pairs_answer : SessionParams → List Pair → List Pair
 pairs_answer params pairs = flat_map (pair_answer params) pairs

@@ -8,12 +8,12 @@ ghost use Rattle.iscsi_text.specs.Pairs.{text_pairs};
 
 use crate::send_targets::answer_text;
 use crate::told::{Piece, Told};
-use iscsi_login::Params;
+use iscsi_login::SessionParams;
 use iscsi_pdu::{EXCHANGE_TAG, Frame, MOST_DATA, NO_EXCHANGE_TAG, TextStep};
 use iscsi_text::{TextFault, pairs};
-use out_of_memory::Memory;
 use std::alloc::Global;
 use std::marker::Model;
+use target_limits::Memory;
 
 /// The longest text that is kept, in bytes.
 const LONGEST_TEXT: usize = 65536;
@@ -44,7 +44,7 @@ impl Model for Exchange {
 
 /// Returns the most text that one answer carries, in bytes: what the initiator takes (RFC 7143 §13.12), and no more
 /// than a PDU of this target has.
-fn piece_limit(params: &Params) -> usize
+fn piece_limit(params: &SessionParams) -> usize
     ensures value { result ≡ limit_of params.now }
     ensures bound { result ≤ most_data }
 {
@@ -75,7 +75,7 @@ impl Exchange {
     /// Returns the answer to a Text Request in a session with these parameters, and the exchange after it. The only
     /// error is out of memory.
     #[tactic(auto, unfolding(crate::specs::Exchange::hears))]
-    pub fn hear(&self, request: &Frame, params: &Params) -> Result<Told, Memory>
+    pub fn hear(&self, request: &Frame, params: &SessionParams) -> Result<Told, Memory>
         ensures told { IfOk result (λ told. told ≡ hears self.now request.now params.now) }
         ensures short { IfOk result (λ told. IsShort told.piece) }
     {
@@ -91,7 +91,7 @@ impl Exchange {
 
     /// Returns the answer to a request of this exchange, and the exchange after it.
     #[tactic(auto, unfolding(crate::specs::Exchange::hears_in))]
-    fn hear_in(&self, request: &Frame, params: &Params) -> Result<Told, Memory>
+    fn hear_in(&self, request: &Frame, params: &SessionParams) -> Result<Told, Memory>
         ensures told { IfOk result (λ told. told ≡ hears_in self.now request.now params.now) }
         ensures short { IfOk result (λ told. IsShort told.piece) }
     {
@@ -118,7 +118,7 @@ impl Exchange {
     /// [`Exchange::go_on`] can answer it. It is 0 for a piece of a text that continues. For an answer that is longer,
     /// it is what the initiator takes in one PDU. Returns `None` for any other request.
     #[tactic(auto, unfolding(crate::specs::Exchange::text_on))]
-    pub fn text_on(&self, request: &Frame, params: &Params) -> Option<usize>
+    pub fn text_on(&self, request: &Frame, params: &SessionParams) -> Option<usize>
         ensures text { result ≡ text_on self.now request.now params.now }
         ensures short { IfSome result (λ length. length ≤ most_data) }
     {
@@ -137,7 +137,11 @@ impl Exchange {
 
     /// Answers a request for which [`Exchange::text_on`] returns a length, like [`Exchange::hear`]. The exchange is
     /// changed in place, without a copy. The only error is out of memory, and then nothing changes.
-    pub fn go_on(&mut self, request: &Frame, params: &Params) -> Result<Option<Piece>, Memory>
+    pub fn go_on(
+        &mut self,
+        request: &Frame,
+        params: &SessionParams,
+    ) -> Result<Option<Piece>, Memory>
         requires { is_some (text_on self.old request.now params.now) ≡ true }
         ensures told { IfOk result (λ piece. record { exchange = self.new; piece = piece } ≡ hears self.old request.now params.now) }
         ensures text { IfOk result (λ piece. IsLongAs (text_on self.old request.now params.now) piece) }
@@ -210,7 +214,12 @@ fn keep(alloc: Global, text: Vec<u8>) -> Told
 }
 
 /// Answers a whole text, or rejects it if it is malformed.
-fn answer(alloc: Global, params: &Params, request: &Frame, text: &[u8]) -> Result<Told, Memory>
+fn answer(
+    alloc: Global,
+    params: &SessionParams,
+    request: &Frame,
+    text: &[u8],
+) -> Result<Told, Memory>
     ensures told { IfOk result (λ told. told ≡ answers_to params.now request.now (text_pairs text.now)) }
     ensures short { IfOk result (λ told. IsShort told.piece) }
 {
@@ -255,7 +264,7 @@ fn ended(alloc: Global, text: Vec<u8>) -> Told
 
 /// Returns the next piece of an answer, and the exchange after it.
 #[tactic(auto, unfolding(crate::specs::Exchange::sends))]
-fn send(alloc: Global, params: &Params, request: &Frame, text: &[u8]) -> Result<Told, Memory>
+fn send(alloc: Global, params: &SessionParams, request: &Frame, text: &[u8]) -> Result<Told, Memory>
     ensures told { IfOk result (λ told. told ≡ sends params.now request.now text.now) }
     ensures short { IfOk result (λ told. IsShort told.piece) }
 {

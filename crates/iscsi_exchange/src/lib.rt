@@ -21,5 +21,5 @@ mod send_targets;
 mod told;
 
 pub use exchange::Exchange;
-pub use out_of_memory::Memory;
+pub use target_limits::Memory;
 pub use told::{Piece, Told};

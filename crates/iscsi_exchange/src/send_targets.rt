@@ -4,10 +4,10 @@ ghost use Rattle.std.specs.Prelude.{◌≡◌, ◌<◌, ◌++◌, ◌∷◌, [],
 ghost use Rattle.iscsi_text.specs.Pairs.{text_of};
 ghost use Rattle.iscsi_exchange.specs.SendTargets.{target_pairs, asked_pairs, told_of, discovery_answer, normal_answer, send_targets as targets_sent, pair_answer, pairs_answer};
 
-use iscsi_login::{Directory, Params, is_known, is_passed_over, position};
+use iscsi_login::{Directory, SessionParams, is_known, is_passed_over, position};
 use iscsi_text::{Pairs, put_pair};
-use out_of_memory::Memory;
 use std::alloc::Global;
+use target_limits::Memory;
 
 /// Appends a pair to the text of an answer.
 fn put(answer: &mut Vec<u8>, key: &str, value: &str) -> Result<(), Memory>
@@ -138,7 +138,7 @@ fn put_own(
 fn put_send_targets(
     alloc: Global,
     answer: &mut Vec<u8>,
-    params: &Params,
+    params: &SessionParams,
     value: &str,
 ) -> Result<(), Memory>
     ensures { OnOk result (answer.new.items ≡ answer.old.items ++ text_of (targets_sent params.now value.now)) }
@@ -154,7 +154,7 @@ fn put_send_targets(
 fn put_answer(
     alloc: Global,
     answer: &mut Vec<u8>,
-    params: &Params,
+    params: &SessionParams,
     key: &str,
     value: &str,
 ) -> Result<(), Memory>
@@ -173,7 +173,11 @@ fn put_answer(
 }
 
 /// Returns the text that answers the pairs of a text, in their order.
-pub(crate) fn answer_text(alloc: Global, params: &Params, said: &Pairs) -> Result<Vec<u8>, Memory>
+pub(crate) fn answer_text(
+    alloc: Global,
+    params: &SessionParams,
+    said: &Pairs,
+) -> Result<Vec<u8>, Memory>
     ensures { IfOk result (λ text. text.items ≡ text_of (pairs_answer params.now said.now)) }
 {
     let mut answer = Vec::new(alloc);

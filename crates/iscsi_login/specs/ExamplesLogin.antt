@@ -19,7 +19,7 @@ use Rattle.iscsi_login.specs.Values.{default_values, with_result, with_pair}
 use Rattle.iscsi_login.specs.LoginState.{LoginState}
 use Rattle.iscsi_login.specs.Rules.{said, session_type, is_normal, is_discovery, is_segment_refused, pairs_with, target_asked, told_of, asked_for, first_refusal, text_refusal, is_other_session, interrupts, is_too_long, request_refusal, refusal_of}
 use Rattle.iscsi_login.specs.Login.{answer_pairs, heard, advanced, remembered, login_stamp, login_response, params_of, reply_to, reply_of}
-use Rattle.iscsi_login.specs.declared.params.Params.{Params}
+use Rattle.iscsi_login.specs.declared.session_params.SessionParams.{SessionParams}
 use Rattle.iscsi_login.specs.declared.reply.Reply.{Reply}
 use Rattle.iscsi_login.specs.declared.reply.Reply.TheVariants.{GoOn, Full, Refused}
 use Rattle.iscsi_login.specs.declared.values.Values.{Values}
@@ -81,7 +81,7 @@ one_target = record { directory = record { names = codes "t1" ∷ []; portal = c
 pub data Seen : Type 0 where
   Text : (stage : Stage) (step : LoginStep) (tsih : ℕ) (numbers : List ℕ) (text : List ℕ) → Seen
   Why : (refusal : LoginRefusal) (tsih : ℕ) (numbers : List ℕ) → Seen
-  Begun : (seen : Seen) (params : Params) → Seen
+  Begun : (seen : Seen) (params : SessionParams) → Seen
 
 abbrev seen_reply : ℕ → List ℕ → LoginReply → Seen
 seen_reply tsih numbers (replies.Accepted accepted) = Text accepted.stage accepted.step tsih numbers accepted.text
@@ -109,7 +109,7 @@ abbrev error : Seen
 error = refused_by refusals.InitiatorError 0
 
 -- the parameters of full feature phase for `a` on `t1`
-abbrev begun : (count : ℕ) → Values → Params
+abbrev begun : (count : ℕ) → Values → SessionParams
 begun count values = record {
   nexus = record { initiator_name = codes "a"; isid = 0x80 ∷ 0 ∷ 0 ∷ 0 ∷ 0 ∷ 1 ∷ [] };
   target = Some 0;
@@ -286,7 +286,7 @@ unfolding computed
 name_again = refl
 
 -- a TSIH that is not 0
-abbrev joining : Option Params → Seen
+abbrev joining : Option SessionParams → Seen
 joining named = last_reply (record one_target { named = named }) [] (record { header = header_of operational_to_full 0 3 9; body = names })
 
 no_session : joining None ≡ Why refusals.SessionDoesNotExist 3 (0 ∷ 9 ∷ 40 ∷ [])

@@ -23,10 +23,10 @@ use Rattle.iscsi_login.specs.Lookup.{Lookup}
 use Rattle.iscsi_login.specs.Directory.{KnownTargets}
 use Rattle.iscsi_login.specs.LoginState.{LoginState, IsTargetBelow, AsksBelow, new_login}
 use Rattle.iscsi_login.specs.Rules.{opening_with, stage_with, is_same_stage, is_due, joined, reads_text, pairs_with, is_normal, asked_by, refusal_of}
-use Rattle.iscsi_login.specs.declared.params.Params.{Params}
+use Rattle.iscsi_login.specs.declared.session_params.SessionParams.{SessionParams}
 use Rattle.iscsi_login.specs.declared.reply.Reply.{Reply}
 use Rattle.iscsi_login.specs.declared.reply.Reply.TheVariants.{GoOn, Full, Refused}
-use Rattle.iscsi_login.specs.declared.session.Session.{Session}
+use Rattle.iscsi_login.specs.declared.requested_session.RequestedSession.{RequestedSession}
 
 -- ---- the text of an answer
 
@@ -54,7 +54,7 @@ unfoldable pub answer_pairs : Bool → Bool → List Pair → List Pair
 answer_pairs tells_group is_told offers = portal_group tells_group ++ filter_map answered_pair offers ++ declaration is_told
 
 -- RFC 7143 §13.9: the tag is in the first whole answer of a Normal session
-abbrev pub tells_group : Option Session → List Pair → Bool
+abbrev pub tells_group : Option RequestedSession → List Pair → Bool
 tells_group None pairs = is_normal pairs
 tells_group (Some session) pairs = false
 
@@ -145,7 +145,7 @@ accepted header due = replies.Accepted (record {
 })
 
 -- the parameters with which full feature phase begins
-unfoldable pub params_of : LoginState → List ℕ → Session → Params
+unfoldable pub params_of : LoginState → List ℕ → RequestedSession → SessionParams
 params_of login header session = record {
   nexus = session.nexus;
   target = session.target;
@@ -166,10 +166,10 @@ abbrev pub handle_with : LoginState → List ℕ → LoginStep → ℕ
 handle_with login header step = if is_last_step step then login.handle else tsih header
 
 -- the session that begins with a step, if one does
-abbrev pub begun_by : LoginState → LoginStep → Option Session
+abbrev pub begun_by : LoginState → LoginStep → Option RequestedSession
 begun_by login step = if is_last_step step then login.session else None
 
-abbrev pub reply_with : LoginResponse → LoginState → List ℕ → Option Session → Reply
+abbrev pub reply_with : LoginResponse → LoginState → List ℕ → Option RequestedSession → Reply
 reply_with response login header None = GoOn response
 reply_with response login header (Some session) = Full response (params_of login header session)
 

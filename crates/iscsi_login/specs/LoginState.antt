@@ -6,7 +6,7 @@ use Rattle.iscsi_pdu.specs.declared.stage.Stage.{Stage}
 use Rattle.iscsi_text.specs.Pairs.{Pair}
 use Rattle.iscsi_login.specs.Values.{default_values}
 use Rattle.iscsi_login.specs.declared.opening.Opening.{Opening}
-use Rattle.iscsi_login.specs.declared.session.Session.{Session}
+use Rattle.iscsi_login.specs.declared.requested_session.RequestedSession.{RequestedSession}
 use Rattle.iscsi_login.specs.declared.values.Values.{Values}
 
 pub record LoginState : Type 0 where
@@ -23,7 +23,7 @@ pub record LoginState : Type 0 where
   -- the pairs of the whole texts
   pub earlier : List Pair
   -- the session that the first whole text asks for
-  pub session : Option Session
+  pub session : Option RequestedSession
   -- the values in force
   pub values : Values
   -- the target has declared its MaxRecvDataSegmentLength
@@ -52,7 +52,7 @@ IsTargetBelow count None = ⊤
 IsTargetBelow count (Some target) = target < count
 
 -- the same for the target of a session that is asked for
-abbrev pub AsksBelow : ℕ → Option Session → Type 0
+abbrev pub AsksBelow : ℕ → Option RequestedSession → Type 0
 AsksBelow count None = ⊤
 AsksBelow count (Some session) = IsTargetBelow count session.target
 

@@ -21,8 +21,8 @@ use Rattle.iscsi_login.specs.LoginState.{LoginState, opening_of}
 use Rattle.iscsi_login.specs.declared.fault.Fault.{Fault}
 use Rattle.iscsi_login.specs.declared.fault.Fault.TheVariants as faults
 use Rattle.iscsi_login.specs.declared.opening.Opening.{Opening}
-use Rattle.iscsi_login.specs.declared.params.Params.{Params}
-use Rattle.iscsi_login.specs.declared.session.Session.{Session}
+use Rattle.iscsi_login.specs.declared.session_params.SessionParams.{SessionParams}
+use Rattle.iscsi_login.specs.declared.requested_session.RequestedSession.{RequestedSession}
 
 -- a request is refused if the rule holds
 pub record Rule : Type 0 where
@@ -141,7 +141,7 @@ rules_of_names names pairs =
     ∷ []
 
 -- for the session that it asks for: a TSIH other than 0 would join one (RFC 7143 §6.3.1, §11.12.6)
-abbrev pub rules_of_handle : Session → ℕ → Option Params → List Rule
+abbrev pub rules_of_handle : RequestedSession → ℕ → Option SessionParams → List Rule
 rules_of_handle session handle named =
     rule (is_of session.nexus session.target named) TooManyConnections
     ∷ rule (not (handle == 0)) SessionDoesNotExist
@@ -184,7 +184,7 @@ unfoldable pub told_of : KnownTargets → List Pair → KnownTargets
 told_of directory pairs = if is_normal pairs then record directory { names = said (codes "TargetName") pairs ∷ [] } else directory
 
 -- the session that the first whole text asks for: its nexus, its target, and the targets that it may learn of
-unfoldable pub asked_for : KnownTargets → List ℕ → List Pair → Session
+unfoldable pub asked_for : KnownTargets → List ℕ → List Pair → RequestedSession
 asked_for directory header pairs = record {
   nexus = record { initiator_name = said (codes "InitiatorName") pairs; isid = isid header };
   target = target_asked directory.names pairs;
@@ -197,7 +197,7 @@ first_refusal lookup header pairs =
     option_or (refusal_by (rules_of_names lookup.directory.names pairs))
     (refusal_by (rules_of_handle (asked_for lookup.directory header pairs) (tsih header) lookup.named))
 
-abbrev pub session_refusal : Option Session → Lookup → List ℕ → List Pair → Option LoginRefusal
+abbrev pub session_refusal : Option RequestedSession → Lookup → List ℕ → List Pair → Option LoginRefusal
 session_refusal None lookup header pairs = first_refusal lookup header pairs
 session_refusal (Some session) lookup header pairs = None
 
@@ -213,7 +213,7 @@ text_refusal login lookup request =
     (refusal_by (rules_of_keys login.earlier (pairs_with login request))))
 
 -- the session that the first whole text asks for
-abbrev pub asked_by : Option Session → KnownTargets → List ℕ → List Pair → Option Session
+abbrev pub asked_by : Option RequestedSession → KnownTargets → List ℕ → List Pair → Option RequestedSession
 asked_by None directory header pairs = Some (asked_for directory header pairs)
 asked_by (Some session) directory header pairs = None
 

@@ -10,8 +10,8 @@ use crate::keys::{KeyResult, boolean_word, settled};
 use crate::values::Values;
 use iscsi_text::{Pairs, put_pair};
 use itoa::Buffer;
-use out_of_memory::Memory;
 use std::alloc::Global;
+use target_limits::Memory;
 
 /// The longest piece of an answer's text, in bytes.
 pub(crate) const LONGEST_PIECE: usize = 8192;

@@ -6,9 +6,9 @@ ghost use Rattle.iscsi_login.specs.Rules.{is_again as is_said_again};
 
 use crate::key_tree::KeyTree;
 use iscsi_text::Pairs;
-use out_of_memory::Memory;
 use std::alloc::Global;
 use std::marker::Model;
+use target_limits::Memory;
 
 /// The pairs of the earlier texts. Clauses see them as a list.
 #[derive(Drop)]

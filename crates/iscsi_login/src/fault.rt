@@ -4,8 +4,8 @@ ghost use Rattle.std.specs.Prelude.{◌≡◌};
 ghost use Rattle.iscsi_login.specs.declared.fault.Fault.TheVariants as faults;
 
 use iscsi_pdu::LoginRefusal;
-use out_of_memory::Memory;
 use std::alloc::AllocError;
+use target_limits::Memory;
 
 /// The reason why a text is not taken.
 #[derive(Clone, Copy)]

@@ -13,9 +13,9 @@ ghost use Rattle.iscsi_login.specs.Rules.{is_again as is_said_again};
 use crate::text::is_again;
 use iscsi_text::Pairs;
 use number_list::NumberList;
-use out_of_memory::Memory;
 use std::alloc::Global;
 use std::marker::Model;
+use target_limits::Memory;
 
 /// A tree whose node n has the key of pair n. Only its links are stored: node n has those at 2n and 2n + 1, to its
 /// children for a 0 bit and for a 1 bit. A link of 0 leads nowhere, since node 0 is the root. Clauses see it as the

@@ -5,8 +5,8 @@ ghost use Rattle.iscsi_login.specs.Keys.{word_text, boolean_text, result_text, n
 
 use crate::number::number_in;
 use itoa::Buffer;
-use out_of_memory::Memory;
 use std::alloc::Global;
+use target_limits::Memory;
 
 /// A word that is sent as an answer.
 #[derive(Clone, Copy)]

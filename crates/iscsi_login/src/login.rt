@@ -15,16 +15,16 @@ use crate::directory::Directory;
 use crate::earlier::Earlier;
 use crate::fault::Fault;
 use crate::opening::Opening;
-use crate::params::Params;
 use crate::reply::Reply;
 use crate::request::{is_behind, is_login_stage, is_same_stage};
-use crate::session::Session;
+use crate::requested_session::RequestedSession;
+use crate::session_params::SessionParams;
 use crate::values::Values;
 use bytes::BytesMut;
 use iscsi_pdu::{Frame, Header, LoginRefusal, Stage};
-use out_of_memory::Memory;
 use std::alloc::Global;
 use std::marker::Model;
+use target_limits::Memory;
 
 /// The longest text of a login that is kept, in bytes.
 const LONGEST_TEXT: usize = 65536;
@@ -39,7 +39,7 @@ pub struct Login {
     answers: u32,
     kept: Vec<u8>,
     earlier: Earlier,
-    session: Option<Session>,
+    session: Option<RequestedSession>,
     values: Values,
     declared: bool,
     due: BytesMut,
@@ -176,7 +176,7 @@ impl Login {
         &mut self,
         request: &Frame,
         directory: &Directory,
-        named: &Option<Params>,
+        named: &Option<SessionParams>,
     ) -> Result<Reply, Memory>
         ensures reply { IfOk result (λ reply. reply ≡ reply_of self.old (lookup_in directory.now named.now) request.now) }
         ensures after { IfOk result (λ reply. IsAfter directory.now self.old request.now reply self.new) }

@@ -8,13 +8,13 @@ ghost use Rattle.iscsi_login.specs.Rules.{refusal_by, rules_of_names, rules_of_h
 
 use crate::directory::Directory;
 use crate::fault::Fault;
-use crate::params::Params;
-use crate::session::{Session, is_same_target};
+use crate::requested_session::{RequestedSession, is_same_target};
+use crate::session_params::SessionParams;
 use iscsi_pdu::{Header, LoginRefusal};
 use iscsi_text::Pairs;
-use out_of_memory::Memory;
 use scsi_sense::Nexus;
 use std::alloc::Global;
+use target_limits::Memory;
 
 /// The longest name, in bytes (RFC 7143 §4.2.7.2).
 const LONGEST_NAME: usize = 223;
@@ -126,9 +126,9 @@ fn told(alloc: Global, directory: &Directory, said: &Pairs) -> Result<Directory,
     })
 }
 
-impl Session {
+impl RequestedSession {
     /// Returns whether the other is a session of the same nexus with the same target.
-    fn is_same(&self, other: &Option<Params>) -> bool
+    fn is_same(&self, other: &Option<SessionParams>) -> bool
         ensures { result ≡ is_session_of self.now.nexus self.now.target other.now }
     {
         match other {
@@ -140,7 +140,11 @@ impl Session {
 }
 
 /// Returns why the session that is asked for is refused, if it is. A TSIH other than 0 would join a session.
-fn refusal_of_handle(session: &Session, tsih: u16, named: &Option<Params>) -> Option<LoginRefusal>
+fn refusal_of_handle(
+    session: &RequestedSession,
+    tsih: u16,
+    named: &Option<SessionParams>,
+) -> Option<LoginRefusal>
     ensures { result ≡ refusal_by (rules_of_handle session.now tsih named.now) }
 {
     if session.is_same(named) {
@@ -157,10 +161,10 @@ fn refusal_of_handle(session: &Session, tsih: u16, named: &Option<Params>) -> Op
 pub(crate) fn asked(
     alloc: Global,
     directory: &Directory,
-    named: &Option<Params>,
+    named: &Option<SessionParams>,
     header: &Header,
     said: &Pairs,
-) -> Result<Session, Fault>
+) -> Result<RequestedSession, Fault>
     ensures session { IfOk result (λ session. session ≡ asked_for directory.now header.now said.now) }
     ensures bound { IfOk result (λ session. IsTargetBelow (length directory.now.names) session.target) }
     ensures accepted { IfOk result (λ _. first_refusal (lookup_in directory.now named.now) header.now said.now ≡ None) }
@@ -176,7 +180,7 @@ pub(crate) fn asked(
         isid: header.isid(),
     };
     let directory = told(alloc, directory, said)?;
-    let session = Session {
+    let session = RequestedSession {
         nexus,
         target,
         directory,

@@ -1,6 +1,6 @@
 //! The reply to a Login request.
 
-use crate::params::Params;
+use crate::session_params::SessionParams;
 use iscsi_pdu::LoginResponse;
 
 /// The reply to a Login request.
@@ -9,7 +9,7 @@ pub enum Reply {
     /// The login goes on with another request.
     GoOn(LoginResponse),
     /// Full feature phase begins.
-    Full(LoginResponse, Params),
+    Full(LoginResponse, SessionParams),
     /// The login is over, and the connection is to be closed.
     Refused(LoginResponse),
 }

@@ -8,8 +8,8 @@ use crate::keys::{is_answer, is_name, same};
 use crate::number::number_in;
 use crate::values::{LEAST_SEGMENT, MOST_SEGMENT};
 use iscsi_text::Pairs;
-use out_of_memory::Memory;
 use std::alloc::Global;
+use target_limits::Memory;
 
 /// Returns the text so far followed by that of one more request.
 pub(crate) fn joined(alloc: Global, kept: &[u8], more: &[u8]) -> Result<Vec<u8>, Memory>

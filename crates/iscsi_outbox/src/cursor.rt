@@ -69,7 +69,7 @@ impl Cursor {
             offset: 0,
             at: HEADROOM,
         };
-        cursor.settle();
+        cursor.start_piece();
         cursor
     }
 
@@ -110,7 +110,7 @@ impl Cursor {
     }
 
     /// Writes the header of the next piece in front of its data, once the piece before it was sent.
-    pub fn settle(&mut self)
+    pub fn start_piece(&mut self)
         requires { IsPlaced self.old }
         ensures same { left self.new ≡ left self.old }
         ensures ready { IsReady self.new }
@@ -158,7 +158,7 @@ impl Cursor {
     {
         let step = n.min(self.end() - self.at);
         self.at += step;
-        self.settle();
+        self.start_piece();
         step
     }
 

@@ -158,7 +158,7 @@ impl Outbox {
     }
 
     /// Frees the reserved room, if nothing waits and there is room for more than `most` bytes.
-    pub fn rest(&mut self, alloc: Global, most: usize)
+    pub fn trim(&mut self, alloc: Global, most: usize)
         ensures items { self.new.items ≡ self.old.items }
         ensures runs { self.new.runs ≡ self.old.runs }
     {

@@ -2,7 +2,7 @@
 use Rattle.std.proofs.Common.{◌≡◌, ℕ, ◌<◌, ◌≤◌, min, List, [], ◌∷◌, ◌++◌, length, take, drop, set, Option, None, Ok, eq-eqb, append_assoc, refl, sym, ap, subst, ◌∙◌, inl, inr}
 use Rattle.std.proofs.lemmas.Bool.{ne_eqb, cases_eq}
 use Rattle.std.proofs.lemmas.List.{append-nil, take-append-drop, get_or-set_same, get_or-set_other, drop_min}
-use Rattle.connection_numbers.specs.Numbers.{connection_limit}
+use Rattle.target_limits.specs.Numbers.{connection_limit}
 use Rattle.iscsi_ports.specs.Calls.{Call, Reading, Handing, Closing}
 use Rattle.iscsi_ports.specs.ReadBuffer.{given, handed, bytes_in, ahead_on, IsAccounted, AreDropped}
 

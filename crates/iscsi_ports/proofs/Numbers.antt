@@ -2,7 +2,7 @@
 use Rattle.std.proofs.Common.{◌≡◌, ℕ, ◌+◌, ◌-◌, ◌<◌, suc, ◌∷◌, Bool, true, false, refl, ap, arith}
 use Rattle.std.specs.Prelude.{find, unwrap_or}
 use Rattle.std.specs.List.{range_with_len}
-use Rattle.connection_numbers.specs.Numbers.{connections}
+use Rattle.target_limits.specs.Numbers.{connections}
 
 range_next : (c : ℕ) → c < 64 → range_with_len c (64 - c) ≡ c ∷ range_with_len (c + 1) (64 - (c + 1))
 range_next c lt =

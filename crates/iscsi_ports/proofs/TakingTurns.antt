@@ -4,7 +4,7 @@ use Rattle.std.specs.Prelude.{nat_le, slice_set}
 use Rattle.std.specs.List.{range_with_len, filter}
 use Rattle.std.proofs.lemmas.Bool.{false≢true, leb-true, leb-false, le-leb, lt-leb, eqb-true, ne_eqb, cases_eq}
 use Rattle.std.proofs.lemmas.List.{get_or-set_same, get_or-set_other}
-use Rattle.connection_numbers.specs.Numbers.{connection_limit}
+use Rattle.target_limits.specs.Numbers.{connection_limit}
 use Rattle.iscsi_ports.specs.Flags.{flag_of}
 use Rattle.iscsi_ports.specs.Turns.{Names, IsFair, is_due, due_from, due_count, turn, is_named, cursor_after, turns_to}
 use Rattle.iscsi_ports.specs.declared.readiness.Readiness.{Readiness}

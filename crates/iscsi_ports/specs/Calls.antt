@@ -7,7 +7,7 @@ use Rattle.std.specs.declared.net.ip_addr.IpAddr.{IpAddr}
 use Rattle.std.specs.declared.net.ip_addr.IpAddr.TheVariants as ip
 use Rattle.std.specs.Net.Addr.{ipv4_octets, ipv6_octets}
 use Rattle.call_record.specs.Noted.{Noted}
-use Rattle.connection_numbers.specs.Numbers.{connection_limit}
+use Rattle.target_limits.specs.Numbers.{connection_limit}
 use Rattle.iscsi_ports.specs.Log as log
 use Rattle.iscsi_ports.specs.Log.{Entry, Carried, Bytes, End, Fault, Polled, Open, NobodyCame, AcceptFailed, Read, Wrote, Close}
 use Rattle.iscsi_ports.specs.declared.call_notes.CallKind.{CallKind}

@@ -1,6 +1,6 @@
 -- A flag for each connection.
 use Rattle.std.specs.Prelude.{ℕ, Bool, false, List, replicate, slice_index_or, slice_set, if◌then◌else◌}
-use Rattle.connection_numbers.specs.Numbers.{connection_limit}
+use Rattle.target_limits.specs.Numbers.{connection_limit}
 
 abbrev pub flag_of : ℕ → List Bool → Bool
 flag_of c flags = slice_index_or flags c false

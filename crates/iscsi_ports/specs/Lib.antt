@@ -1,4 +1,4 @@
-pub use Rattle.connection_numbers.specs.Numbers
+pub use Rattle.target_limits.specs.Numbers
 pub mod Log
 pub mod Results
 pub mod Script

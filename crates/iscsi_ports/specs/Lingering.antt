@@ -1,7 +1,7 @@
 -- Connections that are closed and whose peers may still send: what is read of them, and for how many turns they stay.
 use Rattle.std.specs.Prelude.{◌≡◌, ◌≤◌, ◌<◌, ℕ, zero, suc, ◌-◌, ◌==◌, nat_lt, Bool, true, false, ◌&&◌, not, List, [], ◌∷◌, ◌++◌, map, find, is_none, Option, Some, None, option_map, unwrap_or, Result, Ok, Err, slice_index, slice_index_or, if◌then◌else◌}
 use Rattle.call_record.specs.Noted.{Noted}
-use Rattle.connection_numbers.specs.Numbers.{connection_limit, connections}
+use Rattle.target_limits.specs.Numbers.{connection_limit, connections}
 use Rattle.iscsi_ports.specs.Calls.{answered}
 use Rattle.iscsi_ports.specs.Asking.{gave}
 use Rattle.iscsi_ports.specs.declared.lingering.LingeringSocket.{LingeringSocket}

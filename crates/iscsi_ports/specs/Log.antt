@@ -1,6 +1,6 @@
 -- What the ports told, call by call: whom a poll named, who came, what was read and written.
 use Rattle.std.specs.Prelude.{ℕ, List, [], ◌∷◌, ◌++◌, fold, map, find, Bool, true, false, ◌&&◌, not, ◌==◌, Option, Some, None, if◌then◌else◌}
-use Rattle.connection_numbers.specs.Numbers.{is_number}
+use Rattle.target_limits.specs.Numbers.{is_number}
 use Rattle.iscsi_ports.specs.declared.results.Named.{Named}
 
 -- what a read gave or a write took; an empty piece where it would wait

@@ -1,6 +1,6 @@
 -- What the system gave on a connection, what was handed on of it, and what is ahead. The newest call stands first.
 use Rattle.std.specs.Prelude.{◌≡◌, ◌≤◌, ◌==◌, ℕ, List, [], ◌∷◌, ◌++◌, take, Option, Some, None, Ok, slice_index_or, if◌then◌else◌}
-use Rattle.connection_numbers.specs.Numbers.{connection_limit}
+use Rattle.target_limits.specs.Numbers.{connection_limit}
 use Rattle.iscsi_ports.specs.Calls.{Call, Accepting, Reading, Handing, Closing}
 
 -- own: what the system gave on the connection that is open under this number

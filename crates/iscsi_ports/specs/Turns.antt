@@ -2,7 +2,7 @@
 use Rattle.std.specs.Prelude.{◌≡◌, ◌<◌, ℕ, ◌+◌, ◌-◌, ◌==◌, min, nat_lt, nat_le, Bool, true, false, ◌&&◌, ◌||◌, not, List, length, find, Option, Some, None, if◌then◌else◌}
 use Rattle.std.specs.Option.{option_or}
 use Rattle.std.specs.List.{filter, range_with_len}
-use Rattle.connection_numbers.specs.Numbers.{connections, connection_limit}
+use Rattle.target_limits.specs.Numbers.{connections, connection_limit}
 use Rattle.iscsi_ports.specs.Flags.{flag_of, flags_with, none_of}
 use Rattle.iscsi_ports.specs.declared.readiness.Readiness.{Readiness}
 use Rattle.iscsi_ports.specs.declared.turns.Turns.{Turns}

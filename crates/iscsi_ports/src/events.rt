@@ -7,9 +7,9 @@ ghost use Rattle.iscsi_ports.specs.Events.{IsNamed};
 
 use crate::readiness::{Readiness, ReadyEvent};
 use crate::watching::LISTENER;
-use connection_numbers::CONNECTIONS;
 use mio::event::Event;
 use mio::{Events, Token};
+use target_limits::CONNECTIONS;
 
 /// Takes note of an event.
 fn see(readiness: &mut Readiness, event: &Event)

@@ -17,12 +17,12 @@ use crate::lingering_notes::LingeringNotes;
 use crate::places::free_places;
 use crate::socket_failure::SocketFailure;
 use crate::stream_calls::drain_from;
-use connection_numbers::CONNECTIONS;
 use mio::net::TcpStream;
 use mio::{Interest, Registry, Token};
 use std::alloc::{AllocError, Global};
 use std::net::Shutdown;
 use std::time::Duration;
+use target_limits::CONNECTIONS;
 
 /// The token of all of them: it is none of a connection's, and no listener's.
 const LINGERING: usize = CONNECTIONS + 1;

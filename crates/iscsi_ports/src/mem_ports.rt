@@ -11,9 +11,9 @@ use crate::places::free_places;
 use crate::ports::Ports;
 use crate::results::{Accepted, IoResult, Named, PortFault};
 use crate::script::Script;
-use connection_numbers::CONNECTIONS;
 use std::alloc::{AllocError, Global};
 use std::collections::VecDeque;
+use target_limits::CONNECTIONS;
 
 /// A listener with connections that follow scripts, and the log of what they told.
 #[derive(Debug, Drop)]

@@ -32,13 +32,13 @@ use crate::socket_failure::{SocketFailure, socket_failure};
 use crate::spares::Spares;
 use crate::stream_calls::write_to;
 use crate::watching::{watch, watched};
-use connection_numbers::CONNECTIONS;
 use mio::net::{TcpListener, TcpStream};
 use mio::{Events, Poll};
 use std::alloc::Global;
 use std::io;
 use std::net::{Net, SocketAddr};
 use std::time::Duration;
+use target_limits::CONNECTIONS;
 
 /// How many events one poll takes from the system.
 const EVENTS: usize = 128;

@@ -2,8 +2,8 @@
 
 ghost use Rattle.std.specs.Prelude.{◌≡◌, length, replicate, None, IfOk};
 
-use connection_numbers::CONNECTIONS;
 use std::alloc::{AllocError, Global};
+use target_limits::CONNECTIONS;
 
 /// A free place for each number, and one more for a connection for which no number is free.
 pub fn free_places<T: Drop>(alloc: Global) -> Result<Vec<Option<T>>, AllocError>

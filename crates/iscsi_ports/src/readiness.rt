@@ -16,7 +16,7 @@ ghost use Rattle.iscsi_ports.specs.Turns.{after_offer, after_carrying, Names};
 use crate::results::Named;
 use crate::socket_failure::SocketFailure;
 use crate::turns::Turns;
-use connection_numbers::CONNECTIONS;
+use target_limits::CONNECTIONS;
 
 /// What the system told in an event of a connection.
 #[derive(Clone, Copy, Debug)]

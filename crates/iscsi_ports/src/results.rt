@@ -1,6 +1,6 @@
 //! What the calls of the ports tell.
 
-use connection_numbers::CONNECTIONS;
+use target_limits::CONNECTIONS;
 
 /// Whom a poll names: those that may have something to accept, to read, or room to write.
 #[derive(Clone, Copy, Debug)]

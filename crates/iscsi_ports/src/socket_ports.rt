@@ -30,11 +30,11 @@ use crate::results::{Accepted, IoResult, Named, PortFault};
 use crate::socket_calls::SocketCalls;
 use crate::socket_failure::SocketFailure;
 use crate::stopwatch::Stopwatch;
-use connection_numbers::CONNECTIONS;
 use std::alloc::Global;
 use std::io;
 use std::net::{Net, SocketAddr};
 use std::time::Duration;
+use target_limits::CONNECTIONS;
 
 /// Ports over the calls of the system, whose record they tell.
 ///

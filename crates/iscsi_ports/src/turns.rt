@@ -10,7 +10,7 @@ ghost use Rattle.iscsi_ports.specs.Flags.{flag_of};
 ghost use Rattle.iscsi_ports.specs.Turns.{no_turns, after_offer, after_carrying, due_from, due_count, turn, TakesTurn};
 
 use crate::readiness::set_where;
-use connection_numbers::CONNECTIONS;
+use target_limits::CONNECTIONS;
 
 /// A connection whose last write was offered as many bytes is long.
 const LONG: usize = 65_536;

@@ -3,11 +3,11 @@
 ghost use Rattle.std.specs.Prelude.{◌≡◌, ◌≤◌, None, IfSome};
 
 use crate::options::set_options;
-use connection_numbers::CONNECTIONS;
 use mio::net::{TcpListener, TcpStream};
 use mio::{Interest, Poll, Registry, Token};
 use std::io;
 use std::net::{Net, SocketAddr};
+use target_limits::CONNECTIONS;
 
 /// The listener's token. A connection's token is its number.
 pub(crate) const LISTENER: usize = CONNECTIONS;

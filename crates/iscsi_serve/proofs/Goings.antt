@@ -9,7 +9,7 @@ use Rattle.std.proofs.lemmas.List.Folds.{list_any-append}
 use Rattle.iscsi_target.specs.History.{connection_limit}
 use Rattle.iscsi_target.specs.Machine.{Machine, Feeds, link_at, with_link, is_open_at, is_closing, is_silent, opened_link, sent_link, closed, free_link}
 use Rattle.iscsi_target.proofs.Choices.{and_false, and_true, cond_true}
-use Rattle.connection_numbers.specs.Numbers.{is_number}
+use Rattle.target_limits.specs.Numbers.{is_number}
 use Rattle.iscsi_ports.specs.Log.{Carried, Bytes, Entry, Open, NobodyCame, Read, Wrote, Close}
 use Rattle.iscsi_serve.specs.Served.{IsFed}
 use Rattle.iscsi_serve.specs.Turn.{Moment, moment, changed, told, IfElse, opened, free_number, HasAccepted, is_read, room_for, HasFed, HasRead, Reads, piece_in, is_written, after_write, HasWritten, Writes, is_end, ends, is_closed, Closes}

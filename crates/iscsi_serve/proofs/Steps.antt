@@ -17,7 +17,7 @@ use Rattle.iscsi_target.specs.Stands.{Stands, with_sent}
 use Rattle.iscsi_target.proofs.Choices.{cond_true}
 use Rattle.iscsi_target.proofs.Keeping.{world-push, answers_stay}
 use Rattle.iscsi_target.proofs.Standing.{new_stands, waits_there, stands_sent, sent_here, sent_there}
-use Rattle.connection_numbers.specs.Numbers.{is_number}
+use Rattle.target_limits.specs.Numbers.{is_number}
 use Rattle.iscsi_ports.specs.Log.{Bytes, Entry, Open, Read, Wrote, Close, Written, nothing_written, is_on, closed_row, written_after, written, bytes_in, written_on}
 use Rattle.iscsi_serve.specs.Events.{event_of, events}
 use Rattle.iscsi_serve.specs.Served.{IsFront, AreFronts, IsServed, NewIsServed}

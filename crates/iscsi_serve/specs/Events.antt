@@ -1,6 +1,6 @@
 -- The events of the target, read from the log of the ports.
 use Rattle.std.specs.Prelude.{ℕ, List, [], ◌∷◌, flat_map, if◌then◌else◌}
-use Rattle.connection_numbers.specs.Numbers.{is_number}
+use Rattle.target_limits.specs.Numbers.{is_number}
 use Rattle.iscsi_target.specs.History as history
 use Rattle.iscsi_ports.specs.Log.{Carried, Bytes, Entry, Open, Read, Close}
 

@@ -3,7 +3,7 @@ use Rattle.std.specs.Prelude.{◌≡◌, ◌⊎◌, ◌<◌, ◌≤◌, ℕ, zer
 use Rattle.std.specs.List.{list_any}
 use Rattle.iscsi_target.specs.History.{connection_limit, connections}
 use Rattle.iscsi_target.specs.Machine.{Machine, LinkState, Feeds, link_at, with_link, is_open_at, is_free, is_closing, want_of, opened_link, sent_link, closed, free_link}
-use Rattle.connection_numbers.specs.Numbers.{is_number}
+use Rattle.target_limits.specs.Numbers.{is_number}
 use Rattle.iscsi_ports.specs.Log.{Entry, Carried, Bytes, End, Fault, Polled, Open, NobodyCame, AcceptFailed, Read, Wrote, Close}
 use Rattle.iscsi_serve.specs.Served.{IsFed}
 use Rattle.iscsi_ports.specs.declared.results.Named.{Named}

@@ -3,9 +3,9 @@
 ghost use Rattle.std.specs.Prelude.{◌≡◌, ◌<◌, ℕ, true, false, ◌||◌, ◌&&◌, ◌==◌, length, slice_index_or};
 ghost use Rattle.iscsi_target.specs.Machine.{link_at, is_open_at, is_closing};
 
-use connection_numbers::CONNECTIONS;
 use iscsi_target::Target;
 use media_store::Store;
+use target_limits::CONNECTIONS;
 
 /// Returns whether the connection has ended, or the target has closed it and nothing waits on it.
 #[tactic(auto, using(crate::proofs::Fronts::same_none))]

@@ -12,10 +12,10 @@ ghost use Rattle.iscsi_ports.specs.declared.results.Named.{Named};
 
 use crate::ending::{any_ended, either, has_ended, is_done};
 use crate::fault::ServeFault;
-use connection_numbers::CONNECTIONS;
 use iscsi_ports::{Accepted, IoResult, Named, PortFault, Ports};
 use iscsi_target::{Starved, Target};
 use media_store::Store;
+use target_limits::CONNECTIONS;
 
 /// The most bytes that a read has room for.
 const MOST_READ: usize = 65_536;

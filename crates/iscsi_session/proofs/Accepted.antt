@@ -9,7 +9,7 @@ use Rattle.std.proofs.lemmas.List.Elements.{filter-append, filter_map-append, Al
 use Rattle.std.proofs.lemmas.List.FromFn.{map-range_with_len_more}
 use Rattle.iscsi_pdu.specs.Header.{is_immediate, initiator_task_tag}
 use Rattle.iscsi_pdu.specs.Frames.{Frame}
-use Rattle.iscsi_login.specs.declared.params.Params.{Params}
+use Rattle.iscsi_login.specs.declared.session_params.SessionParams.{SessionParams}
 use Rattle.iscsi_order.specs.Window as order
 use Rattle.iscsi_order.specs.Window.{window, taken as taken_numbers}
 use Rattle.iscsi_order.specs.WindowState as windows
@@ -27,7 +27,7 @@ use Rattle.iscsi_session.proofs.Standing.{numbered_standing, place_standing, len
 
 -- ---- the past at its beginning
 
-pub begun_lawful : (params : Params) → IsLawful (begun params)
+pub begun_lawful : (params : SessionParams) → IsLawful (begun params)
 unfolding due queue left taken taken_numbers unfinished functions standing
 begun_lawful params = grind arith
 

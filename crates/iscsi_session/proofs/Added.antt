@@ -10,7 +10,7 @@ use Rattle.iscsi_pdu.specs.Answer.{spelling}
 use Rattle.iscsi_pdu.specs.TaskManagement.{ref_cmd_sn}
 use Rattle.iscsi_pdu.specs.declared.answer.Answer.{Answer}
 use Rattle.iscsi_login.specs.Values.{AreInRange}
-use Rattle.iscsi_transfer.specs.Task.{remembered as task_of}
+use Rattle.iscsi_transfer.specs.WriteData.{remembered as task_of}
 use Rattle.iscsi_order.specs.Window as order
 use Rattle.iscsi_order.specs.Window.{taken as taken_numbers}
 use Rattle.scsi_unit.specs.Units.{numbers_of}

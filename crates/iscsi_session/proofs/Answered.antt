@@ -14,7 +14,7 @@ use Rattle.iscsi_pdu.specs.declared.answer.Answer.TheVariants as answers
 use Rattle.iscsi_pdu.specs.declared.reject.RejectReason.TheVariants as reasons
 use Rattle.iscsi_pdu.specs.LogoutRequest.{logout_reason}
 use Rattle.iscsi_pdu.specs.declared.stamp.Stamp.{Stamp}
-use Rattle.iscsi_login.specs.declared.params.Params.{Params}
+use Rattle.iscsi_login.specs.declared.session_params.SessionParams.{SessionParams}
 use Rattle.iscsi_order.specs.Window as order
 use Rattle.iscsi_order.specs.declared.window.CommandNumbers.{CommandNumbers}
 use Rattle.iscsi_order.specs.Stat.{stat_sn}
@@ -114,7 +114,7 @@ IsOther o =
     ⊎ ((o ≡ opcodes.DataOut) ⊎ ((o ≡ opcodes.Snack) ⊎ ((n : ℕ) × (o ≡ opcodes.Other n)))))))
 
 -- of any of them
-other_plain : (o : Opcode) (waited : List ℕ) (result : TaskResult) (exchange : ExchangeState) (numbers_now : Stamp) (params : Params) (frame : Frame)
+other_plain : (o : Opcode) (waited : List ℕ) (result : TaskResult) (exchange : ExchangeState) (numbers_now : Stamp) (params : SessionParams) (frame : Frame)
     → IsOther o → o ≢ opcodes.Text → o ≢ opcodes.TaskManagement
     → (act_answers_by o waited result exchange numbers_now params frame ≡ []) × (ends_by o params frame ≡ false)
 other_plain o waited result exchange numbers_now params frame (inl e) no_text no_function = rw e (refl, refl)
@@ -157,7 +157,7 @@ one_bearing x e = rw e refl
 pub text_bears : (numbers_now : Stamp) (piece : Option TextPiece) (frame : Frame) → bearing (text_answer numbers_now piece frame ∷ []) ≡ 1
 text_bears numbers_now piece frame = grind arith
 
-pub logout_bears : (numbers_now : Stamp) (params : Params) (frame : Frame) → bearing (logout_answer numbers_now params frame ∷ []) ≡ 1
+pub logout_bears : (numbers_now : Stamp) (params : SessionParams) (frame : Frame) → bearing (logout_answer numbers_now params frame ∷ []) ≡ 1
 logout_bears numbers_now params frame = grind arith
 
 -- ---- what is written
@@ -405,7 +405,7 @@ module _ (past : Past) (state : SessionState) (k : ℕ) (rest : List ℕ) (s : S
 
 -- ---- what it is answered
 
-pub logout_act : (k : ℕ) (past : Past) (frame : Frame) (params : Params) (act : Act) → frame ≡ frame_of past.came k → params ≡ past.params
+pub logout_act : (k : ℕ) (past : Past) (frame : Frame) (params : SessionParams) (act : Act) → frame ≡ frame_of past.came k → params ≡ past.params
     → kind_of (frame_of past.came k) ≡ opcodes.Logout
     → act ≡ cond (closes params frame) Ended Taken → act ≡ cond (ends past.params (frame_of past.came k)) Ended Taken
 unfolding ends
@@ -509,7 +509,7 @@ done_here past state k rest frame tasks transfers s is some same gone =
           ((parts past state s).exchange_is ∙ sym (exchange_as past (finished k past) refl refl refl)),
     )
 
-pub logout_refused : (numbers_now : Stamp) (params : Params) (frame : Frame) (given : Answer) → closes params frame ≡ false
+pub logout_refused : (numbers_now : Stamp) (params : SessionParams) (frame : Frame) (given : Answer) → closes params frame ≡ false
     → eqb (logout_reason frame.header) 1 ≡ false → eqb (logout_reason frame.header) 2 ≡ false
     → given ≡ reject reasons.InvalidField numbers_now frame → given ≡ logout_answer numbers_now params frame
 logout_refused numbers_now params frame given open_still no_cid no_recovery is = grind arith

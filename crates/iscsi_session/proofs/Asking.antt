@@ -6,7 +6,7 @@ use Rattle.std.proofs.lemmas.List.{length-append, length-map, map-append, drop_a
 use Rattle.std.proofs.lemmas.List.Elements.{All-cons, All-push, filter-append}
 use Rattle.iscsi_pdu.specs.declared.r2t.R2t.{R2t}
 use Rattle.iscsi_pdu.specs.declared.stamp.Stamp.{Stamp}
-use Rattle.iscsi_transfer.specs.Task.{TaskState, remembered as task_of, filled, due_asks, is_due, with_asked}
+use Rattle.iscsi_transfer.specs.WriteData.{WriteDataState, remembered as task_of, filled, due_asks, is_due, with_asked}
 use Rattle.iscsi_transfer.specs.declared.progress.Ask.{Ask}
 use Rattle.iscsi_transfer.proofs.Standing.{remembered-asked}
 use Rattle.iscsi_transfer.proofs.Due.{sent_is_due_no_more}
@@ -44,7 +44,7 @@ r2ts_counted past k = length-r2ts (frame_of past.came k).header (next_transfer_t
 abbrev no_tags : List ℕ
 no_tags = []
 
-pub sent_none : (task : TaskState) → with_asked [] task ≡ task
+pub sent_none : (task : WriteDataState) → with_asked [] task ≡ task
 unfolding with_asked
 sent_none task =
     let same : task.sent + 0 ≡ task.sent = omega arith in
@@ -63,7 +63,7 @@ after_one (suc n) m open_tags tag tags e =
     ∙ ap (λ (l : List ℕ). (open_tags ++ l) ++ drop n tags) (drop_all n no_tags (omega arith))
     ∙ ap (λ (l : List ℕ). l ++ drop n tags) (append-nil open_tags)
 
-pub sent_then : (task : TaskState) (tag : ℕ) (tags : List ℕ) → with_asked tags (with_asked (tag ∷ []) task) ≡ with_asked (tag ∷ tags) task
+pub sent_then : (task : WriteDataState) (tag : ℕ) (tags : List ℕ) → with_asked tags (with_asked (tag ∷ []) task) ≡ with_asked (tag ∷ tags) task
 unfolding with_asked
 sent_then task tag tags =
     let n = filled task - task.sent in
@@ -73,11 +73,12 @@ sent_then task tag tags =
     ∙ ap (λ (l : List ℕ). record task { sent = task.sent + length (tag ∷ tags); open_tags = l })
     (after_one n m task.open_tags tag tags (omega arith))
 
-pub one_less : (task : TaskState) (ask : Ask) (asks : List Ask) (tag : ℕ) → due_asks task ≡ ask ∷ asks → due_asks (with_asked (tag ∷ []) task) ≡ asks
+pub one_less : (task : WriteDataState) (ask : Ask) (asks : List Ask) (tag : ℕ) → due_asks task ≡ ask ∷ asks → due_asks (with_asked (tag ∷ []) task) ≡ asks
 one_less task ask asks tag e = sent_is_due_no_more task tag ∙ ap (drop 1) e
 
 -- where all that are due are sent, none is due
-pub all_sent : (task : TaskState) (asks : List Ask) (tags : List ℕ) → due_asks task ≡ asks → length tags ≡ length asks → due_asks (with_asked tags task) ≡ []
+pub all_sent : (task : WriteDataState) (asks : List Ask) (tags : List ℕ) → due_asks task ≡ asks → length tags ≡ length asks
+    → due_asks (with_asked tags task) ≡ []
 all_sent task [] [] e same = ap due_asks (sent_none task) ∙ e
 all_sent task [] (tag ∷ tags) e same = absurd (omega (arith, same))
 all_sent task (ask ∷ asks) [] e same = absurd (omega (arith, same))
@@ -119,7 +120,7 @@ pub asked_there : (past : Past) (k : ℕ) → transfer_of (asked k past) k ≡ s
 unfolding task_at
 asked_there past k =
     tags_grown past k k _ (tags_more past k k ∙ ap (λ (l : List ℕ). tags_of past k ++ l) (tags_there k (r2ts_of past k)))
-    ∙ ap (λ (t : TaskState). record (transfer_of past k) { task = t }) (remembered-asked (data_past past k) (map transfer_tag (r2ts_of past k)))
+    ∙ ap (λ (t : WriteDataState). record (transfer_of past k) { task = t }) (remembered-asked (data_past past k) (map transfer_tag (r2ts_of past k)))
 
 pub asked_elsewhere : (past : Past) (k j : ℕ) → j ≢ k → transfer_of (asked k past) j ≡ transfer_of past j
 unfolding task_at

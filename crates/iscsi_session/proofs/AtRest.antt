@@ -24,7 +24,7 @@ use Rattle.scsi_unit.specs.DiskCommands.{most_given}
 use Rattle.scsi_unit.specs.Units.{numbers_of}
 use Rattle.iscsi_session.specs.Comings.{TargetUnits}
 use Rattle.iscsi_login.specs.Values.{AreInRange}
-use Rattle.iscsi_login.specs.declared.params.Params.{Params}
+use Rattle.iscsi_login.specs.declared.session_params.SessionParams.{SessionParams}
 use Rattle.iscsi_session.specs.Answers.{command_answers}
 use Rattle.iscsi_session.specs.State.{SessionState, AreDistinct, IsLawful, Stands, remembered}
 use Rattle.iscsi_session.specs.Runs.{Output, Starts, is_failed, Runs, Stops, AnswersAs}
@@ -84,7 +84,7 @@ served_adds fails place frame work whole range w few =
     let acts = one_by_one fails (Taking place) due act 0 fuel judging in
     let second = all_add fails (Taking place) due act 0 fuel judging act_adds first.within in
     let so_far = adds_then (request_weight + 99) (fuel * 48) 1 0 work.past judging.past acts.past first second in
-    let same : AreInRange acts.past.params.values = subst (λ (p : Params). AreInRange p.values) (sym so_far.params) range in
+    let same : AreInRange acts.past.params.values = subst (λ (p : SessionParams). AreInRange p.values) (sym so_far.params) range in
     let third = first_adds 98304 fails (Asking place) asking ask (asking acts.past) acts refl
     (λ k rest is. ask_adds (reaches (Asking place) acts) k rest is same second.within) second.within in
     let asks = first_steps fails (Asking place) ask (asking acts.past) acts in
@@ -227,7 +227,7 @@ pub few_pending : (state : SessionState) → IsAtRest state → open_requests st
 few_pending state r = omega (arith, rest_few r.past r.within r.idle, rest_pending r.past state (stands_at_rest state r))
 
 -- a session at its beginning
-pub begun_rests : (params : Params) → IsAtRest (remembered (begun params))
+pub begun_rests : (params : SessionParams) → IsAtRest (remembered (begun params))
 unfolding due left taken unfinished functions
 begun_rests params = grind (arith, begun_lawful params)
 
@@ -367,6 +367,6 @@ serve_loads (Ok goes_on) frame luns old new before waiting units numbers ok err 
 serve_loads (Err e) frame luns old new before waiting units numbers ok err idle whole range r = grind (arith, run_loads)
 
 -- a session that begins has no requests
-pub begun_pending : (params : Params) → open_requests (remembered (begun params)) ≡ 0
+pub begun_pending : (params : SessionParams) → open_requests (remembered (begun params)) ≡ 0
 unfolding held due queue functions left taken taken_numbers
 begun_pending params = pending_is (begun params) (begun_lawful params)

@@ -10,9 +10,9 @@ use Rattle.iscsi_pdu.specs.Header.{initiator_task_tag}
 use Rattle.iscsi_pdu.specs.TaskManagement.{ref_cmd_sn}
 use Rattle.iscsi_pdu.specs.Frames.{Frame}
 use Rattle.iscsi_pdu.specs.declared.answer.Answer.{Answer}
-use Rattle.iscsi_login.specs.declared.params.Params.{Params}
+use Rattle.iscsi_login.specs.declared.session_params.SessionParams.{SessionParams}
 use Rattle.iscsi_order.specs.Window.{taken as taken_numbers}
-use Rattle.iscsi_transfer.specs.Task.{first, is_due, is_asked}
+use Rattle.iscsi_transfer.specs.WriteData.{first, is_due, is_asked}
 use Rattle.iscsi_transfer.specs.declared.progress.Ask.{Ask}
 use Rattle.scsi_unit.specs.Units.{numbers_of}
 use Rattle.iscsi_session.specs.declared.transfers.Transfer.{Transfer}
@@ -349,7 +349,7 @@ owes_still {c} {f} {past} {after} m lawful o = record {
   asks = λ k h. o.asks k (m.asks k h);
   answers = λ k h. o.answers k (m.answers k h);
   discovery = λ e. none_in (unfinished after)
-      (λ k h. only_none (unfinished past) (o.discovery (ap (λ (p : Params). p.target) (sym m.params) ∙ e)) k (m.commands k h));
+      (λ k h. only_none (unfinished past) (o.discovery (ap (λ (p : SessionParams). p.target) (sym m.params) ∙ e)) k (m.commands k h));
 }
 
 owes_nothing : {past : Past} → IsLawful past → NothingIsDue past → Owes None None past
@@ -608,7 +608,7 @@ unfolding ready
 discovery_done past lawful n e =
     rw (none_in (queue past) (λ k h. only_none (unfinished past) (n.discovery e) k (queue_unfinished past k lawful.below h))) refl
 
-begun_due : (params : Params) → NothingIsDue (begun params)
+begun_due : (params : SessionParams) → NothingIsDue (begun params)
 unfolding due left taken unfinished asking drained_functions
 begun_due params = record { acts = refl; asks = refl; answers = refl; discovery = λ e. refl }
 

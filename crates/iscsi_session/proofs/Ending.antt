@@ -20,8 +20,8 @@ use Rattle.std.specs.List.{list_any, range_with_len}
 use Rattle.std.proofs.lemmas.List.{nil_from_length, get_or_past}
 use Rattle.std.proofs.lemmas.List.FromFn.{get_or-map-range_with_len, length-map-range_with_len}
 use Rattle.iscsi_pdu.specs.TaskManagement.{ref_cmd_sn}
-use Rattle.iscsi_session.specs.declared.scope.Scope.{Scope}
-use Rattle.iscsi_session.specs.declared.scope.Scope.TheVariants as scopes
+use Rattle.iscsi_session.specs.declared.abort_scope.Scope.{Scope}
+use Rattle.iscsi_session.specs.declared.abort_scope.Scope.TheVariants as scopes
 use Rattle.iscsi_pdu.specs.Frames.{Frame}
 use Rattle.iscsi_session.specs.declared.aborted.Aborted.{Aborted}
 use Rattle.iscsi_session.specs.declared.aborted.Aborted.TheVariants.{Live, Missing, Plugged, Nothing}

@@ -5,7 +5,7 @@ use Rattle.std.proofs.lemmas.Bool.{eq-eqb, ne_eqb, false_from_ne_true, or_parts}
 use Rattle.std.proofs.lemmas.List.Elements.{All-push, All-map}
 use Rattle.iscsi_pdu.specs.Header.{is_immediate, initiator_task_tag}
 use Rattle.iscsi_pdu.specs.Frames.{Frame}
-use Rattle.iscsi_transfer.specs.Task.{TaskState, remembered as task_of, is_whole, with_data, blank}
+use Rattle.iscsi_transfer.specs.WriteData.{WriteDataState, remembered as task_of, is_whole, with_data, blank}
 use Rattle.iscsi_transfer.proofs.Blank.{asked_blank, fault_blank, with_blank}
 use Rattle.iscsi_session.proofs.Places.{Located, located, in_get, same_all, index_map, set_map, remove_map, missing, found_or_not, found_self, count_map, or_known, one_more, drain_at, LocatedAmong, located_among, same_drains, set_drains}
 use Rattle.iscsi_transfer.proofs.Standing.{remembered-accepted}
@@ -163,7 +163,7 @@ fed_there : (past : Past) (k : ℕ) (frame : Frame)
 unfolding task_at outs_of tags_of
 fed_there past k frame =
     ap (from_outs past k) (one_more true (λ d. d.command) (λ d. d.frame) (out_of k frame) k past.data_outs (eq-eqb k k refl))
-    ∙ ap (λ (t : TaskState). record (transfer_of past k) { task = t }) (remembered-accepted (data_past past k) frame)
+    ∙ ap (λ (t : WriteDataState). record (transfer_of past k) { task = t }) (remembered-accepted (data_past past k) frame)
 
 pub fed_elsewhere : (past : Past) (k j : ℕ) (frame : Frame) → j ≢ k → transfer_of (feeding k frame past) j ≡ transfer_of past j
 unfolding task_at outs_of tags_of
@@ -236,7 +236,7 @@ fed_drained past frame (Some i) drained found =
     ap (λ (x : Drained). set (map (drained_of past) (drains_of past)) i
     (record x { transfer = record x.transfer { task = blank (with_data x.transfer.task frame) } }))
     (index_map (drained_of past) no_drained (drains_of past) i d found.2)
-    ∙ ap (λ (task : TaskState).
+    ∙ ap (λ (task : WriteDataState).
     (let x : Drained = record { function = (frame_of past.came d.function).header; transfer = record (transfer_of past k) { task = task } } in
     set (map (drained_of past) (drains_of past)) i x)) (with_blank (transfer_of past k).task frame)
     ∙ ap (λ (t : Transfer). set (map (drained_of past) (drains_of past)) i (drained_with (frame_of past.came d.function).header t))

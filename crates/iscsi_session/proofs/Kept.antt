@@ -12,7 +12,7 @@ use Rattle.iscsi_session.specs.Transfers.{tag_of, drains_of, outs_of, tags_of, t
 use Rattle.iscsi_session.specs.State.{AreDistinct, AreDrained, transfer_of, drained_of, transfers_of, begun_transfer}
 use Rattle.iscsi_session.proofs.Left.{filter_cong, map_cong, left_more, left_swap, left_append, left_all, left_one, in_at, in_left, in_left_back, in_filter, in_filter_back, in_range, passes_in, below_of, distinct_left, distinct_filter, distinct_range, range_below, range_more, distinct_push, distinct_map_filter, in_front, not_gone}
 use Rattle.iscsi_session.proofs.Taken.{request_before, request_new}
-use Rattle.iscsi_transfer.specs.Task.{remembered as task_of}
+use Rattle.iscsi_transfer.specs.WriteData.{remembered as task_of}
 use Rattle.iscsi_transfer.specs.Payload.{begun}
 use Rattle.iscsi_session.specs.declared.transfers.Transfer.{Transfer}
 use Rattle.iscsi_session.specs.Drained.{Drained, blanked}

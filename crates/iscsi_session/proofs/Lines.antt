@@ -15,7 +15,7 @@ use Rattle.iscsi_order.specs.Serial.{distance}
 use Rattle.std.proofs.Math.ListN.{get_or-map}
 use Rattle.iscsi_session.specs.State.{is_vacant, holding, takes_next, takes, takes_all, TaskLists, one_fewer, window_of}
 use Rattle.iscsi_session.proofs.Left.{both_true, prefix_marks}
-use Rattle.iscsi_session.specs.Tasks.{requests_at, held_at, keys_in, times, holds, AreLines, lists_of, moves, moves_all}
+use Rattle.iscsi_session.specs.RequestQueue.{requests_at, held_at, keys_in, times, holds, AreLines, lists_of, moves, moves_all}
 use Rattle.iscsi_pdu.specs.Header.{is_immediate}
 use Rattle.iscsi_order.specs.Window.{window}
 use Rattle.iscsi_session.specs.Functions.{plug}

@@ -8,7 +8,7 @@ use Rattle.iscsi_pdu.specs.Header.{opcode_of, opcode_number, is_immediate, cmd_s
 use Rattle.iscsi_pdu.specs.Frames.{Frame}
 use Rattle.iscsi_pdu.specs.declared.header.Opcode.{Opcode}
 use Rattle.iscsi_pdu.specs.declared.header.Opcode.TheVariants as opcodes
-use Rattle.iscsi_login.specs.declared.params.Params.{Params}
+use Rattle.iscsi_login.specs.declared.session_params.SessionParams.{SessionParams}
 use Rattle.iscsi_exchange.specs.ExchangeState.{ExchangeState, no_exchange}
 use Rattle.iscsi_exchange.specs.Exchange.{hears}
 use Rattle.iscsi_session.specs.Requests.{Request, Past, frame_of, is_command, is_function, functions, left, numbered, numbers, due, queue, frames_of, unfinished, statuses, bearing, answering, accepted, begun, taken}
@@ -28,7 +28,7 @@ use Rattle.iscsi_order.specs.Serial.{distance}
 use Rattle.iscsi_order.specs.Stat.{stat_sn}
 use Rattle.iscsi_session.specs.Judging.{is_fresh}
 use Rattle.iscsi_session.specs.declared.transfers.Transfer.{Transfer}
-use Rattle.iscsi_transfer.specs.Task.{TaskState, remembered as task_of}
+use Rattle.iscsi_transfer.specs.WriteData.{WriteDataState, remembered as task_of}
 use Rattle.iscsi_transfer.specs.Payload.{begun as begun_data}
 use Rattle.iscsi_session.specs.State.{SessionState, TaskLists, TransferList, no_tasks, transfers_of, functions_of, begun_transfer, kept, frame_numbered, standing, tasks_of, window_of, IsLawful, Stands, is_vacant, is_vacant_for, holding, takes_all, remembered}
 use Rattle.iscsi_session.proofs.Standing.{numbered_standing}
@@ -59,10 +59,11 @@ pub exchange_acted : (past after : Past) (k : ℕ) → after.params ≡ past.par
 unfolding exchange_of
 exchange_acted past after k params came acted = grind (arith, map-append, fold-append)
 
-pub exchange_other : (params : Params) (exchange : ExchangeState) (frame : Frame) → is_text frame ≡ false → exchange_behind params exchange frame ≡ exchange
+pub exchange_other : (params : SessionParams) (exchange : ExchangeState) (frame : Frame) → is_text frame ≡ false
+    → exchange_behind params exchange frame ≡ exchange
 exchange_other params exchange frame e = rw e refl
 
-pub exchange_text : (params : Params) (exchange : ExchangeState) (frame : Frame) → is_text frame ≡ true
+pub exchange_text : (params : SessionParams) (exchange : ExchangeState) (frame : Frame) → is_text frame ≡ true
     → exchange_behind params exchange frame ≡ (hears exchange frame params).exchange
 exchange_text params exchange frame e = rw e refl
 
@@ -219,7 +220,7 @@ stands_function past state frame s free f tag =
     (p.exchange_is ∙ sym (exchange_joined past _ s.lawful.below))
 
 -- a SCSI Command, with the data that it brings
-pub stands_begun : (past : Past) (state : SessionState) (frame : Frame) (task : TaskState) → Stands past state → is_vacant_for state.tasks frame ≡ true
+pub stands_begun : (past : Past) (state : SessionState) (frame : Frame) (task : WriteDataState) → Stands past state → is_vacant_for state.tasks frame ≡ true
     → is_command frame ≡ true → HasFreeTag past frame → task ≡ task_of (begun_data state.params.values frame)
     → Stands (accepted frame past) (record state {
       tasks = kept frame state.tasks;
@@ -228,16 +229,16 @@ pub stands_begun : (past : Past) (state : SessionState) (frame : Frame) (task : 
 stands_begun past state frame task s free e tag is =
     let k = kept_by _ past state frame refl s free tag in
     let p = parts past state s in
-    let same : task ≡ task_of (begun_data past.params.values frame) = is ∙ ap (λ (x : Params). task_of (begun_data x.values frame)) p.params_is in
+    let same : task ≡ task_of (begun_data past.params.values frame) = is ∙ ap (λ (x : SessionParams). task_of (begun_data x.values frame)) p.params_is in
     stands_parts past (accepted frame past) state (kept frame state.tasks) _ state.functions state.exchange s k.0 refl refl k.1
     (ap (λ (t : TransferList). record t { list = t.list ++ begun_transfer frame.header task ∷ [] }) p.transfers_is
-    ∙ ap (λ (t : TaskState). record (transfers_of past) { list = (transfers_of past).list ++ begun_transfer frame.header t ∷ [] }) same
+    ∙ ap (λ (t : WriteDataState). record (transfers_of past) { list = (transfers_of past).list ++ begun_transfer frame.header t ∷ [] }) same
     ∙ sym (transfers_joined true past _ e (finished_below past s.lawful) (removed_below past s.lawful) s.lawful.fed s.lawful.asked s.lawful.drained))
     (p.functions_is ∙ sym (same_headers past s.lawful frame (command_no_function frame e)))
     (p.exchange_is ∙ sym (exchange_joined past _ s.lawful.below))
 
 -- ---- a session at its beginning
 
-pub begun_tasks : (params : Params) → params.first_cmd_sn < 2 ^ 32 → no_tasks params.first_cmd_sn ≡ tasks_of (begun params)
+pub begun_tasks : (params : SessionParams) → params.first_cmd_sn < 2 ^ 32 → no_tasks params.first_cmd_sn ≡ tasks_of (begun params)
 unfolding tasks_of due queue left taken taken_numbers standing
 begun_tasks params fits = grind arith

@@ -19,7 +19,7 @@ use Rattle.iscsi_pdu.specs.declared.stamp.Stamp.{Stamp}
 use Rattle.iscsi_transfer.specs.declared.data_in.Piece.{Piece}
 use Rattle.iscsi_transfer.specs.DataIn.{piece_count, part_of}
 use Rattle.iscsi_transfer.specs.Laws.{Lies}
-use Rattle.iscsi_transfer.specs.Task.{TaskState, most_wanted, ask, lacks_data, allowed, due_asks}
+use Rattle.iscsi_transfer.specs.WriteData.{WriteDataState, most_wanted, ask, lacks_data, allowed, due_asks}
 use Rattle.iscsi_transfer.specs.declared.progress.Ask.{Ask}
 use Rattle.iscsi_transfer.proofs.Pieces.{pieces_are_joined}
 use Rattle.iscsi_transfer.proofs.Counts.{pieces_are_counted, less_has_fewer, count_fits}
@@ -42,7 +42,7 @@ use Rattle.iscsi_pdu.specs.declared.header.Opcode.TheVariants as opcodes
 use Rattle.iscsi_pdu.specs.declared.reject.RejectReason.{RejectReason}
 use Rattle.iscsi_pdu.specs.declared.reject.RejectReason.TheVariants as reasons
 use Rattle.iscsi_pdu.specs.declared.task_management_response.TaskResult.{TaskResult}
-use Rattle.iscsi_login.specs.declared.params.Params.{Params}
+use Rattle.iscsi_login.specs.declared.session_params.SessionParams.{SessionParams}
 use Rattle.iscsi_exchange.specs.ExchangeState.{ExchangeState}
 use Rattle.iscsi_exchange.specs.Exchange.{TextPiece, IsShort}
 use Rattle.iscsi_exchange.proofs.Short.{hears_short}
@@ -200,7 +200,7 @@ text_long : (numbers : Stamp) (piece : Option TextPiece) (frame : Frame) → len
 text_long numbers None frame whole short = omega (arith, reject_long reasons.InvalidField numbers frame whole)
 text_long numbers (Some piece) frame whole short = omega (arith, short, segment_long piece.text)
 
-logout_long : (numbers : Stamp) (params : Params) (frame : Frame) → length frame.header ≡ header_length
+logout_long : (numbers : Stamp) (params : SessionParams) (frame : Frame) → length frame.header ≡ header_length
     → length (spelling (logout_answer numbers params frame)) ≤ 99
 logout_long numbers params frame whole = grind (arith, reject_long reasons.InvalidField numbers frame whole)
 
@@ -216,7 +216,7 @@ ping_long numbers values frame = by_tag (initiator_task_tag frame.header == rese
         rw e (omega (arith, one_spelled answer, long))
 
 -- a request that is no SCSI Command is answered no more than this
-pub most_answered : (o : Opcode) (waited : List ℕ) (result : TaskResult) (exchange : ExchangeState) (numbers : Stamp) (params : Params) (frame : Frame)
+pub most_answered : (o : Opcode) (waited : List ℕ) (result : TaskResult) (exchange : ExchangeState) (numbers : Stamp) (params : SessionParams) (frame : Frame)
     → length frame.header ≡ header_length → length (flat_map spelling (act_answers_by o waited result exchange numbers params frame)) ≤ 262240
 most_answered opcodes.ScsiCommand waited result exchange numbers params frame whole = omega arith
 most_answered opcodes.NopOut waited result exchange numbers params frame whole = ping_long numbers params.values frame
@@ -306,7 +306,7 @@ many_by true asks n few = few
 many_by false asks n few = omega arith
 
 -- of no command are more due than it has bursts
-pub few_asks : (task : TaskState) → 512 ≤ task.burst → length (due_asks task) ≤ 2048
+pub few_asks : (task : WriteDataState) → 512 ≤ task.burst → length (due_asks task) ≤ 2048
 few_asks task least =
     let short = short_by (nat_le task.expected most_wanted) task.expected task.unsolicited (leb-true task.expected most_wanted) in
     many_by (lacks_data task) (map (ask task) (range_with_len task.sent (allowed task - task.sent))) 2048

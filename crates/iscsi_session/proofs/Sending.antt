@@ -6,7 +6,7 @@ use Rattle.iscsi_pdu.specs.Answer.{spelling}
 use Rattle.iscsi_pdu.specs.declared.answer.Answer.TheVariants as answers
 use Rattle.iscsi_pdu.specs.declared.r2t.R2t.{R2t}
 use Rattle.iscsi_pdu.specs.declared.stamp.Stamp.{Stamp}
-use Rattle.iscsi_transfer.specs.Task.{TaskState, first, due_asks, with_asked}
+use Rattle.iscsi_transfer.specs.WriteData.{WriteDataState, first, due_asks, with_asked}
 use Rattle.iscsi_transfer.specs.declared.progress.Ask.{Ask}
 use Rattle.iscsi_session.specs.declared.transfers.Transfer.{Transfer}
 use Rattle.iscsi_session.specs.Drained.{Drained}
@@ -42,7 +42,7 @@ a_first [] ask e = absurd cc
 a_first (other ∷ asks) ask e = let same : other ≡ ask = cc in (asks, ap (λ (a : Ask). a ∷ asks) same)
 
 none_sent : (transfer : Transfer) → sent_to [] transfer ≡ transfer
-none_sent transfer = ap (λ (t : TaskState). record transfer { task = t }) (sent_none transfer.task)
+none_sent transfer = ap (λ (t : WriteDataState). record transfer { task = t }) (sent_none transfer.task)
 
 pub sent_nothing : (i : ℕ) (transfers : TransferList) → transfers.next_tag < 0xFFFFFFFF → sent_at i [] transfers ≡ transfers
 sent_nothing i transfers below =
@@ -53,7 +53,7 @@ sent_nothing i transfers below =
 
 both_sent : (r2t : R2t) (r2ts : List R2t) (transfer : Transfer) → sent_to r2ts (sent_to (r2t ∷ []) transfer) ≡ sent_to (r2t ∷ r2ts) transfer
 both_sent r2t r2ts transfer =
-    ap (λ (t : TaskState). record transfer { task = t }) (sent_then transfer.task r2t.target_transfer_tag (map transfer_tag r2ts))
+    ap (λ (t : WriteDataState). record transfer { task = t }) (sent_then transfer.task r2t.target_transfer_tag (map transfer_tag r2ts))
 
 pub sent_behind : (i : ℕ) (r2t : R2t) (r2ts : List R2t) (transfers : TransferList) → i < length transfers.list
     → sent_at i r2ts (sent_at i (r2t ∷ []) transfers) ≡ sent_at i (r2t ∷ r2ts) transfers
@@ -90,7 +90,7 @@ same_place (x ∷ l) (suc i) d lt = same_place l i d (omega (arith, lt))
 
 -- the same by what each call left
 pub sent_rest : (next : ℕ) (items : List Transfer) (drains : List Drained) (tag i : ℕ) (numbers : Stamp) (ask : Ask) (transfer : Transfer)
-    {task : TaskState} {r2t : R2t} → i < length items → first (due_asks (transfer_at items i).task) ≡ Some ask → transfer ≡ transfer_at items i
+    {task : WriteDataState} {r2t : R2t} → i < length items → first (due_asks (transfer_at items i).task) ≡ Some ask → transfer ≡ transfer_at items i
     → task ≡ with_asked (tag ∷ []) transfer.task → next ≡ (tag + 1) % 0xFFFFFFFF → r2t ≡ r2t_for transfer.header tag numbers ask
     → r2ts_at (record { next_tag = tag; list = items; drains = drains }) numbers i
     ≡ r2t ∷ r2ts_at (record { next_tag = next; list = set items i (record { header = transfer.header; task = task }); drains = drains }) numbers i

@@ -23,7 +23,7 @@ use Rattle.scsi_sense.specs.Done.{Outcome}
 use Rattle.scsi_sense.specs.Nexus.{NexusName}
 use Rattle.scsi_unit.specs.CameOut.{CameOut}
 use Rattle.iscsi_pdu.specs.declared.stamp.Stamp.{Stamp}
-use Rattle.iscsi_login.specs.declared.params.Params.{Params}
+use Rattle.iscsi_login.specs.declared.session_params.SessionParams.{SessionParams}
 use Rattle.iscsi_login.specs.declared.values.Values.{Values}
 use Rattle.iscsi_transfer.specs.declared.data_in.Piece.{Piece}
 use Rattle.iscsi_session.specs.Answers.{data_in, data_answers, scsi_answer, command_answers}
@@ -249,12 +249,12 @@ module _ (old new : SessionState) (before waiting : List ℕ) (units after : Uni
       ∙ ap (frames_of work.past.came) is in
       let same : frame ≡ frame_of work.past.came k = cc in
       let params = (parts work.past old st).params_is in
-      let agreed : nexus ≡ work.past.params.nexus = named ∙ ap (λ (x : Params). x.nexus) params in
+      let agreed : nexus ≡ work.past.params.nexus = named ∙ ap (λ (x : SessionParams). x.nexus) params in
       let payload : payload_in old (frame_of work.past.came k) ≡ payload_of work.past k = payload_is work.past old k st
       (first_unfinished work.past k others st.lawful is) in (
         refl,
         finish_leaves work k others old new before waiting units after comings came done s is
-            (ap (λ (x : Params). next_coming x.target comings) (sym params) ∙ next)
+            (ap (λ (x : SessionParams). next_coming x.target comings) (sym params) ∙ next)
             (carried ∙ ap (λ (n : NexusName). carried_out came units n frame (payload_in old frame)) agreed
             ∙ ap (λ (f : Frame). carried_out came units work.past.params.nexus f (payload_in old f)) same
             ∙ ap (carried_out came units work.past.params.nexus (frame_of work.past.came k)) payload) answers,

@@ -8,7 +8,7 @@ use Rattle.iscsi_pdu.specs.declared.header.Opcode.{Opcode}
 use Rattle.iscsi_pdu.specs.declared.header.Opcode.TheVariants as opcodes
 use Rattle.iscsi_pdu.specs.declared.reject.RejectReason.TheVariants as reasons
 use Rattle.iscsi_login.specs.declared.values.Values.{Values}
-use Rattle.iscsi_transfer.specs.Task.{command_fault}
+use Rattle.iscsi_transfer.specs.WriteData.{command_fault}
 use Rattle.iscsi_session.specs.declared.verdict.Verdict.{Verdict}
 use Rattle.iscsi_session.specs.declared.verdict.Verdict.TheVariants.{Ignored, Rejected, Violating, Accepted}
 use Rattle.iscsi_session.specs.Requests.{Past, is_command, is_function}

@@ -10,7 +10,7 @@ use Rattle.iscsi_order.specs.WindowState.{WindowKeys}
 use Rattle.iscsi_session.specs.Requests.{is_in}
 use Rattle.iscsi_session.specs.Functions.{FunctionReach}
 use Rattle.iscsi_session.specs.State.{void_if, TaskLists, stays, counts_out, reaches_frame, swept_one}
-use Rattle.iscsi_session.specs.Tasks.{requests_at, held_at, keys_in, times, holds, AreLines, Voids, lists_of}
+use Rattle.iscsi_session.specs.RequestQueue.{requests_at, held_at, keys_in, times, holds, AreLines, Voids, lists_of}
 use Rattle.iscsi_session.proofs.Left.{in_at, is_in_append}
 use Rattle.iscsi_session.proofs.Places.{or_known}
 use Rattle.iscsi_pdu.specs.Header.{is_immediate}

@@ -15,7 +15,7 @@ use Rattle.iscsi_pdu.specs.declared.logout_response.LogoutResult.TheVariants as 
 use Rattle.iscsi_pdu.specs.declared.answer.Answer.{Answer}
 use Rattle.iscsi_pdu.specs.declared.answer.Answer.TheVariants as answers
 use Rattle.iscsi_pdu.specs.declared.stamp.Stamp.{Stamp}
-use Rattle.iscsi_login.specs.declared.params.Params.{Params}
+use Rattle.iscsi_login.specs.declared.session_params.SessionParams.{SessionParams}
 use Rattle.iscsi_login.specs.declared.values.Values.{Values}
 use Rattle.iscsi_session.specs.Requests.{Past, frame_of, is_function, moved, removing, draining, answering, stamp}
 use Rattle.iscsi_session.specs.Judging.{reserved_tag, reject}
@@ -35,7 +35,7 @@ ping_answers numbers_now values frame =
     }) ∷ []
 
 -- RFC 7143 §11.14.1: the session is closed, or its one connection by its CID
-abbrev pub closes : Params → Frame → Bool
+abbrev pub closes : SessionParams → Frame → Bool
 closes params frame = logout_reason frame.header == 0 || logout_reason frame.header == 1 && connection_id frame.header == params.connection_id
 
 abbrev pub logout_response : LogoutResult → Stamp → Frame → Answer
@@ -43,7 +43,7 @@ logout_response result numbers_now frame = answers.LogoutResponse
     (record { initiator_task_tag = initiator_task_tag frame.header; stamp = numbers_now; response = result })
 
 -- RFC 7143 §11.15.1: the answer to a Logout
-abbrev pub logout_answer : Stamp → Params → Frame → Answer
+abbrev pub logout_answer : Stamp → SessionParams → Frame → Answer
 logout_answer numbers_now params frame =
     if closes params frame then logout_response results.Closed numbers_now frame
     else if logout_reason frame.header == 1 then logout_response results.CidNotFound numbers_now frame
@@ -56,7 +56,7 @@ acted_answers [] numbers_now result function = function_answer numbers_now resul
 acted_answers (k ∷ others) numbers_now result function = []
 
 -- by the opcode: a request of any other kind is not accepted
-abbrev pub act_answers_by : Opcode → List ℕ → TaskResult → ExchangeState → Stamp → Params → Frame → List Answer
+abbrev pub act_answers_by : Opcode → List ℕ → TaskResult → ExchangeState → Stamp → SessionParams → Frame → List Answer
 act_answers_by opcodes.ScsiCommand waited result exchange numbers_now params frame = []
 act_answers_by opcodes.NopOut waited result exchange numbers_now params frame = ping_answers numbers_now params.values frame
 act_answers_by opcodes.Logout waited result exchange numbers_now params frame = logout_answer numbers_now params frame ∷ []
@@ -98,7 +98,7 @@ acted luns k past = answering (act_answers luns k past) (behind luns k past (end
 abbrev pub ordered : ℕ → Past → List (List ℕ)
 ordered k past = if is_function (frame_of past.came k) then (frame_of past.came k).header ∷ [] else []
 
-abbrev pub ends_by : Opcode → Params → Frame → Bool
+abbrev pub ends_by : Opcode → SessionParams → Frame → Bool
 ends_by opcodes.ScsiCommand params frame = false
 ends_by opcodes.NopOut params frame = false
 ends_by opcodes.Logout params frame = closes params frame
@@ -110,5 +110,5 @@ ends_by opcodes.Snack params frame = false
 ends_by (opcodes.Other n) params frame = false
 
 -- the session ends with this request
-unfoldable pub ends : Params → Frame → Bool
+unfoldable pub ends : SessionParams → Frame → Bool
 ends params frame = ends_by (opcode_of (opcode_number frame.header)) params frame

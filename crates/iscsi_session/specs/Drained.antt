@@ -1,6 +1,6 @@
 -- The data of a SCSI Command that was removed, for which a function waits.
 use Rattle.std.specs.Prelude.{ℕ, List}
-use Rattle.iscsi_transfer.specs.Task.{blank}
+use Rattle.iscsi_transfer.specs.WriteData.{blank}
 use Rattle.iscsi_session.specs.declared.transfers.Transfer.{Transfer}
 
 -- the same without the data: zeros in its place

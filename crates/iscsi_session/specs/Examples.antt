@@ -8,11 +8,11 @@ use Rattle.iscsi_pdu.specs.declared.reject.RejectReason.TheVariants as reasons
 use Rattle.iscsi_pdu.specs.declared.logout_response.LogoutResult.TheVariants as results
 use Rattle.iscsi_pdu.specs.declared.task_management_response.TaskResult.TheVariants.{Complete, NoTask, NoUnit}
 use Rattle.iscsi_pdu.specs.declared.stamp.Stamp.{Stamp}
-use Rattle.iscsi_login.specs.declared.params.Params.{Params}
+use Rattle.iscsi_login.specs.declared.session_params.SessionParams.{SessionParams}
 use Rattle.iscsi_login.specs.Values.{default_values}
 use Rattle.iscsi_order.specs.Window as order
 use Rattle.iscsi_session.specs.declared.verdict.Verdict.TheVariants.{Ignored, Dropped, Rejected, Violating, Accepted}
-use Rattle.iscsi_transfer.specs.Task.{remembered as task_of, fault_of}
+use Rattle.iscsi_transfer.specs.WriteData.{remembered as task_of, fault_of}
 use Rattle.iscsi_session.specs.Requests.{functions, Past, begun, left, taken, taken_at, held, due, queue, unfinished, stamp, numbers}
 use Rattle.iscsi_session.specs.Transfers.{outs_of, tags_of, task_at, drained, asking, asked_by, r2ts_of}
 use Rattle.iscsi_session.specs.Judging.{is_refused, verdict, verdict_by, task_verdict, judged, reject}
@@ -65,7 +65,7 @@ data_out tag = request 0x05 0x80 (low tag) (low 0)
 -- ---- sessions
 
 -- the first CmdSN, after a login of one answer; CID 0; the units of the target are 0 and 1
-abbrev pub params_from : ℕ → Params
+abbrev pub params_from : ℕ → SessionParams
 params_from first = record {
   nexus = record { initiator_name = 0x61 ∷ []; isid = replicate 6 0 };
   target = Some 0;

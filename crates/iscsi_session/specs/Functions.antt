@@ -15,8 +15,8 @@ use Rattle.iscsi_pdu.specs.declared.stamp.Stamp.{Stamp}
 use Rattle.iscsi_order.specs.Window as order
 use Rattle.iscsi_order.specs.Serial.{is_before}
 use Rattle.iscsi_session.specs.Scope.{scope_of, waits_by}
-use Rattle.iscsi_session.specs.declared.scope.Scope.{Scope}
-use Rattle.iscsi_session.specs.declared.scope.Scope.TheVariants as scopes
+use Rattle.iscsi_session.specs.declared.abort_scope.Scope.{Scope}
+use Rattle.iscsi_session.specs.declared.abort_scope.Scope.TheVariants as scopes
 use Rattle.iscsi_session.specs.declared.aborted.Aborted.{Aborted}
 use Rattle.iscsi_session.specs.declared.aborted.Aborted.TheVariants.{Live, Missing, Plugged, Nothing}
 use Rattle.iscsi_session.specs.Requests.{Past, frame_of, place_of, numbers, unfinished, pending, functions as unfinished_functions, stamp, answering}

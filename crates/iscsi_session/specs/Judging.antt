@@ -10,9 +10,9 @@ use Rattle.iscsi_pdu.specs.declared.answer.Answer.{Answer}
 use Rattle.iscsi_pdu.specs.declared.answer.Answer.TheVariants as answers
 use Rattle.iscsi_pdu.specs.declared.stamp.Stamp.{Stamp}
 use Rattle.iscsi_pdu.specs.LogoutRequest.{logout_reason}
-use Rattle.iscsi_login.specs.declared.params.Params.{Params}
+use Rattle.iscsi_login.specs.declared.session_params.SessionParams.{SessionParams}
 use Rattle.iscsi_order.specs.Window as order
-use Rattle.iscsi_transfer.specs.Task.{command_fault}
+use Rattle.iscsi_transfer.specs.WriteData.{command_fault}
 use Rattle.iscsi_login.specs.declared.values.Values.{Values}
 use Rattle.iscsi_session.specs.Requests.{Past, is_command, numbers, unfinished, functions, accepted, answering, stamp}
 use Rattle.iscsi_session.specs.Transfers.{command_with, task_at, verdict_on, fed}
@@ -79,7 +79,7 @@ is_none_of_discovery opcodes.Text frame = false
 is_none_of_discovery opcodes.Snack frame = false
 is_none_of_discovery (opcodes.Other n) frame = false
 
-unfoldable pub is_refused : Params → Frame → Bool
+unfoldable pub is_refused : SessionParams → Frame → Bool
 is_refused params frame = is_none params.target && is_none_of_discovery (opcode_of (opcode_number frame.header)) frame
 
 -- the opcode is checked first

@@ -2,7 +2,7 @@
 use Rattle.std.specs.Prelude.{◌≡◌, All, ℕ, ◌<◌, ◌^◌, List, [], ◌∷◌, ◌++◌, Bool, true, None}
 use Rattle.iscsi_pdu.specs.Header.{cmd_sn}
 use Rattle.iscsi_pdu.specs.Frames.{Frame}
-use Rattle.iscsi_login.specs.declared.params.Params.{Params}
+use Rattle.iscsi_login.specs.declared.session_params.SessionParams.{SessionParams}
 use Rattle.iscsi_session.specs.Requests.{Request, Past, begun, left, commands, others, taken, due, queue, unfinished, stamp, moved, finished, removing}
 use Rattle.iscsi_session.specs.Transfers.{asks_of, asking, r2ts_of, asked}
 use Rattle.iscsi_session.specs.Functions.{drained_functions}
@@ -34,7 +34,7 @@ DoneInOrder = (past : Past) (k : ℕ) (rest : List ℕ) → IsLawful past → qu
 
 -- a session begins lawful, and each run of its steps keeps it lawful, whatever fails
 pub record StepsAreLawful : Type 0 where
-  pub begun : (params : Params) → IsLawful (begun params)
+  pub begun : (params : SessionParams) → IsLawful (begun params)
   pub served : (fails : Step → Bool) (place : ℕ) (frame : Frame) (work : Work) → cmd_sn frame.header < 2 ^ 32 → IsLawful work.past
       → IsLawful (served fails place frame work).past
   pub settled : (fails : Step → Bool) (place : ℕ) (work : Work) → IsLawful work.past → IsLawful (settled fails place work).past
@@ -61,7 +61,7 @@ pub record NothingIsDue (past : Past) : Type 0 where
 -- fails, and after commands are removed. After `settled` no command can be done either; in a discovery session none
 -- ever can.
 pub record NothingStaysDue : Type 0 where
-  pub begun : (params : Params) → NothingIsDue (begun params)
+  pub begun : (params : SessionParams) → NothingIsDue (begun params)
   pub served : (fails : Step → Bool) (place : ℕ) (frame : Frame) (work : Work) → cmd_sn frame.header < 2 ^ 32 → IsLawful work.past
       → NothingIsDue work.past → (served fails place frame work).goes_on ≡ true → NothingIsDue (served fails place frame work).past
   pub done : (fails : Step → Bool) (place : ℕ) (work : Work) → IsLawful work.past → (settled fails place work).goes_on ≡ true

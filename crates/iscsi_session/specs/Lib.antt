@@ -9,7 +9,7 @@ pub use Rattle.iscsi_order.specs.WindowState
 pub use Rattle.iscsi_order.specs.Stat
 pub use Rattle.iscsi_transfer.specs.DataIn
 pub use Rattle.iscsi_transfer.specs.Payload
-pub use Rattle.iscsi_transfer.specs.Task
+pub use Rattle.iscsi_transfer.specs.WriteData
 pub use Rattle.scsi_sense.specs.Done
 pub mod Requests
 pub mod Transfers
@@ -27,7 +27,7 @@ pub mod Drained
 pub mod State
 pub mod Draining
 pub mod Runs
-pub mod Tasks
+pub mod RequestQueue
 pub mod Weight
 pub mod Laws
 pub mod Examples

@@ -7,7 +7,7 @@ use Rattle.iscsi_pdu.specs.Frames.{Frame}
 use Rattle.iscsi_pdu.specs.declared.answer.Answer.{Answer}
 use Rattle.iscsi_pdu.specs.declared.answer.Answer.TheVariants as answers
 use Rattle.iscsi_pdu.specs.declared.stamp.Stamp.{Stamp}
-use Rattle.iscsi_login.specs.declared.params.Params.{Params}
+use Rattle.iscsi_login.specs.declared.session_params.SessionParams.{SessionParams}
 use Rattle.iscsi_order.specs.Window as order
 use Rattle.iscsi_order.specs.Stat.{stat_sn}
 
@@ -36,7 +36,7 @@ pub record Drain : Type 0 where
 
 -- A request is named by its place among those that came.
 pub record Past : Type 0 where
-  pub params : Params
+  pub params : SessionParams
   -- the requests that were accepted, in the order in which they came
   pub came : List Request
   -- the data that was accepted for them, and the R2Ts that were sent, each in order
@@ -52,7 +52,7 @@ pub record Past : Type 0 where
   -- what was answered in full feature phase, in order
   pub answers : List Answer
 
-abbrev pub begun : Params → Past
+abbrev pub begun : SessionParams → Past
 begun params = record {
   params = params;
   came = [];

@@ -4,8 +4,8 @@ use Rattle.scsi_sense.specs.declared.condition.Attention.{Attention}
 use Rattle.scsi_sense.specs.declared.condition.Attention.TheVariants.{CommandsClearedByAnotherInitiator, BusDeviceResetFunctionOccurred}
 use Rattle.iscsi_pdu.specs.declared.task_management.TaskFunction.{TaskFunction}
 use Rattle.iscsi_pdu.specs.declared.task_management.TaskFunction.TheVariants as functions
-use Rattle.iscsi_session.specs.declared.scope.Scope.{Scope}
-use Rattle.iscsi_session.specs.declared.scope.Scope.TheVariants as scopes
+use Rattle.iscsi_session.specs.declared.abort_scope.Scope.{Scope}
+use Rattle.iscsi_session.specs.declared.abort_scope.Scope.TheVariants as scopes
 
 -- the SCSI Commands that it removes
 abbrev pub scope_of : TaskFunction → Scope

@@ -3,7 +3,7 @@ use Rattle.std.specs.Prelude.{◌≡◌, All, ℕ, zero, suc, ◌+◌, ◌-◌, 
 use Rattle.std.specs.List.{range_with_len, prefix_len, list_any}
 use Rattle.iscsi_pdu.specs.Header.{is_immediate, cmd_sn, initiator_task_tag}
 use Rattle.iscsi_pdu.specs.Frames.{Frame}
-use Rattle.iscsi_login.specs.declared.params.Params.{Params}
+use Rattle.iscsi_login.specs.declared.session_params.SessionParams.{SessionParams}
 use Rattle.iscsi_order.specs.Window as order
 use Rattle.iscsi_order.specs.WindowState as windows
 use Rattle.iscsi_order.specs.Serial.{distance}
@@ -11,7 +11,7 @@ use Rattle.iscsi_order.specs.Stat.{stat_sn}
 use Rattle.iscsi_session.specs.Requests.{Request, Past, Drain, has_number, numbers, numbered, counted, over, left, is_command, commands, others, is_in, frame_of, taken, due, queue, frames_of, unfinished, is_function, functions, statuses}
 use Rattle.iscsi_pdu.specs.declared.r2t.R2t.{R2t}
 use Rattle.iscsi_pdu.specs.declared.stamp.Stamp.{Stamp}
-use Rattle.iscsi_transfer.specs.Task.{TaskState, due_asks, is_due, is_whole, with_data, with_asked, command_fault}
+use Rattle.iscsi_transfer.specs.WriteData.{WriteDataState, due_asks, is_due, is_whole, with_data, with_asked, command_fault}
 use Rattle.iscsi_session.specs.declared.transfers.Transfer.{Transfer}
 use Rattle.iscsi_session.specs.Drained.{Drained, blanked}
 use Rattle.iscsi_session.specs.declared.verdict.Verdict.{Verdict}
@@ -45,7 +45,7 @@ pub record TransferList : Type 0 where
   pub drains : List Drained
 
 pub record SessionState : Type 0 where
-  pub params : Params
+  pub params : SessionParams
   -- the StatSN of the next answer
   pub stat : ℕ
   pub tasks : TaskLists
@@ -291,7 +291,7 @@ place_with tag transfers = position (bears tag) transfers
 abbrev pub place_for : Frame → List Transfer → Option ℕ
 place_for frame transfers = place_with (initiator_task_tag frame.header) transfers
 
-abbrev pub begun_transfer : List ℕ → TaskState → Transfer
+abbrev pub begun_transfer : List ℕ → WriteDataState → Transfer
 begun_transfer header task = record { header = header; task = task }
 
 abbrev pub immediate_transfers : List Transfer → ℕ

@@ -6,7 +6,7 @@ use Rattle.iscsi_pdu.specs.declared.answer.Answer.{Answer}
 use Rattle.iscsi_pdu.specs.declared.answer.Answer.TheVariants as answers
 use Rattle.iscsi_pdu.specs.declared.reject.RejectReason.TheVariants as reasons
 use Rattle.iscsi_pdu.specs.declared.stamp.Stamp.{Stamp}
-use Rattle.iscsi_login.specs.declared.params.Params.{Params}
+use Rattle.iscsi_login.specs.declared.session_params.SessionParams.{SessionParams}
 use Rattle.iscsi_exchange.specs.ExchangeState.{ExchangeState, no_exchange}
 use Rattle.iscsi_exchange.specs.Exchange.{TextPiece, hears}
 use Rattle.iscsi_session.specs.Requests.{Past, frames_of}
@@ -17,7 +17,7 @@ abbrev pub is_text : Frame → Bool
 is_text frame = opcode_number frame.header == 0x04
 
 -- a Text Request is heard, and any other request leaves the exchange as it is
-abbrev pub exchange_behind : Params → ExchangeState → Frame → ExchangeState
+abbrev pub exchange_behind : SessionParams → ExchangeState → Frame → ExchangeState
 exchange_behind params exchange frame = if is_text frame then (hears exchange frame params).exchange else exchange
 
 -- the exchange after the requests that acted
@@ -31,5 +31,5 @@ text_answer numbers_now (Some piece) frame = answers.TextResponse
     (record { initiator_task_tag = initiator_task_tag frame.header; stamp = numbers_now; step = piece.step; text = piece.text })
 
 -- the answer of the exchange so far to a Text Request
-abbrev pub text_answer_in : ExchangeState → Stamp → Params → Frame → Answer
+abbrev pub text_answer_in : ExchangeState → Stamp → SessionParams → Frame → Answer
 text_answer_in exchange numbers_now params frame = text_answer numbers_now (hears exchange frame params).piece frame

@@ -7,7 +7,7 @@ use Rattle.iscsi_pdu.specs.declared.answer.Answer.TheVariants as answers
 use Rattle.iscsi_pdu.specs.declared.r2t.R2t.{R2t}
 use Rattle.iscsi_pdu.specs.declared.stamp.Stamp.{Stamp}
 use Rattle.iscsi_transfer.specs.Payload as payloads
-use Rattle.iscsi_transfer.specs.Task.{TaskState, remembered as task_of, fault_of, due_asks, is_due, is_asked, is_whole}
+use Rattle.iscsi_transfer.specs.WriteData.{WriteDataState, remembered as task_of, fault_of, due_asks, is_due, is_asked, is_whole}
 use Rattle.iscsi_transfer.specs.declared.progress.Ask.{Ask}
 use Rattle.iscsi_session.specs.declared.verdict.Verdict.{Verdict}
 use Rattle.iscsi_session.specs.declared.verdict.Verdict.TheVariants.{Dropped, Violating, Feeding}
@@ -30,7 +30,7 @@ tags_of past k = map (λ r. r.tag) (filter (λ r. r.command == k) past.r2ts)
 abbrev pub data_past : Past → ℕ → payloads.Past
 data_past past k = record { values = past.params.values; command = frame_of past.came k; outs = outs_of past k; tags = tags_of past k }
 
-unfoldable pub task_at : Past → ℕ → TaskState
+unfoldable pub task_at : Past → ℕ → WriteDataState
 task_at past k = task_of (data_past past k)
 
 -- all its data so far
@@ -41,7 +41,7 @@ abbrev pub is_whole_of : Past → ℕ → Bool
 is_whole_of past k = is_whole (task_at past k)
 
 -- the verdict on a Data-Out for a command with data in this state; one for no command is dropped
-abbrev pub verdict_on : Frame → Option TaskState → Verdict
+abbrev pub verdict_on : Frame → Option WriteDataState → Verdict
 verdict_on frame None = Dropped
 verdict_on frame (Some task) = if is_some (fault_of task frame) then Violating else Feeding
 

@@ -15,15 +15,15 @@ ghost use Rattle.iscsi_session.specs.Texts.{is_text as is_text_in};
 
 use crate::act::Act;
 use crate::answers::rejected;
-use crate::functions::is_function;
 use crate::session::{RESERVED_TAG, Session};
+use crate::task_management::is_function;
 use crate::texts::is_text;
 use iscsi_outbox::Outbox;
 use iscsi_pdu::{
     Answer, Frame, Header, LogoutResponse, LogoutResult, MOST_DATA, NopIn, Opcode, RejectReason,
     Stamp,
 };
-use out_of_memory::Memory;
+use target_limits::Memory;
 
 /// The most bytes that the answer to a NOP-Out or a Logout takes, not counting the ping data.
 const ROOM_TO_ACT: usize = 99;

@@ -6,13 +6,13 @@ ghost use Rattle.iscsi_session.specs.declared.verdict.Verdict.TheVariants.{Feedi
 ghost use Rattle.iscsi_session.specs.Draining.{is_awaited, drained_for, awaited_in, awaits_in, is_draining, drain_with, drain_for, judged_drain, fed_drain, function_tag, lacks_for, telling_place, function_at, drains_without};
 ghost use Rattle.iscsi_session.specs.State.{bears, transfers_without};
 
-use crate::reach::Reach;
+use crate::abort_scope::Reach;
 use crate::transfers::{Transfer, Transfers};
 use crate::verdict::Verdict;
 use iscsi_pdu::{Frame, Header};
 use iscsi_transfer::Progress;
-use out_of_memory::Memory;
 use std::marker::Model;
+use target_limits::Memory;
 
 /// How far the data of a SCSI Command has come that was removed while an R2T was open, and for which a function waits.
 /// The data itself is not kept.

@@ -11,12 +11,12 @@ ghost use Rattle.iscsi_session.specs.Comings.{TargetUnits};
 ghost use Rattle.iscsi_session.specs.Steps.{Answering, tell_due};
 ghost use Rattle.iscsi_session.specs.Runs.{Runs, output};
 
-use crate::functions::answer_to;
-use crate::reach::Reach;
+use crate::abort_scope::Reach;
 use crate::session::Session;
+use crate::task_management::answer_to;
 use iscsi_outbox::Outbox;
 use iscsi_pdu::{HEADER_LENGTH, TaskResult};
-use out_of_memory::Memory;
+use target_limits::Memory;
 
 impl Session {
     /// Executes the first request that is due: this function, which waits for data of commands that it removes. If an

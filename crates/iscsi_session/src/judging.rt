@@ -13,13 +13,13 @@ ghost use Rattle.iscsi_session.specs.State.{Stands, is_vacant_for, function_plac
 
 use crate::acting::is_command;
 use crate::answers::rejected;
-use crate::functions::is_function;
 use crate::session::{RESERVED_TAG, Session};
+use crate::task_management::is_function;
 use crate::verdict::Verdict;
 use iscsi_outbox::Outbox;
 use iscsi_pdu::{Frame, Header, Opcode, RejectReason};
 use iscsi_transfer::command_fault;
-use out_of_memory::Memory;
+use target_limits::Memory;
 
 /// How many SCSI Commands and Task Management Function Requests for immediate delivery may be unfinished.
 const MOST_IMMEDIATE: usize = 8;
@@ -45,7 +45,7 @@ impl Session {
         let verdict = self.judge(&frame);
         match verdict {
             Verdict::Accepted => self.accept(frame)?,
-            Verdict::Feeding => self.feed(frame)?,
+            Verdict::Feeding => self.take_data_out(frame)?,
             Verdict::Rejected(reason) => self.reject(reason, frame.header, out)?,
             Verdict::Ignored | Verdict::Dropped | Verdict::Violating => {}
         }
@@ -236,14 +236,14 @@ impl Session {
     }
 
     /// Accepts the data of a Data-Out that has no fault. If an allocation fails, nothing changes.
-    fn feed(&mut self, frame: Frame) -> Result<(), Memory>
+    fn take_data_out(&mut self, frame: Frame) -> Result<(), Memory>
         requires { judged_in self.old.transfers frame ≡ Verdict.Feeding }
         ensures stands { OnOk result ((past : Past) → Stands past self.old
             → Stands (fed (command_with past (initiator_task_tag frame.header)) frame past) self.new) }
         ensures params { self.new.params ≡ self.old.params }
         ensures err { OnErr result (self.new ≡ self.old) }
     {
-        self.transfers.feed(frame)
+        self.transfers.take_data_out(frame)
     }
 
     /// Answers a frame with a Reject. If an allocation fails, nothing changes.

@@ -19,30 +19,28 @@
 //! (`specs/Steps.antt`): all of them, or those before an allocation that failed. [`laws`] has what holds of every past.
 #![tactic(auto)]
 
+mod abort_scope;
 mod aborted;
 mod act;
 mod acting;
 mod answering;
 mod answers;
-mod asks;
 mod data_ins;
 mod drained_transfers;
 mod draining;
-mod functions;
 mod judging;
 pub mod laws;
 mod making_room;
-mod reach;
-mod scope;
+mod placeholders;
+mod r2ts;
+mod request_queue;
 mod serving;
 mod session;
-mod tasks;
+mod task_management;
 mod texts;
 mod transfers;
 mod verdict;
-mod voids;
 
-pub use out_of_memory::Memory;
-pub use reach::Reach;
-pub use scope::{attention_of, is_for_all_sessions};
+pub use abort_scope::{Reach, attention_of, is_for_all_sessions};
 pub use session::Session;
+pub use target_limits::Memory;

@@ -11,8 +11,8 @@ use iscsi_login::Values;
 use iscsi_outbox::{Limits, Outbox};
 use iscsi_pdu::Frame;
 use media_block::BLOCK_LENGTH;
-use out_of_memory::Memory;
 use scsi_cdb::MOST_BLOCKS;
+use target_limits::Memory;
 
 /// The longest SCSI Response, in bytes: its header, and sense data with its length.
 pub(crate) const LONGEST_RESPONSE: usize = 68;

@@ -12,8 +12,8 @@ ghost use Rattle.iscsi_session.specs.Steps.{Work, Asking, is_doing, is_serving, 
 ghost use Rattle.iscsi_session.specs.Weight.{IsAtRest, Eases};
 ghost use Rattle.iscsi_session.specs.Runs.{output, Starts, Runs, Stops, StepsFirst, IsSettled};
 
-use crate::asks::ROOM_TO_ASK;
 use crate::making_room::make_room;
+use crate::r2ts::ROOM_TO_ASK;
 use crate::session::Session;
 use crate::verdict::Verdict;
 use bytes::BytesMut;
@@ -21,15 +21,15 @@ use data_parts::{Data, Parts};
 use iscsi_outbox::Outbox;
 use iscsi_pdu::{Frame, Header};
 use media_store::Store;
-use out_of_memory::Memory;
 use scsi_sense::{Condition, Done, Nexus, Sense};
 use scsi_unit::Units;
 use std::alloc::Global;
+use target_limits::Memory;
 
 /// Performs a command with all its data. A command with an additional header, or with both R and W, is answered INVALID
 /// FIELD IN CDB instead. If an allocation fails, nothing changes.
 #[tactic(auto, unfolding(crate::specs::Commands::carried_out))]
-fn carry_out<S: Store>(
+fn perform_first<S: Store>(
     alloc: Global,
     units: &mut Units<S>,
     nexus: &Nexus,
@@ -202,7 +202,7 @@ impl Session {
         };
         make_room(out, &self.params.values, frame)?;
         let payload = self.transfers.payload(frame.header.initiator_task_tag());
-        let done = carry_out(alloc, units, &self.params.nexus, frame, &payload)?;
+        let done = perform_first(alloc, units, &self.params.nexus, frame, &payload)?;
         // There is room for the answers, so nothing fails from here on.
         let (buffer, parts) = self.answer_command(alloc, out, done);
         give_back(units, buffer);

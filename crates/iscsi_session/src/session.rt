@@ -5,11 +5,11 @@ ghost use Rattle.iscsi_pdu.specs.declared.answer.Answer.{Answer};
 ghost use Rattle.iscsi_session.specs.Requests.{Past, begun, bearing, stamp, answering};
 ghost use Rattle.iscsi_session.specs.State.{remembered, Stands, whole_at, place_for, is_waiting};
 
-use crate::functions::Functions;
-use crate::tasks::Tasks;
+use crate::request_queue::RequestQueue;
+use crate::task_management::Functions;
 use crate::transfers::Transfers;
 use iscsi_exchange::Exchange;
-use iscsi_login::Params;
+use iscsi_login::SessionParams;
 use iscsi_order::Stat;
 use iscsi_pdu::{Frame, Stamp};
 use std::alloc::Global;
@@ -22,9 +22,9 @@ pub(crate) const RESERVED_TAG: u32 = 0xffff_ffff;
 /// remembers of its past.
 #[derive(Drop)]
 pub struct Session {
-    pub(crate) params: Params,
+    pub(crate) params: SessionParams,
     pub(crate) stat: Stat,
-    pub(crate) tasks: Tasks,
+    pub(crate) tasks: RequestQueue,
     pub(crate) transfers: Transfers,
     pub(crate) functions: Functions,
     pub(crate) exchange: Exchange,
@@ -40,12 +40,12 @@ impl Model for Session {
 
 impl Session {
     /// Creates a session at its beginning. Allocates no memory.
-    pub fn new(alloc: Global, params: Params) -> Session
+    pub fn new(alloc: Global, params: SessionParams) -> Session
         ensures { result ≡ remembered (begun params) }
     {
         Session {
             stat: Stat::new(params.next_stat_sn),
-            tasks: Tasks::new(alloc, params.first_cmd_sn),
+            tasks: RequestQueue::new(alloc, params.first_cmd_sn),
             transfers: Transfers::new(alloc),
             functions: Functions::new(alloc),
             exchange: Exchange::none(alloc),
@@ -54,7 +54,7 @@ impl Session {
     }
 
     /// Returns whose session it is, with which target, and the values in force.
-    pub fn params(&self) -> &Params
+    pub fn params(&self) -> &SessionParams
         ensures { result.now ≡ self.now.params }
     {
         &self.params

@@ -17,7 +17,7 @@ use crate::session::Session;
 use iscsi_exchange::Piece;
 use iscsi_outbox::Outbox;
 use iscsi_pdu::{Answer, Frame, Opcode, RejectReason, Stamp, TextResponse};
-use out_of_memory::Memory;
+use target_limits::Memory;
 
 /// The most bytes that a Text Response or a Reject takes, not counting the text.
 const ROOM_TO_TELL: usize = 99;

@@ -3,29 +3,29 @@
 ghost use Rattle.std.specs.Prelude.{◌≡◌, ◌++◌, ◌∷◌, List, [], None, IfOk, OnOk, OnErr};
 ghost use Rattle.iscsi_login.specs.Values.{AreInRange};
 ghost use Rattle.iscsi_transfer.specs.Payload.{begun};
-ghost use Rattle.iscsi_transfer.specs.Task.{command_fault, fault_of, with_data, remembered as task_of};
+ghost use Rattle.iscsi_transfer.specs.WriteData.{command_fault, fault_of, with_data, remembered as task_of};
 ghost use Rattle.iscsi_session.specs.declared.transfers.Transfer.{Transfer};
 ghost use Rattle.iscsi_session.specs.declared.verdict.Verdict.TheVariants.{Feeding};
 ghost use Rattle.iscsi_session.specs.Draining.{judged_in, fed_in, is_live_in};
 ghost use Rattle.iscsi_session.specs.State.{no_transfers, place_with, immediate_transfers, whole_at, payload_at, removed_at, begun_transfer, reaches_some, transfers_without};
 
+use crate::abort_scope::Reach;
 use crate::drained_transfers::DrainedTransfer;
-use crate::reach::Reach;
 use crate::verdict::Verdict;
 use data_parts::{Data, Parts};
 use iscsi_login::Values;
 use iscsi_pdu::{Frame, Header};
-use iscsi_transfer::{DataFault, Task};
-use out_of_memory::Memory;
+use iscsi_transfer::{DataFault, WriteData};
 use std::alloc::Global;
 use std::marker::Model;
+use target_limits::Memory;
 
 /// The data of one SCSI Command.
 #[derive(Drop)]
 pub(crate) struct Transfer {
     /// The header of the command.
     pub(crate) header: Header,
-    pub(crate) task: Task,
+    pub(crate) task: WriteData,
 }
 
 /// The data of a session's SCSI Commands.
@@ -107,7 +107,7 @@ impl Transfers {
 
     /// Accepts the data of a Data-Out that has no fault, in the buffer in which it came. If an allocation fails,
     /// nothing changes.
-    pub(crate) fn feed(&mut self, frame: Frame) -> Result<(), Memory>
+    pub(crate) fn take_data_out(&mut self, frame: Frame) -> Result<(), Memory>
         requires { judged_in self.old frame ≡ Feeding }
         ensures ok { OnOk result (self.new ≡ fed_in self.old frame) }
         ensures err { OnErr result (self.new ≡ self.old) }
@@ -195,7 +195,7 @@ impl Transfers {
 }
 
 /// Starts the task of a command whose data is as agreed.
-fn start(alloc: Global, frame: &Frame, values: &Values) -> Result<Task, Memory>
+fn start(alloc: Global, frame: &Frame, values: &Values) -> Result<WriteData, Memory>
     requires values { AreInRange values.now }
     requires lawful { command_fault values.now frame.now ≡ None }
     ensures { IfOk result (λ task. task ≡ task_of (begun values.now frame.now)) }
@@ -204,7 +204,7 @@ fn start(alloc: Global, frame: &Frame, values: &Values) -> Result<Task, Memory>
         header: frame.header,
         body: Vec::from_slice(alloc, frame.body.as_slice())?,
     };
-    match Task::start(alloc, command, values) {
+    match WriteData::start(alloc, command, values) {
         Ok(task) => Ok(task),
         Err(DataFault::Memory) => Err(Memory),
         // The data is as agreed.
@@ -213,7 +213,7 @@ fn start(alloc: Global, frame: &Frame, values: &Values) -> Result<Task, Memory>
 }
 
 /// Accepts the data of a Data-Out that has no fault. If an allocation fails, nothing changes.
-fn grow(task: &mut Task, frame: Frame) -> Result<(), Memory>
+fn grow(task: &mut WriteData, frame: Frame) -> Result<(), Memory>
     requires { fault_of task.old frame ≡ None }
     ensures ok { OnOk result (task.new ≡ with_data task.old frame) }
     ensures err { OnErr result (task.new ≡ task.old) }

@@ -9,7 +9,7 @@ use Rattle.iscsi_pdu.specs.declared.login_response.LoginResponse.{LoginResponse}
 use Rattle.iscsi_login.specs.LoginState.{LoginState}
 use Rattle.iscsi_login.specs.Session.{older}
 use Rattle.iscsi_login.specs.Login.{reply_of}
-use Rattle.iscsi_login.specs.declared.params.Params.{Params}
+use Rattle.iscsi_login.specs.declared.session_params.SessionParams.{SessionParams}
 use Rattle.iscsi_login.specs.declared.reply.Reply.{Reply}
 use Rattle.iscsi_login.specs.declared.reply.Reply.TheVariants.{Full}
 use Rattle.scsi_unit.specs.Units.{UnitStates, join}
@@ -35,7 +35,7 @@ still_reading _ e = absurd cc
 
 -- ---- a connection whose session has still to begin
 
-pub record IsWaiting (reply : Reply) (old : LinkState) (response : LoginResponse) (session : Params) (new : LinkState) : Type 0 where
+pub record IsWaiting (reply : Reply) (old : LinkState) (response : LoginResponse) (session : SessionParams) (new : LinkState) : Type 0 where
   pub reply_is : reply ≡ Full response session
   pub same : new ≡ record old { phase = new.phase }
   pub logging_in : is_logging_in new.phase ≡ true
@@ -43,11 +43,11 @@ pub record IsWaiting (reply : Reply) (old : LinkState) (response : LoginResponse
 some_is : {X : Type 0} (x y : X) → Some x ≡ Some y → x ≡ y
 some_is x y e = cc
 
-pub waits : (reply : Reply) (after : LoginState) (old new : LinkState) (response : LoginResponse) (session : Params)
+pub waits : (reply : Reply) (after : LoginState) (old new : LinkState) (response : LoginResponse) (session : SessionParams)
     → IsAnswered reply after old (Some (response, session)) new → IsWaiting reply old response session new
 waits (Full r s) after old new response session h = record {
   reply_is =
-      ap (λ (p : LoginResponse × Params). Full p.0 p.1) (some_is (r, s) (response, session) (sym h.0));
+      ap (λ (p : LoginResponse × SessionParams). Full p.0 p.1) (some_is (r, s) (response, session) (sym h.0));
   same = h.1;
   logging_in = h.2;
 }
@@ -88,7 +88,7 @@ closed_alike machine c link lt waiting none logs =
     ∙ ap (λ (w : List ℕ). set machine.links c (record { half = (shut_link link).half; phase = Closing; waiting = w })) waiting in
     let units : left (session_in_phase (link_at (with_link machine c link) c).phase) machine.units
     ≡ left (session_in_phase (link_at machine c).phase) machine.units =
-    ap (λ (l : LinkState). left (session_in_phase l.phase) machine.units) there ∙ ap (λ (o : Option Params). left o machine.units) (none ∙ sym was) in
+    ap (λ (l : LinkState). left (session_in_phase l.phase) machine.units) there ∙ ap (λ (o : Option SessionParams). left o machine.units) (none ∙ sym was) in
     ap (λ (ls : List LinkState). record {
       directory = machine.directory;
       units =
@@ -109,7 +109,7 @@ set_own : {X : Type 0} (xs : List X) (i : ℕ) (x d : X) → get_or xs i d ≡ x
 set_own xs i x d e lt = rw (← e) (set-get_or xs i d)
 
 -- its session begins as on the connection as it was
-pub begun_alike : (machine : Machine) (c : ℕ) (link : LinkState) (session : Params) (answer : Answer) → c < length machine.links
+pub begun_alike : (machine : Machine) (c : ℕ) (link : LinkState) (session : SessionParams) (answer : Answer) → c < length machine.links
     → link ≡ record (link_at machine c) { phase = link.phase } → is_logging_in link.phase ≡ true → is_logging_in (link_at machine c).phase ≡ true
     → begun session answer c (with_link machine c link) ≡ begun session answer c machine
 begun_alike machine c link session answer lt same now was =
@@ -117,7 +117,7 @@ begun_alike machine c link session answer lt same now was =
     let units = changed_units (join session.nexus) session.target machine.units in
     let live : sessions (set machine.links c link) ≡ sessions machine.links =
     map-set (λ (l : LinkState). session_in_phase l.phase) machine.links c link
-    ∙ ap (λ (o : Option Params). set (sessions machine.links) c o) (no_session link.phase now)
+    ∙ ap (λ (o : Option SessionParams). set (sessions machine.links) c o) (no_session link.phase now)
     ∙ set_own (sessions machine.links) c None None (get_or-map (λ (l : LinkState). session_in_phase l.phase) machine.links c free_link None lt
     ∙ no_session (link_at machine c).phase was) (rw length-map lt) in
     let begins : begun_link session answer (link_at (with_link machine c link) c) ≡ begun_link session answer (link_at machine c) =
@@ -127,11 +127,11 @@ begun_alike machine c link session answer lt same now was =
     set-set machine.links c link _ ∙ ap (set machine.links c) begins in
     ap (λ (ls : List LinkState). shut_older (older session (sessions (set machine.links c link)))
     (record { directory = machine.directory; units = units; links = ls })) links
-    ∙ ap (λ (all : List (Option Params)). shut_older (older session all)
+    ∙ ap (λ (all : List (Option SessionParams)). shut_older (older session all)
     (record { directory = machine.directory; units = units; links = set machine.links c (begun_link session answer (link_at machine c)) })) live
 
 -- the answer to a Login request, where full feature phase begins
-pub begun_by_request : (machine : Machine) (c : ℕ) (login : LoginState) (request : Frame) (session : Params) (response : LoginResponse)
+pub begun_by_request : (machine : Machine) (c : ℕ) (login : LoginState) (request : Frame) (session : SessionParams) (response : LoginResponse)
     → reply_of login (lookup_for machine.directory (sessions machine.links) request) request ≡ Full response session
     → begun session (answers.LoginResponse response) c machine ≡ logged_in machine c login request
 unfolding logged_in

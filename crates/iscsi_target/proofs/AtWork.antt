@@ -4,7 +4,7 @@ use Rattle.std.specs.List.{list_all}
 use Rattle.std.proofs.lemmas.List.{map-append}
 use Rattle.std.proofs.Math.Seq.{drop-append_seam}
 use Rattle.iscsi_pdu.specs.Frames.{Frame}
-use Rattle.iscsi_login.specs.declared.params.Params.{Params}
+use Rattle.iscsi_login.specs.declared.session_params.SessionParams.{SessionParams}
 use Rattle.scsi_unit.specs.Units.{UnitStates, AreSound}
 use Rattle.std.proofs.lemmas.Bool.Decides.{eqb_tells}
 use Rattle.iscsi_session.specs.Requests.{Past}
@@ -125,7 +125,7 @@ starts s sent half w machine c past state units lt h a is target = record {
   remembered = is;
   units = ap (λ (us : UnitStates). lend us w.comings)
       (ap (λ (all : List UnitStates). units_at past.params.target all) (sym (ap (λ (m : Machine). m.units) h.is ∙ units_with s sent half w))
-      ∙ ap (λ (p : Params). units_at p.target machine.units) (sym (ap (λ (x : SessionState). x.params) is ∙ params_same past)) ∙ target);
+      ∙ ap (λ (p : SessionParams). units_at p.target machine.units) (sym (ap (λ (x : SessionState). x.params) is ∙ params_same past)) ∙ target);
   goes_on = refl;
 }
 
@@ -172,7 +172,7 @@ module _ (run : Run) (failed : Option (ℕ → Step)) (goes_on : Bool) (orders :
       starts s sent half w given c past k.session (units_at target given.units) k.in_range h work is (ap (λ (t : Option ℕ). units_at t given.units) k.own)
 
   pub own_past : (past : Past) → k.session ≡ remembered past → past.params.target ≡ target
-  own_past past is = sym (ap (λ (x : SessionState). x.params.target) is ∙ ap (λ (p : Params). p.target) (params_same past)) ∙ k.own
+  own_past past is = sym (ap (λ (x : SessionState). x.params.target) is ∙ ap (λ (p : SessionParams). p.target) (params_same past)) ∙ k.own
 
   unfoldable pub call_does : (kind : ℕ → Mark → Bool) (act : Act)
       → ((s : Setting) (marks : List Mark) (place : ℕ) (w : World) (past : Past) → past_of (present c w) ≡ Some past → past.params.target ≡ target

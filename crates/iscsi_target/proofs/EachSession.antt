@@ -7,7 +7,7 @@ use Rattle.iscsi_pdu.specs.declared.answer.Answer.{Answer}
 use Rattle.iscsi_pdu.specs.declared.answer.Answer.TheVariants as answers
 use Rattle.iscsi_login.specs.Session.{is_same_target, older}
 use Rattle.iscsi_login.specs.Login.{login}
-use Rattle.iscsi_login.specs.declared.params.Params.{Params}
+use Rattle.iscsi_login.specs.declared.session_params.SessionParams.{SessionParams}
 use Rattle.iscsi_login.specs.declared.reply.Reply.{Reply}
 use Rattle.iscsi_login.specs.declared.reply.Reply.TheVariants.{GoOn, Full, Refused}
 use Rattle.iscsi_session.specs.Requests.{Past, begun as begun_past}
@@ -97,7 +97,7 @@ module _ (Q : ℕ → Past → Type 0) where
   each_answered : (answer : Answer) (c : ℕ) (w : World) → Each Q w → Each Q (changed (answered answer) c w)
   each_answered answer c w each = each_changed (answered answer) c w (answered_placed answer) (λ life h. h) each
 
-  each_replied : (reply : Reply) (c : ℕ) (w : World) → ((session : Params) → Q c (begun_past session)) → Each Q w → Each Q (replied reply c w)
+  each_replied : (reply : Reply) (c : ℕ) (w : World) → ((session : SessionParams) → Q c (begun_past session)) → Each Q w → Each Q (replied reply c w)
   each_replied (GoOn response) c w new each = each_answered (answers.LoginResponse response) c w each
   each_replied (Refused response) c w new each =
       each_close c (changed (answered (answers.LoginResponse response)) c w) (each_answered (answers.LoginResponse response) c w each)
@@ -108,7 +108,7 @@ module _ (Q : ℕ → Past → Type 0) where
       (each_changed (begun session answer) c w (begun_placed session answer)
       (λ life h. (h.0, λ past is. subst (Q c) (same_past (begun_past session) past is) (new session))) each))
 
-  each_logs_in : (s : Setting) (c : ℕ) (request : Frame) (w : World) → ((session : Params) → Q c (begun_past session)) → Each Q w
+  each_logs_in : (s : Setting) (c : ℕ) (request : Frame) (w : World) → ((session : SessionParams) → Q c (begun_past session)) → Each Q w
       → Each Q (log_in s c request w)
   unfolding log_in
   each_logs_in s c request w new each =
@@ -165,7 +165,7 @@ module _ (Q : ℕ → Past → Type 0) where
   brought_framed (Some life) c w piece at each bytes = new_framed life.bytes piece (each c life at).0 bytes
 
   -- where a new session has it, and a frame of a session keeps it
-  module _ (s : Setting) (new : (c : ℕ) (session : Params) → Q c (begun_past session))
+  module _ (s : Setting) (new : (c : ℕ) (session : SessionParams) → Q c (begun_past session))
       (serves : (marks : List Mark) (c place : ℕ) (frame : Frame) (session : Past) (w : World) → past_of (present c w) ≡ Some session → Fits frame
       → Each Q w → Each Q (serve marks c place session.params.target frame w)) where
     each_event : (marks : List Mark) (c : ℕ) → EventWalk s marks c (λ w v. Each Q w → Each Q v) (λ c frame. Fits frame)

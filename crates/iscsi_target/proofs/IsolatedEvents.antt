@@ -6,7 +6,7 @@ use Rattle.iscsi_pdu.specs.Frames.{Frame}
 use Rattle.iscsi_login.specs.Directory.{KnownTargets}
 use Rattle.iscsi_login.specs.Session.{named_by}
 use Rattle.iscsi_login.specs.Login.{login, advanced, remembered}
-use Rattle.iscsi_login.specs.declared.params.Params.{Params}
+use Rattle.iscsi_login.specs.declared.session_params.SessionParams.{SessionParams}
 use Rattle.iscsi_login.specs.declared.reply.Reply.{Reply}
 use Rattle.iscsi_login.specs.declared.reply.Reply.TheVariants.{Full}
 use Rattle.iscsi_target.specs.History.{Point, Arriving, AtEnd, Arrival, Whole, TooLong}
@@ -51,7 +51,7 @@ asked_target g directory c w life request at fits named =
 -- the session that begins is with it
 full_own : (g : Selection) (b : Bool) (s : Setting) (c : ℕ) (w : World) (life : Life) (request : Frame) → present c w ≡ Some life
     → HasTarget g b (target_of (advanced s.directory (remembered s.directory (c + 1) life.requests) request).session)
-    → (r : _) (session : Params) → login (c + 1) (requests_of (present c w)) (lookup_for s.directory (live w) request) request ≡ Full r session
+    → (r : _) (session : SessionParams) → login (c + 1) (requests_of (present c w)) (lookup_for s.directory (live w) request) request ≡ Full r session
     → HasTarget g b session.target
 full_own g b s c w life request at own = λ r session e.
     some_target g b _ session.target
@@ -111,7 +111,7 @@ in_enter true g s c frame w v life at logs on named agree = in_log_in g s c fram
 in_enter false g s c frame w v life at logs on named agree = in_close g c w v on agree
 
 -- the target of the session of a present life
-phase_target : (g : Selection) (b : Bool) (c : ℕ) (w v : World) (life : Life) (p : Params) → present c w ≡ Some life → session_in life.phase ≡ Some p
+phase_target : (g : Selection) (b : Bool) (c : ℕ) (w v : World) (life : Life) (p : SessionParams) → present c w ≡ Some life → session_in life.phase ≡ Some p
     → g.keeps_on c ≡ b → Agree g w v → HasTarget g b p.target
 phase_target g b c w v life p at e on agree =
     subst (λ (k : Bool). HasTarget g k p.target) on (session_target g c w v p agree (ap session_of at ∙ e))

@@ -1,7 +1,7 @@
 -- What is done to a present life keeps what is true of its place and of its session's target.
 use Rattle.std.proofs.Common.{◌≡◌, ℕ, Bool, Some, sym, ap, ◌∙◌, subst}
 use Rattle.iscsi_pdu.specs.declared.answer.Answer.{Answer}
-use Rattle.iscsi_login.specs.declared.params.Params.{Params}
+use Rattle.iscsi_login.specs.declared.session_params.SessionParams.{SessionParams}
 use Rattle.iscsi_session.specs.Requests.{Past}
 use Rattle.iscsi_target.specs.Life.{Life, Closing, ended_in}
 use Rattle.iscsi_target.specs.World.{World, is_present, present, changed_first, past_of, begun, with_past}
@@ -32,10 +32,10 @@ keeps_same g f c w same = λ life at k fit. record {
   session = rw (same life).0 fit.session;
 }
 
-some_params : (g : Selection) (b : Bool) (p q : Params) → HasTarget g b p.target → Some p ≡ Some q → HasTarget g b q.target
-some_params g b p q own e = let same : p ≡ q = cc in subst (λ (r : Params). HasTarget g b r.target) same own
+some_params : (g : Selection) (b : Bool) (p q : SessionParams) → HasTarget g b p.target → Some p ≡ Some q → HasTarget g b q.target
+some_params g b p q own e = let same : p ≡ q = cc in subst (λ (r : SessionParams). HasTarget g b r.target) same own
 
-pub keeps_begun : (g : Selection) (session : Params) (answer : Answer) (c : ℕ) (w v : World) → Agree g w v → HasTarget g (g.keeps_on c) session.target
+pub keeps_begun : (g : Selection) (session : SessionParams) (answer : Answer) (c : ℕ) (w v : World) → Agree g w v → HasTarget g (g.keeps_on c) session.target
     → Keeps g (begun session answer) c w
 unfolding Keeps
 keeps_begun g session answer c w v agree own = λ life at k fit. record {

@@ -7,7 +7,7 @@ use Rattle.iscsi_pdu.specs.declared.answer.Answer.{Answer}
 use Rattle.iscsi_pdu.specs.declared.answer.Answer.TheVariants as answers
 use Rattle.scsi_unit.specs.Units.{UnitStates, join, leave}
 use Rattle.iscsi_login.specs.Session.{older, is_same_target}
-use Rattle.iscsi_login.specs.declared.params.Params.{Params}
+use Rattle.iscsi_login.specs.declared.session_params.SessionParams.{SessionParams}
 use Rattle.iscsi_login.specs.declared.reply.Reply.{Reply}
 use Rattle.iscsi_login.specs.declared.reply.Reply.TheVariants.{GoOn, Full, Refused}
 use Rattle.iscsi_session.specs.Comings.{Coming, IsCalm, lend}
@@ -42,13 +42,13 @@ own_changed g f o all some own agree =
     subst (λ (units : UnitStates). UnitsAgree g (with_units o (f (units_at o all)) all) (with_units o (f units) some)) (sym (units_own g o all some own agree))
     (with_own g o (f (units_at o all)) all some own agree)
 
-pub own_left : (g : Selection) (o : Option Params) (all some : List UnitStates) → ((p : Params) → o ≡ Some p → HasTarget g true p.target)
+pub own_left : (g : Selection) (o : Option SessionParams) (all some : List UnitStates) → ((p : SessionParams) → o ≡ Some p → HasTarget g true p.target)
     → UnitsAgree g all some
     → UnitsAgree g (left o all) (left o some)
 own_left g None all some own agree = agree
 own_left g (Some p) all some own agree = own_changed g (leave p.nexus) p.target all some (own p refl) agree
 
-pub own_session : (g : Selection) (c : ℕ) (w v : World) → g.keeps_on c ≡ true → Agree g w v → (p : Params) → session_of (present c w) ≡ Some p
+pub own_session : (g : Selection) (c : ℕ) (w v : World) → g.keeps_on c ≡ true → Agree g w v → (p : SessionParams) → session_of (present c w) ≡ Some p
     → HasTarget g true p.target
 own_session g c w v on agree p e = subst (λ (b : Bool). HasTarget g b p.target) on (session_target g c w v p agree e)
 
@@ -77,7 +77,8 @@ in_end_older : (g : Selection) (o : Option ℕ) (w v : World) → ((d : ℕ) →
 in_end_older g None w v on agree = agree
 in_end_older g (Some d) w v on agree = in_changed g (ended_in Closing) d w v (on d refl) (keeps_ended g d w) agree
 
-in_begins : (g : Selection) (session : Params) (answer : Answer) (c : ℕ) (w v : World) → g.keeps_on c ≡ true → HasTarget g true session.target → Agree g w v
+in_begins : (g : Selection) (session : SessionParams) (answer : Answer) (c : ℕ) (w v : World) → g.keeps_on c ≡ true
+    → HasTarget g true session.target → Agree g w v
     → Agree g (begins session answer c w) (begins session answer c v)
 in_begins g session answer c w v on own agree =
     let next = in_changed g (begun session answer) c w v on
@@ -85,7 +86,7 @@ in_begins g session answer c w v on own agree =
     agree_with g _ _ _ _ next refl refl (own_changed g (join session.nexus) session.target w.units v.units own agree.units) next.calm next.silent
 
 pub in_replied : (g : Selection) (reply : Reply) (c : ℕ) (w v : World) → g.keeps_on c ≡ true
-    → ((r : _) (session : Params) → reply ≡ Full r session → HasTarget g true session.target) → Agree g w v
+    → ((r : _) (session : SessionParams) → reply ≡ Full r session → HasTarget g true session.target) → Agree g w v
     → Agree g (replied reply c w) (replied reply c v)
 in_replied g (GoOn response) c w v on own agree =
     in_changed g (answered (answers.LoginResponse response)) c w v on (keeps_same g _ c w (λ life. (refl, refl))) agree
@@ -106,7 +107,7 @@ pub in_worked_on : (g : Selection) (c : ℕ) (past : Past) (work : Work) (w v : 
     → work.past.params ≡ past.params → IsCalm g.target work.units.comings → Agree g w v → Agree g (worked_on c work w) (worked_on c (quiet work) v)
 in_worked_on g c past work w v on at same calm agree =
     let own : HasTarget g true work.past.params.target =
-    subst (λ (p : Params). HasTarget g true p.target) (sym same) (own_session g c w v on agree past.params (session_of_past (present c w) past at)) in
+    subst (λ (p : SessionParams). HasTarget g true p.target) (sym same) (own_session g c w v on agree past.params (session_of_past (present c w) past at)) in
     let next = in_changed g (with_past work.past) c w v on (keeps_worked g c past work.past w at same) agree in
     agree_with g _ _ _ _ next refl refl (with_own g work.past.params.target work.units.states w.units v.units own agree.units) calm refl
 

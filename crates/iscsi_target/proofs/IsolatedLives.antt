@@ -2,7 +2,7 @@
 use Rattle.std.proofs.Common.{◌≡◌, ℕ, suc, ◌+◌, List, [], ◌∷◌, ◌++◌, length, map, Bool, true, false, eqb, Option, Some, None, refl, subst, arith}
 use Rattle.std.specs.Prelude.{find, slice_get, ⊤}
 use Rattle.std.proofs.lemmas.Bool.Decides.{eqb_tells}
-use Rattle.iscsi_login.specs.declared.params.Params.{Params}
+use Rattle.iscsi_login.specs.declared.session_params.SessionParams.{SessionParams}
 use Rattle.iscsi_target.specs.History.{is_among}
 use Rattle.iscsi_target.specs.Life.{Life, is_over, session_in}
 use Rattle.iscsi_target.specs.World.{is_present, changed_first, over}
@@ -39,7 +39,7 @@ HasTarget g b o = (t : ℕ) → o ≡ Some t → b ≡ eqb t g.target
 -- a life that is not over is the last of an open connection; a session of a kept life is with no other target, and one of another life not with this
 pub record Fits (g : Selection) (k : ℕ) (x : Life) : Type 0 where
   pub placed : is_over x.phase ≡ false → (is_among x.connection g.opened ≡ true) × (g.keeps k ≡ g.keeps_on x.connection)
-  pub session : (p : Params) → session_in x.phase ≡ Some p → HasTarget g (g.keeps k) p.target
+  pub session : (p : SessionParams) → session_in x.phase ≡ Some p → HasTarget g (g.keeps k) p.target
 
 -- a present life is kept where its connection's last is
 pub number_of : (g : Selection) (c k : ℕ) (x : Life) → is_present c x ≡ true → Fits g k x → g.keeps k ≡ g.keeps_on c

@@ -16,8 +16,8 @@ use Rattle.iscsi_login.specs.Lookup.{Lookup, lookup_in}
 use Rattle.iscsi_login.specs.Rules.{rule, reads_text, is_due, pairs_with, rules_of_names, rules_of_keys, refusal_by, asked_for, asked_by, first_refusal, session_refusal, text_fault, text_refusal, request_refusal, refusal_of}
 use Rattle.iscsi_login.specs.Login.{heard, kept_with, brought, advanced, remembered, step_of, is_last_step, handle_with, accepted, login_response, params_of, reply_with, reply_to, reply_unless, reply_of}
 use Rattle.iscsi_login.specs.Session.{is_of}
-use Rattle.iscsi_login.specs.declared.params.Params.{Params}
-use Rattle.iscsi_login.specs.declared.session.Session.{Session}
+use Rattle.iscsi_login.specs.declared.session_params.SessionParams.{SessionParams}
+use Rattle.iscsi_login.specs.declared.requested_session.RequestedSession.{RequestedSession}
 use Rattle.iscsi_login.specs.declared.reply.Reply.TheVariants.{Full}
 use Rattle.iscsi_target.specs.Life.{Life}
 use Rattle.iscsi_target.specs.World.{asked}
@@ -25,8 +25,8 @@ use Rattle.iscsi_target.specs.Isolation.{named_in}
 use Rattle.iscsi_target.proofs.LoggingIn.{remembered-push}
 use Rattle.iscsi_target.proofs.Choices.{cond_true}
 
-abbrev pub target_of : Option Session → Option ℕ
-target_of o = option_and_then (λ (session : Session). session.target) o
+abbrev pub target_of : Option RequestedSession → Option ℕ
+target_of o = option_and_then (λ (session : RequestedSession). session.target) o
 
 -- ---- one request more
 
@@ -46,28 +46,28 @@ unfolding heard
 heard_session directory login header pairs = refl
 
 -- the session that the first whole text asks for stays
-stays_by : (reads due : Bool) (login heard_ kept_ : LoginState) (session : Session) → heard_.session ≡ Some session → login.session ≡ Some session
+stays_by : (reads due : Bool) (login heard_ kept_ : LoginState) (session : RequestedSession) → heard_.session ≡ Some session → login.session ≡ Some session
     → kept_.session ≡ Some session → (cond reads heard_ (cond due login kept_)).session ≡ Some session
 stays_by true due login heard_ kept_ session a b c = a
 stays_by false true login heard_ kept_ session a b c = b
 stays_by false false login heard_ kept_ session a b c = c
 
-session_stays : (directory : KnownTargets) (login : LoginState) (request : Frame) (session : Session) → login.session ≡ Some session
+session_stays : (directory : KnownTargets) (login : LoginState) (request : Frame) (session : RequestedSession) → login.session ≡ Some session
     → (advanced directory login request).session ≡ Some session
 session_stays directory login request session e =
     let heard_ = heard directory login request.header (pairs_with login request) in
     advanced_session directory login request
     ∙ stays_by (reads_text login request) (is_due login) login heard_ (kept_with login request) session
     (heard_session directory login request.header (pairs_with login request)
-    ∙ ap (λ (o : Option Session). option_or o (asked_by o directory request.header (pairs_with login request))) e) e e
+    ∙ ap (λ (o : Option RequestedSession). option_or o (asked_by o directory request.header (pairs_with login request))) e) e e
 
-session_later : (directory : KnownTargets) (login : LoginState) (more : List Frame) (session : Session) → login.session ≡ Some session
+session_later : (directory : KnownTargets) (login : LoginState) (more : List Frame) (session : RequestedSession) → login.session ≡ Some session
     → (fold (advanced directory) login more).session ≡ Some session
 session_later directory login [] session e = e
 session_later directory login (request ∷ more) session e =
     session_later directory (advanced directory login request) more session (session_stays directory login request session e)
 
-named_session : (o : Option Session) (t : ℕ) → target_of o ≡ Some t → (session : Session) × (o ≡ Some session) × (session.target ≡ Some t)
+named_session : (o : Option RequestedSession) (t : ℕ) → target_of o ≡ Some t → (session : RequestedSession) × (o ≡ Some session) × (session.target ≡ Some t)
 named_session None t e = absurd cc
 named_session (Some session) t e = (session, refl, e)
 
@@ -84,19 +84,20 @@ named_later directory x y more t c e n =
 
 -- ---- the session that begins
 
-begins_by : (response : LoginResponse) (login : LoginState) (header : List ℕ) (o : Option Session) (r : LoginResponse) (params : Params)
+begins_by : (response : LoginResponse) (login : LoginState) (header : List ℕ) (o : Option RequestedSession) (r : LoginResponse) (params : SessionParams)
     → reply_with response login header o ≡ Full r params → params.target ≡ target_of o
 unfolding params_of
 begins_by response login header None r params e = absurd cc
 begins_by response login header (Some session) r params e =
-    let same : params_of login header session ≡ params = cc in sym (ap (λ (p : Params). p.target) same)
+    let same : params_of login header session ≡ params = cc in sym (ap (λ (p : SessionParams). p.target) same)
 
-begun_target : (b : Bool) (o : Option Session) (response : LoginResponse) (login : LoginState) (header : List ℕ) (r : LoginResponse) (params : Params)
+begun_target : (b : Bool) (o : Option RequestedSession) (response : LoginResponse) (login : LoginState) (header : List ℕ)
+    (r : LoginResponse) (params : SessionParams)
     → reply_with response login header (cond b o None) ≡ Full r params → params.target ≡ target_of o
 begun_target true o response login header r params e = begins_by response login header o r params e
 begun_target false o response login header r params e = absurd cc
 
-answers_with : (directory : KnownTargets) (login : LoginState) (request : Frame) (r : LoginResponse) (params : Params)
+answers_with : (directory : KnownTargets) (login : LoginState) (request : Frame) (r : LoginResponse) (params : SessionParams)
     → reply_to login request ≡ Full r params → params.target ≡ target_of login.session
 unfolding reply_to
 answers_with directory login request r params e =
@@ -104,7 +105,7 @@ answers_with directory login request r params e =
     (login_response login request (handle_with login request.header (step_of request.header login.due))
     (accepted request.header login.due)) login request.header r params e
 
-unless_full : (o : Option LoginRefusal) (lookup : Lookup) (login : LoginState) (request : Frame) (r : LoginResponse) (params : Params)
+unless_full : (o : Option LoginRefusal) (lookup : Lookup) (login : LoginState) (request : Frame) (r : LoginResponse) (params : SessionParams)
     → reply_unless o lookup login request ≡ Full r params → params.target ≡ target_of (advanced lookup.directory login request).session
 unless_full (Some refusal) lookup login request r params e = absurd cc
 unless_full None lookup login request r params e =
@@ -112,7 +113,7 @@ unless_full None lookup login request r params e =
     ∙ ap target_of (sym (advanced_session lookup.directory login request))
 
 -- it is with the target that was asked for
-pub full_target : (login : LoginState) (lookup : Lookup) (request : Frame) (r : LoginResponse) (params : Params)
+pub full_target : (login : LoginState) (lookup : Lookup) (request : Frame) (r : LoginResponse) (params : SessionParams)
     → reply_of login lookup request ≡ Full r params → params.target ≡ target_of (advanced lookup.directory login request).session
 unfolding reply_of
 full_target login lookup request r params e = unless_full (refusal_of login lookup request) lookup login request r params e
@@ -120,11 +121,11 @@ full_target login lookup request r params e = unless_full (refusal_of login look
 -- ---- what it is refused for
 
 -- two sessions are told from that which is asked for in the same way
-abbrev pub AreAlike : KnownTargets → LoginState → Frame → Option Params → Option Params → Type 0
-AreAlike directory login request a b = (session : Session) → (advanced directory login request).session ≡ Some session
+abbrev pub AreAlike : KnownTargets → LoginState → Frame → Option SessionParams → Option SessionParams → Type 0
+AreAlike directory login request a b = (session : RequestedSession) → (advanced directory login request).session ≡ Some session
     → is_of session.nexus session.target a ≡ is_of session.nexus session.target b
 
-first_alike : (directory : KnownTargets) (header : List ℕ) (pairs : List Pair) (a b : Option Params)
+first_alike : (directory : KnownTargets) (header : List ℕ) (pairs : List Pair) (a b : Option SessionParams)
     → is_of (asked_for directory header pairs).nexus (asked_for directory header pairs).target a
     ≡ is_of (asked_for directory header pairs).nexus (asked_for directory header pairs).target b
     → first_refusal (lookup_in directory a) header pairs ≡ first_refusal (lookup_in directory b) header pairs
@@ -133,7 +134,7 @@ first_alike directory header pairs a b e =
     ap (λ (is : Bool). option_or (refusal_by (rules_of_names directory.names pairs))
     (refusal_by (rule is TooManyConnections ∷ rule (not (tsih header == 0)) SessionDoesNotExist ∷ []))) e
 
-text_by : (o : Option Session) (directory : KnownTargets) (login : LoginState) (request : Frame) (a b : Option Params) → login.session ≡ o
+text_by : (o : Option RequestedSession) (directory : KnownTargets) (login : LoginState) (request : Frame) (a b : Option SessionParams) → login.session ≡ o
     → reads_text login request ≡ true → AreAlike directory login request a b
     → session_refusal o (lookup_in directory a) request.header (pairs_with login request)
     ≡ session_refusal o (lookup_in directory b) request.header (pairs_with login request)
@@ -144,10 +145,10 @@ text_by None directory login request a b e reads alike =
     (advanced_session directory login request
     ∙ ap (λ (l : LoginState). l.session) (cond_true (reads_text login request) heard_ (cond (is_due login) login (kept_with login request)) reads)
     ∙ heard_session directory login request.header pairs
-    ∙ ap (λ (o : Option Session). option_or o (asked_by o directory request.header pairs)) e))
+    ∙ ap (λ (o : Option RequestedSession). option_or o (asked_by o directory request.header pairs)) e))
 text_by (Some session) directory login request a b e reads alike = refl
 
-refused_by : (reads : Bool) (directory : KnownTargets) (login : LoginState) (request : Frame) (a b : Option Params) → reads_text login request ≡ reads
+refused_by : (reads : Bool) (directory : KnownTargets) (login : LoginState) (request : Frame) (a b : Option SessionParams) → reads_text login request ≡ reads
     → AreAlike directory login request a b
     → cond reads (text_refusal login (lookup_in directory a) request) None ≡ cond reads (text_refusal login (lookup_in directory b) request) None
 unfolding text_refusal
@@ -156,13 +157,13 @@ refused_by true directory login request a b e alike =
     (text_by login.session directory login request a b refl e alike)
 refused_by false directory login request a b e alike = refl
 
-unless_alike : (o : Option LoginRefusal) (directory : KnownTargets) (login : LoginState) (request : Frame) (a b : Option Params)
+unless_alike : (o : Option LoginRefusal) (directory : KnownTargets) (login : LoginState) (request : Frame) (a b : Option SessionParams)
     → reply_unless o (lookup_in directory a) login request ≡ reply_unless o (lookup_in directory b) login request
 unless_alike (Some refusal) directory login request a b = refl
 unless_alike None directory login request a b = refl
 
 -- then the reply is the same
-pub reply_alike : (directory : KnownTargets) (login : LoginState) (request : Frame) (a b : Option Params) → AreAlike directory login request a b
+pub reply_alike : (directory : KnownTargets) (login : LoginState) (request : Frame) (a b : Option SessionParams) → AreAlike directory login request a b
     → reply_of login (lookup_in directory a) request ≡ reply_of login (lookup_in directory b) request
 unfolding reply_of refusal_of
 reply_alike directory login request a b alike =

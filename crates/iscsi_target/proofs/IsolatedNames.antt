@@ -11,13 +11,13 @@ use Rattle.iscsi_login.specs.LoginState.{LoginState, new_login}
 use Rattle.iscsi_login.specs.Session.{target_named}
 use Rattle.iscsi_login.specs.Rules.{reads_text, is_due, pairs_with, is_normal, target_asked, asked_for, asked_by}
 use Rattle.iscsi_login.specs.Login.{heard, kept_with, brought, advanced, remembered}
-use Rattle.iscsi_login.specs.declared.session.Session.{Session}
+use Rattle.iscsi_login.specs.declared.requested_session.RequestedSession.{RequestedSession}
 use Rattle.iscsi_target.specs.Life.{Life}
 use Rattle.iscsi_target.specs.Isolation.{named_in}
 use Rattle.iscsi_target.proofs.IsolatedLogin.{target_of, advanced_session, heard_session}
 
 -- the target that is asked for, where there is one, is one of so many
-Below : ℕ → Option Session → Type 0
+Below : ℕ → Option RequestedSession → Type 0
 Below count o = (t : ℕ) → target_of o ≡ Some t → t < count
 
 named_below : (names : List (List ℕ)) (name : List ℕ) (t : ℕ) → target_named names name ≡ Some t → t < length names
@@ -32,7 +32,7 @@ asked_below : (directory : KnownTargets) (header : List ℕ) (pairs : List Pair)
 unfolding Below asked_for target_asked
 asked_below directory header pairs = λ t e. normal_below (is_normal pairs) directory.names _ t e
 
-first_below : (o : Option Session) (directory : KnownTargets) (header : List ℕ) (pairs : List Pair) → Below (length directory.names) o
+first_below : (o : Option RequestedSession) (directory : KnownTargets) (header : List ℕ) (pairs : List Pair) → Below (length directory.names) o
     → Below (length directory.names) (option_or o (asked_by o directory header pairs))
 first_below None directory header pairs below = asked_below directory header pairs
 first_below (Some session) directory header pairs below = below
@@ -43,7 +43,7 @@ brought_below true due count heard_ login kept_ a b c = a
 brought_below false true count heard_ login kept_ a b c = b
 brought_below false false count heard_ login kept_ a b c = c
 
-below_as : (count : ℕ) (o p : Option Session) → p ≡ o → Below count o → Below count p
+below_as : (count : ℕ) (o p : Option RequestedSession) → p ≡ o → Below count o → Below count p
 unfolding Below
 below_as count o p e below = λ t at. below t (ap target_of (sym e) ∙ at)
 

@@ -6,7 +6,7 @@ use Rattle.iscsi_pdu.specs.declared.answer.Answer.TheVariants as answers
 use Rattle.scsi_unit.specs.Units.{UnitStates}
 use Rattle.iscsi_login.specs.Session.{older, is_same_target}
 use Rattle.iscsi_login.specs.Login.{login}
-use Rattle.iscsi_login.specs.declared.params.Params.{Params}
+use Rattle.iscsi_login.specs.declared.session_params.SessionParams.{SessionParams}
 use Rattle.iscsi_login.specs.declared.reply.Reply.{Reply}
 use Rattle.iscsi_login.specs.declared.reply.Reply.TheVariants.{GoOn, Full, Refused}
 use Rattle.iscsi_session.specs.Comings.{IsCalm}
@@ -34,14 +34,14 @@ out_changed g f c w v on keeps agree = record {
   silent = agree.silent;
 }
 
-pub out_left : (g : Selection) (o : Option Params) (all some : List UnitStates) → ((p : Params) → o ≡ Some p → HasTarget g false p.target)
+pub out_left : (g : Selection) (o : Option SessionParams) (all some : List UnitStates) → ((p : SessionParams) → o ≡ Some p → HasTarget g false p.target)
     → UnitsAgree g all some
     → UnitsAgree g (left o all) some
 unfolding changed_units
 out_left g None all some other agree = agree
 out_left g (Some p) all some other agree = with_other g p.target _ all some (other p refl) agree
 
-pub other_session : (g : Selection) (c : ℕ) (w v : World) → g.keeps_on c ≡ false → Agree g w v → (p : Params) → session_of (present c w) ≡ Some p
+pub other_session : (g : Selection) (c : ℕ) (w v : World) → g.keeps_on c ≡ false → Agree g w v → (p : SessionParams) → session_of (present c w) ≡ Some p
     → HasTarget g false p.target
 other_session g c w v on agree p e = subst (λ (b : Bool). HasTarget g b p.target) on (session_target g c w v p agree e)
 
@@ -62,7 +62,8 @@ out_end_older : (g : Selection) (o : Option ℕ) (w v : World) → ((d : ℕ) �
 out_end_older g None w v on agree = agree
 out_end_older g (Some d) w v on agree = out_changed g (ended_in Closing) d w v (on d refl) (keeps_ended g d w) agree
 
-out_begins : (g : Selection) (session : Params) (answer : Answer) (c : ℕ) (w v : World) → g.keeps_on c ≡ false → HasTarget g false session.target → Agree g w v
+out_begins : (g : Selection) (session : SessionParams) (answer : Answer) (c : ℕ) (w v : World) → g.keeps_on c ≡ false
+    → HasTarget g false session.target → Agree g w v
     → Agree g (begins session answer c w) v
 unfolding changed_units
 out_begins g session answer c w v on other agree =
@@ -71,7 +72,7 @@ out_begins g session answer c w v on other agree =
     agree_with g _ _ _ _ next refl refl (with_other g session.target _ w.units v.units other agree.units) next.calm next.silent
 
 out_replied : (g : Selection) (reply : Reply) (c : ℕ) (w v : World) → g.keeps_on c ≡ false
-    → ((r : _) (session : Params) → reply ≡ Full r session → HasTarget g false session.target) → Agree g w v → Agree g (replied reply c w) v
+    → ((r : _) (session : SessionParams) → reply ≡ Full r session → HasTarget g false session.target) → Agree g w v → Agree g (replied reply c w) v
 out_replied g (GoOn response) c w v on other agree =
     out_changed g (answered (answers.LoginResponse response)) c w v on (keeps_same g _ c w (λ life. (refl, refl))) agree
 out_replied g (Refused response) c w v on other agree =
@@ -83,7 +84,7 @@ out_replied g (Full response session) c w v on other agree =
     (λ d e. older_on g false session w v d own agree e) (out_begins g session (answers.LoginResponse response) c w v on own agree)
 
 pub out_log_in : (g : Selection) (s : Setting) (c : ℕ) (request : Frame) (w v : World) → g.keeps_on c ≡ false
-    → ((r : _) (session : Params) → login (c + 1) (requests_of (present c w)) (lookup_for s.directory (live w) request) request ≡ Full r session
+    → ((r : _) (session : SessionParams) → login (c + 1) (requests_of (present c w)) (lookup_for s.directory (live w) request) request ≡ Full r session
     → HasTarget g false session.target)
     → Agree g w v → Agree g (log_in s c request w) v
 unfolding log_in
@@ -97,7 +98,7 @@ out_worked_on : (g : Selection) (c : ℕ) (past : Past) (work : Work) (w v : Wor
     → work.past.params ≡ past.params → IsCalm g.target work.units.comings → Agree g w v → Agree g (worked_on c work w) v
 out_worked_on g c past work w v on at same calm agree =
     let other : HasTarget g false work.past.params.target =
-    subst (λ (p : Params). HasTarget g false p.target) (sym same) (other_session g c w v on agree past.params (session_of_past (present c w) past at)) in
+    subst (λ (p : SessionParams). HasTarget g false p.target) (sym same) (other_session g c w v on agree past.params (session_of_past (present c w) past at)) in
     let next = out_changed g (with_past work.past) c w v on (keeps_worked g c past work.past w at same) agree in
     agree_with g _ _ _ _ next refl refl (with_other g work.past.params.target work.units.states w.units v.units other agree.units) calm next.silent
 

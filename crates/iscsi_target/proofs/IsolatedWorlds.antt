@@ -8,7 +8,7 @@ use Rattle.std.proofs.lemmas.List.Quantifiers.{position-Some}
 use Rattle.scsi_sense.specs.Nexus.{NexusName, same_nexus}
 use Rattle.scsi_unit.specs.Units.{UnitStates}
 use Rattle.iscsi_login.specs.Session.{is_same_target, is_of, named_by, older}
-use Rattle.iscsi_login.specs.declared.params.Params.{Params}
+use Rattle.iscsi_login.specs.declared.session_params.SessionParams.{SessionParams}
 use Rattle.iscsi_session.specs.Comings.{IsCalm}
 use Rattle.iscsi_session.specs.Requests.{Past}
 use Rattle.iscsi_target.specs.History.{connection_limit, connections}
@@ -100,7 +100,7 @@ present_fits g c w v life agree at =
     let found = found_fits (Fits g) c 0 w.lives life agree.fits at in
     (found.0, found.1, number_of g c found.0 life (present_is c w life at) found.1)
 
-session_target_by : (g : Selection) (c : ℕ) (w v : World) (o : Option Life) (p : Params) → Agree g w v → present c w ≡ o → session_of o ≡ Some p
+session_target_by : (g : Selection) (c : ℕ) (w v : World) (o : Option Life) (p : SessionParams) → Agree g w v → present c w ≡ o → session_of o ≡ Some p
     → HasTarget g (g.keeps_on c) p.target
 session_target_by g c w v None p agree at e = absurd cc
 session_target_by g c w v (Some life) p agree at e =
@@ -108,7 +108,8 @@ session_target_by g c w v (Some life) p agree at e =
     subst (λ (b : Bool). HasTarget g b p.target) found.2 (found.1.session p e)
 
 -- the target of a session
-pub session_target : (g : Selection) (c : ℕ) (w v : World) (p : Params) → Agree g w v → session_of (present c w) ≡ Some p → HasTarget g (g.keeps_on c) p.target
+pub session_target : (g : Selection) (c : ℕ) (w v : World) (p : SessionParams) → Agree g w v → session_of (present c w) ≡ Some p
+    → HasTarget g (g.keeps_on c) p.target
 session_target g c w v p agree e = session_target_by g c w v (present c w) p agree refl e
 
 session_past : (phase : Phase) (past : Past) → past_in phase ≡ Some past → session_in phase ≡ Some past.params
@@ -135,8 +136,8 @@ unfolding HasTarget
 one_target g a b o p x y e = let s = same_targets o p e in x s.0 s.1 ∙ sym (y s.0 s.2)
 
 -- a session of a life that is not kept is of no target of a life that is
-other_is_none : (g : Selection) (nexus : NexusName) (o : Option ℕ) (q : Option Params) → HasTarget g true o
-    → ((p : Params) → q ≡ Some p → HasTarget g false p.target) → is_of nexus o None ≡ is_of nexus o q
+other_is_none : (g : Selection) (nexus : NexusName) (o : Option ℕ) (q : Option SessionParams) → HasTarget g true o
+    → ((p : SessionParams) → q ≡ Some p → HasTarget g false p.target) → is_of nexus o None ≡ is_of nexus o q
 other_is_none g nexus o None own other = refl
 other_is_none g nexus o (Some p) own other = by_target (is_same_target p.target o) refl
   where
@@ -154,13 +155,13 @@ session_same g nexus o w v d own agree = by_choice (g.keeps_on d) refl
         ∙ other_is_none g nexus o (session_of (present d w)) own (λ p e. subst (λ (b : Bool). HasTarget g b p.target) on
         (session_target g d w v p agree e))
 
-map_at : (p : Option Params → Bool) (f h : ℕ → Option Params) (cs : List ℕ) (i : ℕ) → ((c : ℕ) → p (f c) ≡ p (h c))
+map_at : (p : Option SessionParams → Bool) (f h : ℕ → Option SessionParams) (cs : List ℕ) (i : ℕ) → ((c : ℕ) → p (f c) ≡ p (h c))
     → p (slice_index_or (map f cs) i None) ≡ p (slice_index_or (map h cs) i None)
 map_at p f h [] i same = refl
 map_at p f h (c ∷ cs) zero same = same c
 map_at p f h (c ∷ cs) (suc i) same = map_at p f h cs i same
 
-named_by_cases : (b : Bool) (p : Option Params → Bool) (x y : Option Params) → p x ≡ p y → p (cond b None x) ≡ p (cond b None y)
+named_by_cases : (b : Bool) (p : Option SessionParams → Bool) (x y : Option SessionParams) → p x ≡ p y → p (cond b None x) ≡ p (cond b None y)
 named_by_cases true p x y e = refl
 named_by_cases false p x y e = e
 
@@ -174,7 +175,7 @@ named_same g nexus o w v handle own agree =
     (λ d. session_same g nexus o w v d own agree)))
 
 -- the older session
-pub older_same : (g : Selection) (session : Params) (w v : World) → HasTarget g true session.target → Agree g w v
+pub older_same : (g : Selection) (session : SessionParams) (w v : World) → HasTarget g true session.target → Agree g w v
     → older session (live v) ≡ older session (live w)
 unfolding older live
 older_same g session w v own agree =
@@ -183,16 +184,17 @@ older_same g session w v own agree =
     ∙ sym (position_of_map (is_of session.nexus session.target) (λ c. session_of (present c w)) connections)
 
 -- a session of the same target is of a life that is kept too, or neither is
-of_target : (q : Option Params) (nexus : NexusName) (o : Option ℕ) → is_of nexus o q ≡ true → (p : Params) × (q ≡ Some p) × (is_same_target p.target o ≡ true)
+of_target : (q : Option SessionParams) (nexus : NexusName) (o : Option ℕ) → is_of nexus o q ≡ true
+    → (p : SessionParams) × (q ≡ Some p) × (is_same_target p.target o ≡ true)
 of_target None nexus o e = absurd cc
 of_target (Some p) nexus o e = (p, refl, (and_true (same_nexus p.nexus nexus) (is_same_target p.target o) e).1)
 
-pub older_on : (g : Selection) (b : Bool) (session : Params) (w v : World) (d : ℕ) → HasTarget g b session.target → Agree g w v
+pub older_on : (g : Selection) (b : Bool) (session : SessionParams) (w v : World) (d : ℕ) → HasTarget g b session.target → Agree g w v
     → older session (live w) ≡ Some d
     → g.keeps_on d ≡ b
 unfolding older live
 older_on g b session w v d own agree e =
-    let f : ℕ → Option Params = λ c. session_of (present c w) in
+    let f : ℕ → Option SessionParams = λ c. session_of (present c w) in
     let at = position-Some (is_of session.nexus session.target) (map f connections) d None e in
     let below : d < connection_limit = omega (arith, at.0, length-map-range_with_len f 0 connection_limit) in
     let is : is_of session.nexus session.target (f d) ≡ true =

@@ -9,7 +9,7 @@ use Rattle.iscsi_pdu.specs.declared.answer.Answer.{Answer}
 use Rattle.iscsi_pdu.specs.declared.answer.Answer.TheVariants as answers
 use Rattle.iscsi_login.specs.Session.{older}
 use Rattle.iscsi_login.specs.Login.{login}
-use Rattle.iscsi_login.specs.declared.params.Params.{Params}
+use Rattle.iscsi_login.specs.declared.session_params.SessionParams.{SessionParams}
 use Rattle.iscsi_login.specs.declared.reply.Reply.{Reply}
 use Rattle.iscsi_login.specs.declared.reply.Reply.TheVariants.{GoOn, Full, Refused}
 use Rattle.iscsi_session.specs.Requests.{Past}
@@ -187,7 +187,7 @@ on-answered answer c w logs = on-changed (answered answer) c w (answered_placed 
     (let is = logs_in_is life.phase (logs life at) in
     record { goes = answered_continues answer life is.0 is.1; bytes = refl; reads_so = λ e. e; past_login = λ past. (past, refl) }))
 
-begun_continues : (session : Params) (answer : Answer) (life : Life) → life.phase ≡ LoggingIn → Continues (begun session answer) life
+begun_continues : (session : SessionParams) (answer : Answer) (life : Life) → life.phase ≡ LoggingIn → Continues (begun session answer) life
 begun_continues session answer life e = record {
   connection = refl;
   is_open = refl;
@@ -200,11 +200,11 @@ begun_continues session answer life e = record {
   asks = asks_same life (begun session answer life) refl refl;
 }
 
-begun_keeps : (session : Params) (answer : Answer) (life : Life) → life.phase ≡ LoggingIn → Keeps (begun session answer) life
+begun_keeps : (session : SessionParams) (answer : Answer) (life : Life) → life.phase ≡ LoggingIn → Keeps (begun session answer) life
 begun_keeps session answer life e =
     record { goes = begun_continues session answer life e; bytes = refl; reads_so = λ r. ap reads e; past_login = λ past. (refl, refl) }
 
-on-begins : (session : Params) (answer : Answer) (c : ℕ) (w : World) → LogsIn c w → Goes w (begins session answer c w)
+on-begins : (session : SessionParams) (answer : Answer) (c : ℕ) (w : World) → LogsIn c w → Goes w (begins session answer c w)
 on-begins session answer c w logs =
     with_lives w (changed (begun session answer) c w) (begins session answer c w)
     (on-changed (begun session answer) c w (begun_placed session answer) (λ life at. begun_keeps session answer life (logs life at))) refl []

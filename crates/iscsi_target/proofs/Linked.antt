@@ -9,7 +9,7 @@ use Rattle.std.proofs.lemmas.Grind.{flat_map-append}
 use Rattle.iscsi_pdu.specs.Answer.{spelling}
 use Rattle.iscsi_pdu.specs.declared.answer.Answer.{Answer}
 use Rattle.scsi_unit.specs.Units.{UnitStates}
-use Rattle.iscsi_login.specs.declared.params.Params.{Params}
+use Rattle.iscsi_login.specs.declared.session_params.SessionParams.{SessionParams}
 use Rattle.iscsi_login.specs.Directory.{KnownTargets}
 use Rattle.iscsi_target.specs.History.{Point, connection_limit}
 use Rattle.iscsi_target.specs.Life.{Life, Phase, LoggingIn, Closing, reads, session_in, session_answers, answers_of, out_of, ended_in}
@@ -210,7 +210,7 @@ unfolding closed
 closes s sent half w machine c life lt h at =
     let link = link_at machine c in
     let all = left (session_in_phase link.phase) machine.units in
-    let units : (close c w).units ≡ all = units_close c w ∙ ap (λ (o : Option Params). left o w.units) (sym (session_at s sent half w machine c lt h))
+    let units : (close c w).units ≡ all = units_close c w ∙ ap (λ (o : Option SessionParams). left o w.units) (sym (session_at s sent half w machine c lt h))
     ∙ ap (left (session_in_phase link.phase)) (sym (ap (λ (m : Machine). m.units) h.is ∙ units_with s sent half w)) in
     let P : List ℕ → Type 0 = λ bytes. Serves s sent half (close c w)
     (record (with_link machine c (life_link s.directory (half c) (ended_in Closing life) bytes)) { units = all }) in
@@ -250,8 +250,8 @@ pub live_there : (s : Setting) (sent : ℕ → ℕ) (half : ℕ → List ℕ) (w
     → live w ≡ sessions machine.links
 unfolding live
 live_there s sent half w machine h =
-    let f : ℕ → Option Params = λ c. session_of (present c w) in
-    let g : LinkState → Option Params = λ link. session_in_phase link.phase in
+    let f : ℕ → Option SessionParams = λ c. session_of (present c w) in
+    let g : LinkState → Option SessionParams = λ link. session_in_phase link.phase in
     let count = count_there s sent half w machine h in
     let len : length (map f (range_with_len 0 connection_limit)) ≡ length (map g machine.links) = length-map-range_with_len f 0 connection_limit
     ∙ sym count ∙ sym (length-map machine.links g) in
@@ -261,6 +261,6 @@ live_there s sent half w machine h =
     ∙ sym (session_at s sent half w machine i below h)
     ∙ sym (get_or-mapped g machine.links i (omega (arith, count)))))
   where
-    get_or-mapped : (g : LinkState → Option Params) (links : List LinkState) (i : ℕ) → i < length links
+    get_or-mapped : (g : LinkState → Option SessionParams) (links : List LinkState) (i : ℕ) → i < length links
         → get_or (map g links) i None ≡ g (get_or links i free_link)
     get_or-mapped g links i lt = get_or-map g links i free_link None lt

@@ -5,7 +5,7 @@ use Rattle.std.proofs.lemmas.Bool.Decides.{eqb_tells}
 use Rattle.std.proofs.lemmas.List.Folds.{find-append}
 use Rattle.iscsi_pdu.specs.Frames.{Frame}
 use Rattle.iscsi_pdu.specs.declared.answer.Answer.{Answer}
-use Rattle.iscsi_login.specs.declared.params.Params.{Params}
+use Rattle.iscsi_login.specs.declared.session_params.SessionParams.{SessionParams}
 use Rattle.iscsi_session.specs.Requests.{Past}
 use Rattle.iscsi_target.specs.Life.{Life, Closing, born, is_over, ended_in}
 use Rattle.iscsi_target.specs.World.{World, is_present, present, changed_first, changed, over, end, answered, asked, begun, with_past, longer}
@@ -35,7 +35,7 @@ open_placed f on open_ = record { on = on; stays = λ c life is. still_present c
 pub ended_placed : IsPlaced (ended_in Closing)
 ended_placed = open_placed (ended_in Closing) (λ life. refl) (λ life. refl)
 
-pub begun_placed : (session : Params) (answer : Answer) → IsPlaced (begun session answer)
+pub begun_placed : (session : SessionParams) (answer : Answer) → IsPlaced (begun session answer)
 begun_placed session answer = open_placed (begun session answer) (λ life. refl) (λ life. refl)
 
 pub worked_placed : (past : Past) → IsPlaced (with_past past)

@@ -12,7 +12,7 @@ use Rattle.scsi_unit.specs.Units.{join}
 use Rattle.iscsi_login.specs.Session.{is_of, older}
 use Rattle.iscsi_login.specs.LoginState.{new_login}
 use Rattle.iscsi_login.specs.Login.{login, advanced, remembered, reply_of}
-use Rattle.iscsi_login.specs.declared.params.Params.{Params}
+use Rattle.iscsi_login.specs.declared.session_params.SessionParams.{SessionParams}
 use Rattle.iscsi_login.specs.declared.reply.Reply.{Reply}
 use Rattle.iscsi_login.specs.declared.reply.Reply.TheVariants.{GoOn, Full, Refused}
 use Rattle.iscsi_session.proofs.Accepted.{begun_lawful}
@@ -58,7 +58,7 @@ answers_more life request answer e =
     ∙ ap (λ (l : List ℕ). out_of life ++ l) (append-nil (spelling answer))
 
 -- a session's first answer is its login's last
-begun_more : (life : Life) (request : Frame) (answer : Answer) (session : Params) → life.phase ≡ LoggingIn
+begun_more : (life : Life) (request : Frame) (answer : Answer) (session : SessionParams) → life.phase ≡ LoggingIn
     → out_of (begun session answer (asked request life)) ≡ out_of life ++ spelling answer
 begun_more life request answer session e =
     out-more life (begun session answer (asked request life)) (answer ∷ [])
@@ -84,7 +84,7 @@ remembered-push directory handle requests request = fold-append (advanced direct
 
 -- ---- an older session ends
 
-some_life : (session : Params) (o : Option Life) → is_of session.nexus session.target (session_of o) ≡ true → (life : Life) × (o ≡ Some life)
+some_life : (session : SessionParams) (o : Option Life) → is_of session.nexus session.target (session_of o) ≡ true → (life : Life) × (o ≡ Some life)
 some_life session None e = absurd cc
 some_life session (Some life) e = (life, refl)
 
@@ -107,7 +107,7 @@ ends s sent half w machine d life lt h at =
     (λ k differ. present-changed_other (ended_in Closing) d k w (λ l. refl) differ) (out-ended life Closing refl ∙ sym (append-nil (out_of life))) tt
     (units_changed (ended_in Closing) d w ∙ sym (units_there s sent half w machine h)))
 
-present_begun_other : (w : World) (c d : ℕ) (request : Frame) (answer : Answer) (session : Params) → d ≢ c
+present_begun_other : (w : World) (c d : ℕ) (request : Frame) (answer : Answer) (session : SessionParams) → d ≢ c
     → present d (begins session answer c (changed (asked request) c w)) ≡ present d w
 present_begun_other w c d request answer session differ =
     let u = changed (asked request) c w in
@@ -139,7 +139,7 @@ module _ (s : Setting) (sent : ℕ → ℕ) (half : ℕ → List ℕ) (w : World
       serves_life s sent half w (close c v) machine c machine.units life (ended_in Closing m) (spelling answer) h.in_range h.serves h.at
       (present-close c v m at_v) (λ d differ. present-close_other c d v differ ∙ present-changed_other (answered answer) c d u (λ l. refl) differ
       ∙ asked_other w c d request differ) (out-ended m Closing refl ∙ answers_more life request answer h.phase) tt
-      (ap (λ (o : Option Params). left o v.units) none ∙ units_changed (answered answer) c u ∙ units_changed (asked request) c w
+      (ap (λ (o : Option SessionParams). left o v.units) none ∙ units_changed (answered answer) c u ∙ units_changed (asked request) c w
       ∙ sym (units_there s sent half w machine h.serves))
 
   goes_on : (answer : Answer)
@@ -162,7 +162,7 @@ module _ (s : Setting) (sent : ℕ → ℕ) (half : ℕ → List ℕ) (w : World
       (answers_more life request answer h.phase) (quiet_login m.phase h.phase)
       (units_changed (answered answer) c u ∙ units_changed (asked request) c w ∙ sym (units_there s sent half w machine h.serves)))
 
-  begins_here : (answer : Answer) (session : Params)
+  begins_here : (answer : Answer) (session : SessionParams)
       → Serves s sent half (begins session answer c (changed (asked request) c w)) (record (with_link machine c (begun_link session answer
       (link_at machine c))) { units = changed_units (join session.nexus) session.target machine.units })
   begins_here answer session =
@@ -180,7 +180,7 @@ module _ (s : Setting) (sent : ℕ → ℕ) (half : ℕ → List ℕ) (w : World
       ∙ asked_other w c d request differ) (begun_more life request answer session h.phase) (begun_lawful session)
       (ap (changed_units (join session.nexus) session.target) (units_changed (asked request) c w ∙ sym (units_there s sent half w machine h.serves))))
 
-  has_older : (d : ℕ) (session : Params) → older session (sessions machine.links) ≡ Some d → HasOlder c d w
+  has_older : (d : ℕ) (session : SessionParams) → older session (sessions machine.links) ≡ Some d → HasOlder c d w
   unfolding older
   has_older d session e =
       let p = position-Some (is_of session.nexus session.target) (sessions machine.links) d None e in
@@ -198,7 +198,7 @@ module _ (s : Setting) (sent : ℕ → ℕ) (half : ℕ → List ℕ) (w : World
         at = other.1;
       }
 
-  begins_with : (answer : Answer) (session : Params) (o : Option ℕ) → older session (sessions machine.links) ≡ o
+  begins_with : (answer : Answer) (session : SessionParams) (o : Option ℕ) → older session (sessions machine.links) ≡ o
       → Serves s sent half (end_older o (begins session answer c (changed (asked request) c w))) (shut_older o (record (with_link machine c
       (begun_link session answer (link_at machine c))) { units = changed_units (join session.nexus) session.target machine.units }))
   begins_with answer session None e = begins_here answer session

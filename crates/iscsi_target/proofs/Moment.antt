@@ -6,7 +6,7 @@ use Rattle.std.proofs.lemmas.Bool.Decides.{eqb_tells}
 use Rattle.std.proofs.lemmas.List.Sums.{fold-append}
 use Rattle.iscsi_pdu.specs.Frames.{Frame}
 use Rattle.iscsi_login.specs.Session.{is_same_target}
-use Rattle.iscsi_login.specs.declared.params.Params.{Params}
+use Rattle.iscsi_login.specs.declared.session_params.SessionParams.{SessionParams}
 use Rattle.iscsi_session.specs.Requests.{Past, begun as begun_past}
 use Rattle.iscsi_session.specs.Requests as requests
 use Rattle.iscsi_session.specs.State.{IsLawful}
@@ -130,7 +130,7 @@ module _ (marks : List Mark) (place target : ℕ) where
 abbrev Rests : ℕ → Past → Type 0
 Rests d past = IsIdle d past × (d < connection_limit → IsReady past)
 
-begun_ready : (session : Params) → IsReady (begun_past session)
+begun_ready : (session : SessionParams) → IsReady (begun_past session)
 unfolding ready requests.queue requests.left
 begun_ready session = refl
 
@@ -157,7 +157,7 @@ module _ (marks : List Mark) (c place : ℕ) (frame : Frame) (past : Past) (w : 
   serve_ready None own = subst (Each AreReady) (sym taken_is) (each_worked Rests AreReady c w (λ d found differ r. r.1) rest work
       (λ on lt. nothing_stays_due.discovery work.past lawful
       (nothing_stays_due.served (fails marks c) place frame (work_of past w) fits here.0.0 here.0.1 on)
-      (ap (λ (p : Params). p.target) (served_extends (fails marks c) place frame (work_of past w)).params ∙ own)))
+      (ap (λ (p : SessionParams). p.target) (served_extends (fails marks c) place frame (work_of past w)).params ∙ own)))
   serve_ready (Some target) own =
       let v = take_in marks c place frame w in
       let taken : Each (Below marks place target 0) v = subst (Each (Below marks place target 0)) (sym taken_is)
@@ -165,7 +165,7 @@ module _ (marks : List Mark) (c place : ℕ) (frame : Frame) (past : Past) (w : 
       (λ d found differ r. (r.0.0, λ lt. inr (r.1 lt), λ lt. absurd (omega (arith, lt)))) rest work
       (λ on. (
         lawful,
-        λ lt. inl (ap (λ (p : Params). is_same_target p.target (Some target))
+        λ lt. inl (ap (λ (p : SessionParams). is_same_target p.target (Some target))
             (served_extends (fails marks c) place frame (work_of past w)).params ∙ ap (λ (o : Option ℕ). is_same_target o (Some target)) own ∙ eqb_self target),
         λ lt. absurd (omega (arith, lt)),
       ))) in

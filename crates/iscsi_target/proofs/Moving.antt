@@ -10,7 +10,7 @@ use Rattle.iscsi_pdu.specs.declared.answer.Answer.TheVariants as answers
 use Rattle.iscsi_login.specs.LoginState.{LoginState, IsTargetBelow}
 use Rattle.iscsi_login.specs.Session.{is_of, older}
 use Rattle.iscsi_login.specs.Login.{advanced, reply_of}
-use Rattle.iscsi_login.specs.declared.params.Params.{Params}
+use Rattle.iscsi_login.specs.declared.session_params.SessionParams.{SessionParams}
 use Rattle.iscsi_login.specs.declared.reply.Reply.{Reply}
 use Rattle.iscsi_login.specs.declared.reply.Reply.TheVariants.{GoOn, Full, Refused}
 use Rattle.iscsi_target.specs.World.{left, units_at, with_units, changed_units, lookup_for}
@@ -280,19 +280,20 @@ alters : (machine : Machine) (units : List UnitStates) (c : ℕ) (link : LinkSta
     → KeepsHalf (link_at machine c).half link → Alters c machine (record (with_link machine c link) { units = units })
 alters machine units c link lt ch half = changes_alters c machine units c link lt ch (own_self c machine) half (λ other. absurd (other refl))
 
-pub is_of_none : (session : Params) (o : Option Params) → is_of session.nexus session.target o ≡ true → o ≡ None → ⊥
+pub is_of_none : (session : SessionParams) (o : Option SessionParams) → is_of session.nexus session.target o ≡ true → o ≡ None → ⊥
 is_of_none session None e n = absurd cc
 is_of_none session (Some x) e n = absurd cc
 
-session_reads : (session : Params) (phase : Phase) → is_of session.nexus session.target (session_in_phase phase) ≡ true → is_reading phase ≡ true
+session_reads : (session : SessionParams) (phase : Phase) → is_of session.nexus session.target (session_in_phase phase) ≡ true → is_reading phase ≡ true
 session_reads session (phases.FullFeature other) e = refl
 session_reads session _ e = absurd (is_of_none session None e refl)
 
-session_past_login : (session : Params) (phase : Phase) → is_of session.nexus session.target (session_in_phase phase) ≡ true → is_logging_in phase ≡ false
+session_past_login : (session : SessionParams) (phase : Phase) → is_of session.nexus session.target (session_in_phase phase) ≡ true
+    → is_logging_in phase ≡ false
 session_past_login session (phases.Login login) e = absurd (is_of_none session None e refl)
 session_past_login session _ e = refl
 
-older_reads : (machine : Machine) (session : Params) (d : ℕ) → older session (sessions machine.links) ≡ Some d → (d < length machine.links)
+older_reads : (machine : Machine) (session : SessionParams) (d : ℕ) → older session (sessions machine.links) ≡ Some d → (d < length machine.links)
     × (is_of session.nexus session.target (session_in_phase (link_at machine d).phase) ≡ true)
 unfolding older
 older_reads machine session d e =
@@ -302,7 +303,7 @@ older_reads machine session d e =
     get_or-map (λ link. session_in_phase link.phase) machine.links d free_link None below in
     (below, ap (is_of session.nexus session.target) (sym there) ∙ p.1)
 
-older_alters : (o : Option ℕ) (given machine : Machine) (session : Params) (c : ℕ) (link : LinkState) (units : List UnitStates)
+older_alters : (o : Option ℕ) (given machine : Machine) (session : SessionParams) (c : ℕ) (link : LinkState) (units : List UnitStates)
     → c < length given.links → is_reading link.phase ≡ true → machine ≡ record (with_link given c link) { units = units }
     → older session (sessions given.links) ≡ o → Alters c machine (shut_older o machine)
 older_alters None given machine session c link units lt reads is e = alters_same c machine machine refl

@@ -21,7 +21,7 @@ use Rattle.iscsi_pdu.specs.Frames.{Frame}
 use Rattle.iscsi_login.specs.LoginState.{LoginState}
 use Rattle.iscsi_login.specs.Session.{older}
 use Rattle.iscsi_login.specs.Login.{advanced, reply_of}
-use Rattle.iscsi_login.specs.declared.params.Params.{Params}
+use Rattle.iscsi_login.specs.declared.session_params.SessionParams.{SessionParams}
 use Rattle.iscsi_login.specs.declared.reply.Reply.{Reply}
 use Rattle.iscsi_login.specs.declared.reply.Reply.TheVariants.{Full}
 use Rattle.iscsi_session.specs.Scope.{attention_of}
@@ -67,7 +67,7 @@ unfolding changed_units
 media_changed f None all same = refl
 media_changed f (Some target) all same = map-set_same media all target (f (slice_index_or all target [])) [] (same (slice_index_or all target []))
 
-media_left : (o : Option Params) (all : List UnitStates) → map media (left o all) ≡ map media all
+media_left : (o : Option SessionParams) (all : List UnitStates) → map media (left o all) ≡ map media all
 unfolding leave
 media_left None all = refl
 media_left (Some session) all = media_changed (leave session.nexus) session.target all (λ units. media_map (left_unit session.nexus) units (λ unit. refl))
@@ -76,7 +76,8 @@ media_older : (o : Option ℕ) (machine : Machine) → (shut_older o machine).un
 media_older None machine = refl
 media_older (Some d) machine = refl
 
-media_begun : (session : Params) (answer : Answer) (c : ℕ) (machine : Machine) → map media (begun session answer c machine).units ≡ map media machine.units
+media_begun : (session : SessionParams) (answer : Answer) (c : ℕ) (machine : Machine)
+    → map media (begun session answer c machine).units ≡ map media machine.units
 unfolding join
 media_begun session answer c machine =
     let link = begun_link session answer (link_at machine c) in

@@ -7,7 +7,7 @@ use Rattle.iscsi_pdu.specs.declared.answer.Answer.TheVariants as answers
 use Rattle.iscsi_pdu.specs.declared.login_response.LoginResponse.{LoginResponse}
 use Rattle.iscsi_login.specs.Session.{Live, older}
 use Rattle.iscsi_login.specs.Login.{login}
-use Rattle.iscsi_login.specs.declared.params.Params.{Params}
+use Rattle.iscsi_login.specs.declared.session_params.SessionParams.{SessionParams}
 use Rattle.iscsi_login.specs.declared.reply.Reply.{Reply}
 use Rattle.iscsi_login.specs.declared.reply.Reply.TheVariants.{GoOn, Full, Refused}
 use Rattle.iscsi_session.specs.Requests.{Past, queue}
@@ -209,7 +209,7 @@ module _ (s : Setting) (c d : ℕ) (w : World) (differ : d ≢ c) where
     reads_ = ap reads_life (present-changed_other f c d v placed.on differ) ∙ a.reads_;
   }
 
-  older_by : (v : World) (x : Life) (request : Frame) (response : LoginResponse) (session : Params) (o : Option ℕ) → Asking_ v x
+  older_by : (v : World) (x : Life) (request : Frame) (response : LoginResponse) (session : SessionParams) (o : Option ℕ) → Asking_ v x
       → login (c + 1) x.requests (lookup_for s.directory (live w) request) request ≡ Full response session → older session (live w) ≡ o
       → Spared s c d w (end_older o (begins session (answers.LoginResponse response) c (changed (asked request) c v)))
   older_by v x request response session o a begins_ e =

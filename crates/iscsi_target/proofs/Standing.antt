@@ -8,7 +8,7 @@ use Rattle.std.proofs.Math.Seq.{drop-nil}
 use Rattle.iscsi_pdu.specs.Frames.{is_long}
 use Rattle.iscsi_pdu.proofs.Frames.{no_frame, rest_none}
 use Rattle.iscsi_login.specs.Login.{remembered}
-use Rattle.iscsi_login.specs.declared.params.Params.{Params}
+use Rattle.iscsi_login.specs.declared.session_params.SessionParams.{SessionParams}
 use Rattle.scsi_unit.specs.Units.{UnitStates}
 use Rattle.iscsi_login.specs.Directory.{KnownTargets}
 use Rattle.iscsi_session.specs.Comings.{Coming}
@@ -231,7 +231,7 @@ gone_stands s sent machine history c lt h =
     let same = ap (λ (m : Machine). m.units) h.is ∙ units_with s sent (λ k. half_of (present k w)) w in
     let units : v.units ≡ left (session_in_phase (link_at machine c).phase) machine.units =
     units_end c (fresh w) ∙ ap (λ (o : Option Life). left (session_of o) w.units) (present-fresh c w)
-    ∙ ap (λ (o : Option Params). left o w.units) (sym (session_at s sent (λ k. half_of (present k w)) w machine c lt (serving s sent w machine h)))
+    ∙ ap (λ (o : Option SessionParams). left o w.units) (sym (session_at s sent (λ k. half_of (present k w)) w machine c lt (serving s sent w machine h)))
     ∙ ap (left (session_in_phase (link_at machine c).phase)) (sym same) in
     let twice : set (set machine.links c (shut_link (link_at machine c))) c free_link ≡ set machine.links c free_link =
     set-set machine.links c (shut_link (link_at machine c)) free_link in

@@ -4,7 +4,7 @@
 -- unit.
 use Rattle.std.specs.Prelude.{◌≡◌, ℕ, ◌+◌, List, [], ◌∷◌, ◌++◌, take, drop, map, replicate, Bool, true, false, codes, refl}
 use Rattle.media_block.specs.Blocks.{blocks_of}
-use Rattle.iscsi_transfer.specs.Task.{with_data, with_asked}
+use Rattle.iscsi_transfer.specs.WriteData.{with_data, with_asked}
 use Rattle.iscsi_session.specs.Steps.{ready}
 use Rattle.scsi_unit.specs.Joined.{raised_for_all}
 use Rattle.scsi_unit.specs.Units.{raised_for_all_at}

@@ -2,7 +2,7 @@
 use Rattle.std.specs.Prelude.{◌≡◌, false, ℕ, List, [], ◌∷◌, ◌++◌, length, drop, map, filter, Bool, true, ◌&&◌, not, ◌==◌, nat_lt, if◌then◌else◌}
 use Rattle.std.specs.List.{list_any, enumerate_from}
 use Rattle.iscsi_pdu.specs.Frames.{Frame, frames, rest, is_long}
-pub use Rattle.connection_numbers.specs.Numbers.{connection_limit, connections}
+pub use Rattle.target_limits.specs.Numbers.{connection_limit, connections}
 use Rattle.iscsi_session.specs.Comings.{Coming}
 use Rattle.iscsi_session.specs.Steps.{Step, is_step, is_of}
 

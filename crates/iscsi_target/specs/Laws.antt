@@ -5,7 +5,7 @@ use Rattle.iscsi_pdu.specs.Frames.{Frame}
 use Rattle.iscsi_pdu.specs.declared.login_response.LoginResponse.{LoginResponse}
 use Rattle.iscsi_login.specs.Session.{older}
 use Rattle.iscsi_login.specs.Login.{login}
-use Rattle.iscsi_login.specs.declared.params.Params.{Params}
+use Rattle.iscsi_login.specs.declared.session_params.SessionParams.{SessionParams}
 use Rattle.iscsi_login.specs.declared.reply.Reply.TheVariants.{Full}
 use Rattle.iscsi_session.specs.Comings.{Coming}
 use Rattle.iscsi_session.specs.Requests.{Past, taken}
@@ -76,7 +76,7 @@ pub record Reinstates (s : Setting) (c d : ℕ) (before after : World) : Type 0 
   pub earlier : List Frame
   pub request : Frame
   pub response : LoginResponse
-  pub session : Params
+  pub session : SessionParams
   pub requests : requests_of (present c after) ≡ earlier ++ request ∷ []
   pub begins : login (c + 1) earlier (lookup_for s.directory (live before) request) request ≡ Full response session
   pub older : older session (live before) ≡ Some d

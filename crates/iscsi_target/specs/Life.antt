@@ -3,7 +3,7 @@ use Rattle.std.specs.Prelude.{ℕ, List, [], ◌++◌, flat_map, Bool, true, fal
 use Rattle.iscsi_pdu.specs.Frames.{Frame}
 use Rattle.iscsi_pdu.specs.Answer.{spelling}
 use Rattle.iscsi_pdu.specs.declared.answer.Answer.{Answer}
-use Rattle.iscsi_login.specs.declared.params.Params.{Params}
+use Rattle.iscsi_login.specs.declared.session_params.SessionParams.{SessionParams}
 use Rattle.iscsi_session.specs.Requests.{Past}
 
 -- the phase of a connection (RFC 7143 §4.2.4 to §4.2.6)
@@ -55,7 +55,7 @@ past_in (FullFeature session) = Some session
 past_in Closing = None
 past_in Over = None
 
-abbrev pub session_in : Phase → Option Params
+abbrev pub session_in : Phase → Option SessionParams
 session_in LoggingIn = None
 session_in (FullFeature session) = Some session.params
 session_in Closing = None

@@ -16,7 +16,7 @@ use Rattle.iscsi_login.specs.Values.{AreInRange}
 use Rattle.iscsi_session.specs.Requests.{begun as begun_past}
 use Rattle.iscsi_session.specs.State.{remembered, is_waiting}
 use Rattle.iscsi_target.specs.World.{left, changed_units, lookup_for}
-use Rattle.iscsi_login.specs.declared.params.Params.{Params}
+use Rattle.iscsi_login.specs.declared.session_params.SessionParams.{SessionParams}
 use Rattle.iscsi_login.specs.declared.reply.Reply.{Reply}
 use Rattle.iscsi_login.specs.declared.reply.Reply.TheVariants.{GoOn, Full, Refused}
 use Rattle.iscsi_target.specs.declared.phase.Phase.{Phase}
@@ -117,7 +117,7 @@ abbrev pub want_of : LinkState → ℕ
 want_of link = if is_closing link.phase || nat_lt most_waiting (length link.waiting) then 0 else wanted link.half
 
 -- the session in full feature phase
-abbrev pub session_in_phase : Phase → Option Params
+abbrev pub session_in_phase : Phase → Option SessionParams
 session_in_phase (FullFeature session) = Some session.params
 session_in_phase Free = None
 session_in_phase (Login login) = None
@@ -173,7 +173,7 @@ gone_on_link login answer link = record link { phase = Login login; waiting = li
 abbrev pub refused_link : Answer → LinkState → LinkState
 refused_link answer link = record { half = []; phase = Closing; waiting = link.waiting ++ spelling answer }
 
-abbrev pub begun_link : Params → Answer → LinkState → LinkState
+abbrev pub begun_link : SessionParams → Answer → LinkState → LinkState
 begun_link session answer link = record link { phase = FullFeature (remembered (begun_past session)); waiting = link.waiting ++ spelling answer }
 
 abbrev pub with_link : Machine → ℕ → LinkState → Machine
@@ -188,12 +188,12 @@ shut_older None machine = machine
 shut_older (Some d) machine = with_link machine d (shut_link (link_at machine d))
 
 -- full feature phase begins, and the nexus joins the units of its target
-abbrev pub joined_session : Params → Answer → ℕ → Machine → Machine
+abbrev pub joined_session : SessionParams → Answer → ℕ → Machine → Machine
 joined_session session answer c machine = record (with_link machine c (begun_link session answer (link_at machine c)))
     { units = changed_units (join session.nexus) session.target machine.units }
 
 -- the same, and an older session of the same nexus with the same target ends
-abbrev pub begun : Params → Answer → ℕ → Machine → Machine
+abbrev pub begun : SessionParams → Answer → ℕ → Machine → Machine
 begun session answer c machine = shut_older (older session (sessions machine.links)) (joined_session session answer c machine)
 
 abbrev pub replied : Reply → LoginState → ℕ → Machine → Machine
@@ -207,7 +207,7 @@ logged_in machine c login request =
     replied (reply_of login (lookup_for machine.directory (sessions machine.links) request) request) (advanced machine.directory login request) c machine
 
 -- a Login request was taken: it was answered, or the answer that begins full feature phase is still to be queued
-abbrev pub IsAnswered : Reply → LoginState → LinkState → Option (LoginResponse × Params) → LinkState → Type 0
+abbrev pub IsAnswered : Reply → LoginState → LinkState → Option (LoginResponse × SessionParams) → LinkState → Type 0
 IsAnswered (GoOn response) login old begun new = (begun ≡ None) × (new ≡ gone_on_link login (answers.LoginResponse response) old)
 IsAnswered (Refused response) login old begun new = (begun ≡ None) × (new ≡ refused_link (answers.LoginResponse response) old)
 IsAnswered (Full response session) login old begun new = (begun ≡ Some (response, session)) × (new ≡ record old { phase = new.phase })

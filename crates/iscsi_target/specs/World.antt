@@ -18,7 +18,7 @@ use Rattle.iscsi_login.specs.Directory.{KnownTargets}
 use Rattle.iscsi_login.specs.Session.{Live, is_same_target, named_by, older}
 use Rattle.iscsi_login.specs.Lookup.{Lookup}
 use Rattle.iscsi_login.specs.Login.{login}
-use Rattle.iscsi_login.specs.declared.params.Params.{Params}
+use Rattle.iscsi_login.specs.declared.session_params.SessionParams.{SessionParams}
 use Rattle.iscsi_login.specs.declared.reply.Reply.{Reply}
 use Rattle.iscsi_login.specs.declared.reply.Reply.TheVariants.{GoOn, Full, Refused}
 use Rattle.iscsi_session.specs.Requests.{Past, begun as begun_past, removing}
@@ -66,7 +66,7 @@ abbrev pub reads_life : Option Life → Bool
 reads_life None = false
 reads_life (Some life) = reads life.phase
 
-abbrev pub session_of : Option Life → Option Params
+abbrev pub session_of : Option Life → Option SessionParams
 session_of None = None
 session_of (Some life) = session_in life.phase
 
@@ -92,7 +92,7 @@ unfoldable pub changed_units : (UnitStates → UnitStates) → Option ℕ → Li
 changed_units f target all = with_units target (f (units_at target all)) all
 
 -- a session that ends leaves its target's units
-abbrev pub left : Option Params → List UnitStates → List UnitStates
+abbrev pub left : Option SessionParams → List UnitStates → List UnitStates
 left None all = all
 left (Some session) all = changed_units (leave session.nexus) session.target all
 
@@ -136,7 +136,7 @@ abbrev pub asked : Frame → Life → Life
 asked request life = record life { requests = life.requests ++ request ∷ [] }
 
 -- full feature phase begins
-abbrev pub begun : Params → Answer → Life → Life
+abbrev pub begun : SessionParams → Answer → Life → Life
 begun session answer life = record (answered answer life) { phase = FullFeature (begun_past session) }
 
 -- the older connection closes, and what waits on it is still sent
@@ -145,7 +145,7 @@ end_older None w = w
 end_older (Some d) w = changed (ended_in Closing) d w
 
 -- full feature phase begins on a connection, and its nexus joins the target's units anew
-abbrev pub begins : Params → Answer → ℕ → World → World
+abbrev pub begins : SessionParams → Answer → ℕ → World → World
 begins session answer c w = record (changed (begun session answer) c w) { units = changed_units (join session.nexus) session.target w.units }
 
 -- When a session begins, an older one of the same nexus with the same target ends (RFC 7143 §6.3.5).

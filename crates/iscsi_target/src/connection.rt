@@ -15,15 +15,15 @@ ghost use Rattle.iscsi_target.specs.declared.phase.Phase.TheVariants.{Login as U
 use crate::phase::Phase;
 use bytes::BytesMut;
 use data_parts::SpareBuffers;
-use iscsi_login::{Directory, Login, Params, Reply};
+use iscsi_login::{Directory, Login, Reply, SessionParams};
 use iscsi_outbox::Outbox;
 use iscsi_pdu::{Answer, Frame, Framer, LoginResponse, PduFault};
 use iscsi_session::Session;
 use media_store::Store;
-use out_of_memory::Memory;
 use scsi_unit::Units;
 use std::alloc::{AllocError, Global};
 use std::marker::Model;
+use target_limits::Memory;
 
 /// The room, in bytes, that an idle connection keeps for its answers.
 const MOST_ROOM_KEPT: usize = 65_536;
@@ -125,8 +125,8 @@ impl Connection {
         &mut self,
         request: &Frame,
         directory: &Directory,
-        named: &Option<Params>,
-    ) -> Result<Option<(LoginResponse, Params)>, Memory>
+        named: &Option<SessionParams>,
+    ) -> Result<Option<(LoginResponse, SessionParams)>, Memory>
         requires { is_logging_in self.old.phase ≡ true }
         ensures answered { IfOk result (λ begun. (login : LoginState) → self.old.phase ≡ UnderWay login
             → IsAnswered (reply_of login (lookup_in directory.now named.now) request.now)
@@ -160,7 +160,7 @@ impl Connection {
     pub(crate) fn begin<S: Store>(
         &mut self,
         alloc: Global,
-        session: Params,
+        session: SessionParams,
         answer: &Answer,
         units: &mut Units<S>,
     ) -> Result<(), Memory>
@@ -182,7 +182,7 @@ impl Connection {
     pub(crate) fn begin_discovery(
         &mut self,
         alloc: Global,
-        session: Params,
+        session: SessionParams,
         answer: &Answer,
     ) -> Result<(), Memory>
         requires { is_reading self.old.phase ≡ true }
@@ -222,10 +222,10 @@ impl Connection {
     }
 
     /// Returns the room of large answers to the system if nothing waits.
-    pub(crate) fn rest(&mut self, alloc: Global)
+    pub(crate) fn trim(&mut self, alloc: Global)
         ensures { self.new ≡ self.old }
     {
-        self.waiting.rest(alloc, MOST_ROOM_KEPT);
+        self.waiting.trim(alloc, MOST_ROOM_KEPT);
     }
 
     /// Returns whether more than 1,048,576 bytes wait, so that the connection is not to be read.

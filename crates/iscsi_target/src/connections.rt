@@ -7,10 +7,9 @@ ghost use Rattle.iscsi_target.specs.Machine.{free_link, is_settled, is_silent};
 
 use crate::connection::Connection;
 use crate::number_set::NumberSet;
-use connection_numbers::CONNECTIONS;
-use out_of_memory::Memory;
 use std::alloc::Global;
 use std::marker::Model;
+use target_limits::{CONNECTIONS, Memory};
 
 /// The connections by number. Clauses see them as a list.
 ///
@@ -147,11 +146,11 @@ impl Connections {
     }
 
     /// Releases room that the connection does not need.
-    pub(crate) fn rest(&mut self, alloc: Global, c: usize)
+    pub(crate) fn trim(&mut self, alloc: Global, c: usize)
         requires { c < 64 }
         ensures { self.new ≡ self.old }
     {
-        self.items[c].rest(alloc);
+        self.items[c].trim(alloc);
         self.note(c);
     }
 }

@@ -6,7 +6,7 @@ ghost use Rattle.iscsi_target.specs.Events.{event_view, events_view};
 ghost use Rattle.iscsi_target.specs.Runs.{IsTable};
 
 use crate::event::Event;
-use connection_numbers::CONNECTIONS;
+use target_limits::CONNECTIONS;
 
 /// Returns whether the event may come while these connections are open. If so, updates the table of open connections.
 fn come(table: &mut [bool; CONNECTIONS], event: &Event) -> bool

@@ -17,7 +17,7 @@ use crate::target::Target;
 use data_parts::SpareBuffers;
 use iscsi_pdu::{Frame, Opcode, PduFault};
 use media_store::Store;
-use out_of_memory::Memory;
+use target_limits::Memory;
 
 impl<S: Store> Target<S> {
     /// Keeps a further piece of a connection's bytes. If an allocation fails, nothing changes.

@@ -8,10 +8,10 @@ ghost use Rattle.iscsi_target.specs.declared.phase.Phase.TheVariants.{Login};
 
 use crate::sessions::{named, older};
 use crate::target::Target;
-use iscsi_login::Params;
+use iscsi_login::SessionParams;
 use iscsi_pdu::{Answer, Frame};
 use media_store::Store;
-use out_of_memory::Memory;
+use target_limits::Memory;
 
 impl<S: Store> Target<S> {
     /// Answers a Login request. If an allocation fails, the caller closes the connection.
@@ -33,7 +33,7 @@ impl<S: Store> Target<S> {
 
     /// Begins full feature phase, and ends an older session of the same nexus with the same target. If an allocation
     /// fails, nothing changes.
-    fn begin(&mut self, c: usize, session: Params, answer: &Answer) -> Result<(), Memory>
+    fn begin(&mut self, c: usize, session: SessionParams, answer: &Answer) -> Result<(), Memory>
         requires in_range { c < 64 }
         requires reads { is_reading (link_at self.old c).phase ≡ true }
         requires target { IsTargetBelow (length self.old.units) session.target }
@@ -50,7 +50,12 @@ impl<S: Store> Target<S> {
     /// Begins full feature phase, and joins the nexus to the units of its target, if it has one. If an allocation
     /// fails, nothing changes.
     #[tactic(auto, unfolding(crate::specs::World::changed_units))]
-    fn begin_session(&mut self, c: usize, session: Params, answer: &Answer) -> Result<(), Memory>
+    fn begin_session(
+        &mut self,
+        c: usize,
+        session: SessionParams,
+        answer: &Answer,
+    ) -> Result<(), Memory>
         requires in_range { c < 64 }
         requires reads { is_reading (link_at self.old c).phase ≡ true }
         requires target { IsTargetBelow (length self.old.units) session.target }

@@ -3,8 +3,8 @@
 ghost use Rattle.std.specs.Prelude.{◌≡◌, ◌≢◌, ℕ, ◌<◌, ◌≤◌, true, false, IfSome, IfNone};
 ghost use Rattle.iscsi_target.specs.NumberSet.{is_in};
 
-use connection_numbers::CONNECTIONS;
 use std::marker::Model;
+use target_limits::CONNECTIONS;
 
 /// A set of connection numbers. Clauses see it as a number whose set bits are the members.
 #[derive(Drop)]

@@ -18,9 +18,9 @@ use crate::event::Event;
 use crate::fault::Starved;
 use crate::target::Target;
 use media_store::Store;
-use out_of_memory::Memory;
 use scsi_unit::Units;
 use std::alloc::Global;
+use target_limits::Memory;
 
 /// The bytes answered in each life of a connection, in the order in which the lives began.
 pub type Outputs = Vec<Vec<u8>>;

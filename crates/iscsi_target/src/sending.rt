@@ -10,9 +10,8 @@ ghost use Rattle.iscsi_target.specs.Stands.{Stands, with_sent};
 
 use crate::target::Target;
 use bytes::BytesMut;
-use connection_numbers::CONNECTIONS;
 use media_store::Store;
-use out_of_memory::Memory;
+use target_limits::{CONNECTIONS, Memory};
 
 impl<S: Store> Target<S> {
     /// Returns the bytes to be sent next on a connection, as many as are contiguous. They are a prefix of all that
@@ -53,7 +52,7 @@ impl<S: Store> Target<S> {
     {
         self.advance(c, n);
         self.note(c);
-        self.rest();
+        self.trim_next();
     }
 
     /// Removes `n` bytes from the front of what waits on a connection. A data buffer that was sent completely is used
@@ -123,12 +122,12 @@ impl<S: Store> Target<S> {
 
     /// Releases unneeded room of one connection, the next one in turn at each call. So an idle connection does not
     /// keep what its largest answer took.
-    fn rest(&mut self)
+    fn trim_next(&mut self)
         ensures { self.new ≡ self.old }
     {
         let c = self.resting % CONNECTIONS;
         self.resting = c + 1;
-        self.connections.rest(self.alloc, c);
+        self.connections.trim(self.alloc, c);
     }
 
     /// Returns whether nothing waits to be sent on the connection and it is not closing.

@@ -14,11 +14,11 @@ ghost use Rattle.iscsi_target.specs.Serving.{Takes, Settles, SettlesFor, Settles
 ghost use Rattle.iscsi_target.specs.SessionCalls.{InSession, LeavesSession, Ends, ServesFrame, SettlesUnits, ChangesOne, ended_link};
 
 use crate::fault::Starved;
-use crate::orders::luns_of;
 use crate::target::Target;
+use crate::task_management::luns_of;
 use iscsi_pdu::{Frame, Header};
 use media_store::Store;
-use out_of_memory::Memory;
+use target_limits::Memory;
 
 /// Returns the failure of the connection that was closed first, if any was.
 pub(crate) fn earlier_of(

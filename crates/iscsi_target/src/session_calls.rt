@@ -12,13 +12,13 @@ ghost use Rattle.iscsi_target.specs.Serving.{goes_on_by};
 ghost use Rattle.iscsi_target.specs.SessionCalls.{InSession, LeavesSession, Ends, ServesFrame, SettlesUnits, LosesCommands, ended_link};
 
 use crate::connection::Connection;
-use crate::orders::lose;
 use crate::phase::Phase;
+use crate::task_management::lose;
 use iscsi_pdu::{Frame, Header};
 use media_store::Store;
-use out_of_memory::Memory;
 use scsi_unit::Units;
 use std::alloc::Global;
+use target_limits::Memory;
 
 impl Connection {
     /// Returns the target of the connection's session, if it has one.

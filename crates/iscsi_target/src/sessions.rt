@@ -6,11 +6,11 @@ ghost use Rattle.iscsi_target.specs.Machine.{session_in_phase, sessions};
 
 use crate::connection::Connection;
 use crate::phase::Phase;
-use iscsi_login::{Params, is_same_target};
-use out_of_memory::Memory;
+use iscsi_login::{SessionParams, is_same_target};
+use target_limits::Memory;
 
 /// Returns whether the connection has a session of the same nexus with the same target.
-fn is_of(connection: &Connection, session: &Params) -> bool
+fn is_of(connection: &Connection, session: &SessionParams) -> bool
     ensures { result ≡ is_session_of session.now.nexus session.now.target (session_in_phase connection.now.phase) }
 {
     match &connection.phase {
@@ -24,7 +24,7 @@ fn is_of(connection: &Connection, session: &Params) -> bool
 
 /// Returns the connection of an older session of the same nexus with the same target.
 #[tactic(auto, unfolding(iscsi_login::specs::Session::older))]
-pub(crate) fn older(connections: &[Connection], session: &Params) -> Option<usize>
+pub(crate) fn older(connections: &[Connection], session: &SessionParams) -> Option<usize>
     ensures value { result ≡ older_of session.now (sessions connections.now) }
     ensures bound { IfSome result (λ at. at < length connections.now) }
 {
@@ -34,7 +34,7 @@ pub(crate) fn older(connections: &[Connection], session: &Params) -> Option<usiz
 }
 
 /// Returns a copy of the session of a connection, if it has one.
-fn copy_of(connection: &Connection) -> Result<Option<Params>, Memory>
+fn copy_of(connection: &Connection) -> Result<Option<SessionParams>, Memory>
     ensures { IfOk result (λ session. session ≡ session_in_phase connection.now.phase) }
 {
     match &connection.phase {
@@ -44,7 +44,7 @@ fn copy_of(connection: &Connection) -> Result<Option<Params>, Memory>
 }
 
 /// Returns a copy of the session that a TSIH names: that of connection c has TSIH c + 1 (RFC 7143 §11.12.6).
-pub(crate) fn named(connections: &[Connection], tsih: u16) -> Result<Option<Params>, Memory>
+pub(crate) fn named(connections: &[Connection], tsih: u16) -> Result<Option<SessionParams>, Memory>
     ensures { IfOk result (λ session. session ≡ named_by tsih (sessions connections.now)) }
 {
     if tsih == 0 {

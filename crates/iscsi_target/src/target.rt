@@ -22,10 +22,10 @@ use crate::fault::Starved;
 use crate::phase::Phase;
 use iscsi_login::{Directory, is_same_target};
 use media_store::Store;
-use out_of_memory::Memory;
 use scsi_unit::Units;
 use std::alloc::Global;
 use std::marker::Model;
+use target_limits::Memory;
 
 /// An iSCSI target, as RFC 7143 defines it. Connections bring bytes and carry answers.
 ///

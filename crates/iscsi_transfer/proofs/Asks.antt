@@ -3,7 +3,7 @@ use Rattle.std.proofs.Common.{ℕ, ◌+◌, ◌-◌, ◌*◌, ◌/◌, ◌%◌, 
 use Rattle.std.proofs.Math.Nat.{add-mul, mul-le-mul_right}
 use Rattle.std.proofs.lemmas.Nat.{div-add-mod'}
 use Rattle.std.proofs.lemmas.Bool.{cases_lt}
-use Rattle.iscsi_transfer.specs.TaskLaws.{AsksFor, EachByteIsAskedFor, NoByteIsAskedForTwice, NothingElseIsAskedFor}
+use Rattle.iscsi_transfer.specs.WriteDataLaws.{AsksFor, EachByteIsAskedFor, NoByteIsAskedForTwice, NothingElseIsAskedFor}
 
 pub each_byte_is_asked_for : EachByteIsAskedFor
 each_byte_is_asked_for start burst end i some behind before =

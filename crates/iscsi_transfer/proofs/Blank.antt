@@ -3,79 +3,80 @@ use Rattle.std.proofs.Common.{◌≡◌, ℕ, ◌+◌, List, ◌++◌, length, r
 use Rattle.std.proofs.lemmas.List.{length-append, length-replicate}
 use Rattle.iscsi_pdu.specs.Frames.{Frame}
 use Rattle.iscsi_transfer.specs.Counted.{brought, Takes}
-use Rattle.iscsi_transfer.specs.Task.{TaskState, blank, filled, grown, lacks_data, due_asks, is_asked, fault_of, with_data, with_asked}
+use Rattle.iscsi_transfer.specs.WriteData.{WriteDataState, blank, filled, grown, lacks_data, due_asks, is_asked, fault_of, with_data, with_asked}
 
 pub long_of : (zeros items : List ℕ) → zeros ≡ replicate (length items) 0 → length zeros ≡ length items
 long_of zeros items e = ap length e ∙ length-replicate (length items) 0
 
-pub fault_same : (task : TaskState) (items : List ℕ) (out : Frame) → length task.payload ≡ length items
+pub fault_same : (task : WriteDataState) (items : List ℕ) (out : Frame) → length task.payload ≡ length items
     → fault_of (record task { payload = items }) out ≡ fault_of task out
 unfolding fault_of
 fault_same task items out long = rw (← long) refl
 
-pub with_same : (task : TaskState) (items : List ℕ) (out : Frame) → length task.payload ≡ length items
+pub with_same : (task : WriteDataState) (items : List ℕ) (out : Frame) → length task.payload ≡ length items
     → record (blank (with_data task out)) { payload = items ++ out.body } ≡ with_data (record task { payload = items }) out
 unfolding with_data
 with_same task items out long = rw (length-append task.payload out.body, length-append items out.body, long) refl
 
-pub due_same : (task : TaskState) (items : List ℕ) → length task.payload ≡ length items
+pub due_same : (task : WriteDataState) (items : List ℕ) → length task.payload ≡ length items
     → due_asks (record task { payload = items }) ≡ due_asks task
 due_same task items long = rw (← long) refl
 
-pub asked_same : (task : TaskState) (items tags : List ℕ) → length task.payload ≡ length items
+pub asked_same : (task : WriteDataState) (items tags : List ℕ) → length task.payload ≡ length items
     → record (with_asked tags task) { payload = items } ≡ with_asked tags (record task { payload = items })
 unfolding with_asked
 asked_same task items tags long = rw (← long) refl
 
-blank_long : (task : TaskState) → length task.payload ≡ length (blank task).payload
+blank_long : (task : WriteDataState) → length task.payload ≡ length (blank task).payload
 blank_long task = sym (length-replicate (length task.payload) 0)
 
-pub fault_blank : (task : TaskState) (out : Frame) → fault_of (blank task) out ≡ fault_of task out
+pub fault_blank : (task : WriteDataState) (out : Frame) → fault_of (blank task) out ≡ fault_of task out
 fault_blank task out = fault_same task (blank task).payload out (blank_long task)
 
-pub filled_blank : (task : TaskState) → filled (blank task) ≡ filled task
+pub filled_blank : (task : WriteDataState) → filled (blank task) ≡ filled task
 filled_blank task = rw (← blank_long task) refl
 
-pub lacks_blank : (task : TaskState) → lacks_data (blank task) ≡ lacks_data task
+pub lacks_blank : (task : WriteDataState) → lacks_data (blank task) ≡ lacks_data task
 lacks_blank task = rw (← blank_long task) refl
 
-pub due_blank : (task : TaskState) → due_asks (blank task) ≡ due_asks task
+pub due_blank : (task : WriteDataState) → due_asks (blank task) ≡ due_asks task
 due_blank task = rw (← blank_long task) refl
 
-pub asked_blank : (task : TaskState) → is_asked (blank task) ≡ is_asked task
+pub asked_blank : (task : WriteDataState) → is_asked (blank task) ≡ is_asked task
 asked_blank task = rw (← blank_long task) refl
 
-pub with_asked_blank : (task : TaskState) (tags : List ℕ) → blank (with_asked tags task) ≡ with_asked tags (blank task)
+pub with_asked_blank : (task : WriteDataState) (tags : List ℕ) → blank (with_asked tags task) ≡ with_asked tags (blank task)
 unfolding with_asked
 with_asked_blank task tags = rw (← blank_long task) refl
 
-pub with_blank : (task : TaskState) (out : Frame) → blank (with_data (blank task) out) ≡ blank (with_data task out)
+pub with_blank : (task : WriteDataState) (out : Frame) → blank (with_data (blank task) out) ≡ blank (with_data task out)
 unfolding with_data
 with_blank task out = rw (length-append (blank task).payload out.body, length-append task.payload out.body, ← blank_long task) refl
 
 -- what does not change
-pub asked_payload : (task : TaskState) (tags : List ℕ) → (with_asked tags task).payload ≡ task.payload
+pub asked_payload : (task : WriteDataState) (tags : List ℕ) → (with_asked tags task).payload ≡ task.payload
 unfolding with_asked
 asked_payload task tags = refl
 
 -- and how long it is
-pub with_zeros : (task : TaskState) (out : Frame) (n : ℕ) → length task.payload + length out.body ≡ n → (blank (with_data task out)).payload ≡ replicate n 0
+pub with_zeros : (task : WriteDataState) (out : Frame) (n : ℕ) → length task.payload + length out.body ≡ n
+    → (blank (with_data task out)).payload ≡ replicate n 0
 unfolding with_data
 with_zeros task out n e = ap (λ (k : ℕ). replicate k 0) (length-append task.payload out.body ∙ e)
 
 -- and of a Data-Out only how much it brings
-with_brought : (task : TaskState) (out : Frame) → blank (with_data task (brought out.header (length out.body))) ≡ blank (with_data task out)
+with_brought : (task : WriteDataState) (out : Frame) → blank (with_data task (brought out.header (length out.body))) ≡ blank (with_data task out)
 unfolding with_data
 with_brought task out = rw (length-append task.payload (replicate (length out.body) 0), length-append task.payload out.body, length-replicate {A = ℕ} (length out.body) 0) refl
 
-filled_brought : (task : TaskState) (out : Frame) → filled (grown task (brought out.header (length out.body))) ≡ filled (grown task out)
+filled_brought : (task : WriteDataState) (out : Frame) → filled (grown task (brought out.header (length out.body))) ≡ filled (grown task out)
 filled_brought task out = rw (length-append task.payload (replicate (length out.body) 0), length-append task.payload out.body, length-replicate {A = ℕ} (length out.body) 0) refl
 
-pub brought_is : (task : TaskState) (out : Frame) (header : List ℕ) (size : ℕ) → header ≡ out.header → size ≡ length out.body
+pub brought_is : (task : WriteDataState) (out : Frame) (header : List ℕ) (size : ℕ) → header ≡ out.header → size ≡ length out.body
     → blank (with_data task (brought header size)) ≡ blank (with_data task out)
 brought_is task out header size same long = rw (same, long) (with_brought task out)
 
-pub takes_brought : (task : TaskState) (out : Frame) → Takes task out → Takes task (brought out.header (length out.body))
+pub takes_brought : (task : WriteDataState) (out : Frame) → Takes task out → Takes task (brought out.header (length out.body))
 takes_brought task out t =
     let same = filled_brought task out in
     record { step = omega (arith, same, t.step); opened = omega (arith, same, t.opened) }

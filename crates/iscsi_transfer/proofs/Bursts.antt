@@ -7,7 +7,7 @@ use Rattle.std.proofs.lemmas.Nat.{div-add-mod', le-div}
 use Rattle.std.proofs.lemmas.Grind.{div_ceil_times}
 use Rattle.iscsi_pdu.specs.Frames.{Frame}
 use Rattle.iscsi_transfer.specs.Payload.{is_last}
-use Rattle.iscsi_transfer.specs.Task.{TaskState, bursts_in, filled, grown}
+use Rattle.iscsi_transfer.specs.WriteData.{WriteDataState, bursts_in, filled, grown}
 
 -- ---- more data has no fewer
 
@@ -19,7 +19,7 @@ more_by : (opened still : Bool) (p u burst n : ℕ) → p ≤ n → bursts_in op
 more_by true still p u burst n le = omega arith
 more_by false still p u burst n le = div_more (p - u) (n - u) burst (omega (arith, le))
 
-pub filled_more : (task : TaskState) (out : Frame) → filled task ≤ filled (grown task out)
+pub filled_more : (task : WriteDataState) (out : Frame) → filled task ≤ filled (grown task out)
 filled_more task out =
     more_by task.is_open (not (is_last out)) (length task.payload) task.unsolicited task.burst (length (task.payload ++ out.body))
     (omega (arith, length-append task.payload out.body))

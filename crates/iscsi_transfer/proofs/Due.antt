@@ -5,8 +5,8 @@ use Rattle.std.specs.List.{range_with_len}
 use Rattle.std.proofs.lemmas.Bool.{ltb-true, lt-ltb, le-ltb, cases_lt, cases_Bool}
 use Rattle.std.proofs.lemmas.List.FromFn.{length-map-range_with_len}
 use Rattle.iscsi_transfer.specs.declared.progress.Ask.{Ask}
-use Rattle.iscsi_transfer.specs.Task.{TaskState, ask, filled, wanted, bursts_wanted, lacks_data, allowed, due_asks, first, is_due, is_asked, with_asked}
-use Rattle.iscsi_transfer.specs.TaskLaws.{DueRiseByOne, SentIsDueNoMore, FewWhereSent}
+use Rattle.iscsi_transfer.specs.WriteData.{WriteDataState, ask, filled, wanted, bursts_wanted, lacks_data, allowed, due_asks, first, is_due, is_asked, with_asked}
+use Rattle.iscsi_transfer.specs.WriteDataLaws.{DueRiseByOne, SentIsDueNoMore, FewWhereSent}
 use Rattle.iscsi_transfer.proofs.Bursts.{not_all}
 
 -- ---- the first of them
@@ -20,7 +20,7 @@ first_if : (b : Bool) (f : ℕ → Ask) (a n : ℕ)
 first_if true f a n = first_of f a (n - a) n refl
 first_if false f a n = refl
 
-pub first_due : (task : TaskState)
+pub first_due : (task : WriteDataState)
     → first (due_asks task) ≡ (if lacks_data task && nat_lt task.sent (allowed task) then Some (ask task task.sent) else None)
 first_due task = first_if (lacks_data task) (ask task) task.sent (allowed task)
 
@@ -28,16 +28,16 @@ some_if : (b : Bool) (one : Ask) → is_some (if b then Some one else None) ≡ 
 some_if true one = refl
 some_if false one = refl
 
-pub due_is : (task : TaskState) → is_due task ≡ (lacks_data task && nat_lt task.sent (allowed task))
+pub due_is : (task : WriteDataState) → is_due task ≡ (lacks_data task && nat_lt task.sent (allowed task))
 due_is task = ap is_some (first_due task) ∙ some_if (lacks_data task && nat_lt task.sent (allowed task)) (ask task task.sent)
 
 -- ---- in which order
 
-numbered : (task : TaskState) (a n : ℕ) → map (λ one. one.number) (map (ask task) (range_with_len a n)) ≡ range_with_len a n
+numbered : (task : WriteDataState) (a n : ℕ) → map (λ one. one.number) (map (ask task) (range_with_len a n)) ≡ range_with_len a n
 numbered task a zero = refl
 numbered task a (suc n) = ap (λ (ks : List ℕ). a ∷ ks) (numbered task (a + 1) n)
 
-rise_if : (b : Bool) (task : TaskState) (a n : ℕ) → map (λ one. one.number) (if b then map (ask task) (range_with_len a n) else [])
+rise_if : (b : Bool) (task : WriteDataState) (a n : ℕ) → map (λ one. one.number) (if b then map (ask task) (range_with_len a n) else [])
     ≡ range_with_len a (length (if b then map (ask task) (range_with_len a n) else []))
 rise_if true task a n = numbered task a n ∙ ap (range_with_len a) (sym (length-map-range_with_len (ask task) a n))
 rise_if false task a n = refl
@@ -60,7 +60,7 @@ pub sent_is_due_no_more : SentIsDueNoMore
 unfolding with_asked
 sent_is_due_no_more task tag = rest_if (lacks_data task) (ask task) task.sent (allowed task)
 
-pub asks_then : (tag : ℕ) (task : TaskState) (one : Ask) (rest : List Ask) → due_asks task ≡ one ∷ rest → due_asks (with_asked (tag ∷ []) task) ≡ rest
+pub asks_then : (tag : ℕ) (task : WriteDataState) (one : Ask) (rest : List Ask) → due_asks task ≡ one ∷ rest → due_asks (with_asked (tag ∷ []) task) ≡ rest
 asks_then tag task one rest is = sent_is_due_no_more task tag ∙ ap (drop 1) is
 
 -- ---- how many
@@ -75,7 +75,7 @@ few_where_sent task tags le few =
     let most = many_if (lacks_data task) (ask task) task.sent (allowed task) (length tags) le in
     omega (arith, most, few)
 
-pub few_due : (task : TaskState) → filled task ≤ task.sent → length (due_asks task) ≤ task.outstanding
+pub few_due : (task : WriteDataState) → filled task ≤ task.sent → length (due_asks task) ≤ task.outstanding
 few_due task within = elim (cases_Bool (lacks_data task)) [
   | inl lacks ↦ rw lacks (omega (arith, within, length-map-range_with_len (ask task) task.sent (allowed task - task.sent)))
   | inr none ↦ rw none (omega arith)
@@ -97,14 +97,14 @@ pub lacks_shut : (opened : Bool) (p w : ℕ) → (not opened && nat_lt p w) ≡ 
 lacks_shut true p w e = absurd cc
 lacks_shut false p w e = (refl, ltb-true p w e)
 
-pub fewer_than_wanted : (task : TaskState) → 1 ≤ task.burst → task.unsolicited ≤ length task.payload → lacks_data task ≡ true
+pub fewer_than_wanted : (task : WriteDataState) → 1 ≤ task.burst → task.unsolicited ≤ length task.payload → lacks_data task ≡ true
     → filled task < bursts_wanted task
 fewer_than_wanted task some behind lacks =
     let at = lacks_shut task.is_open (length task.payload) (wanted task) lacks in
     rw at.0 (not_all (length task.payload) task.unsolicited task.burst (wanted task) some behind at.1)
 
 -- where data is lacking an R2T is due or open, and nowhere else
-pub due_or_asked : (task : TaskState) → 1 ≤ task.burst → 1 ≤ task.outstanding → task.unsolicited ≤ length task.payload
+pub due_or_asked : (task : WriteDataState) → 1 ≤ task.burst → 1 ≤ task.outstanding → task.unsolicited ≤ length task.payload
     → (is_due task || is_asked task) ≡ lacks_data task
 due_or_asked task some one behind =
     ap (λ (b : Bool). b || is_asked task) (due_is task) ∙ both_if (lacks_data task) (nat_lt task.sent (allowed task)) (nat_lt (filled task) task.sent)

@@ -5,7 +5,7 @@ use Rattle.std.proofs.lemmas.Bool.{ltb-true, ltb-false, and_parts, cases_Bool, c
 use Rattle.iscsi_pdu.specs.Frames.{Frame}
 use Rattle.iscsi_pdu.specs.DataOut.{target_transfer_tag, data_sn, buffer_offset}
 use Rattle.iscsi_transfer.specs.Payload.{is_last}
-use Rattle.iscsi_transfer.specs.Task.{TaskState, bursts_in, filled, next_ask, most_wanted, sequence_tag, wanted, is_asked, lacks_data, has_sequence, sequence_end, ends_rightly, fault_of, grown}
+use Rattle.iscsi_transfer.specs.WriteData.{WriteDataState, bursts_in, filled, next_ask, most_wanted, sequence_tag, wanted, is_asked, lacks_data, has_sequence, sequence_end, ends_rightly, fault_of, grown}
 use Rattle.iscsi_transfer.specs.Counted.{Takes}
 use Rattle.iscsi_transfer.specs.declared.fault.DataFault.{DataFault}
 use Rattle.iscsi_transfer.specs.declared.fault.DataFault.TheVariants as faults
@@ -46,12 +46,12 @@ both : (a b : Bool) → (a && b) ≡ true → a ≡ true
 both true b h = refl
 both false b h = absurd (cc)
 
-pub record Fits (task : TaskState) (out : Frame) : Type 0 where
+pub record Fits (task : WriteDataState) (out : Frame) : Type 0 where
   pub sequence : has_sequence task ≡ true
   pub within : length task.payload + length out.body ≤ sequence_end task
   pub ends : ends_rightly task out ≡ true
 
-pub fits : (task : TaskState) (out : Frame) → fault_of task out ≡ None → Fits task out
+pub fits : (task : WriteDataState) (out : Frame) → fault_of task out ≡ None → Fits task out
 unfolding fault_of
 fits task out lawful =
     let p = passed (not (has_sequence task && target_transfer_tag out.header == sequence_tag task)) (not (data_sn out.header == task.sequence_length))
@@ -66,7 +66,7 @@ fits task out lawful =
 -- ---- data that an R2T asked for
 
 -- what an open R2T leaves of the payload, and how far a Data-Out for it goes
-pub record Solicited (task : TaskState) (out : Frame) : Type 0 where
+pub record Solicited (task : WriteDataState) (out : Frame) : Type 0 where
   pub lacks : length task.payload < wanted task
   pub asked : filled task < task.sent
   pub more : OneMore (length task.payload) task.unsolicited task.burst (wanted task) (length out.body) (filled task)
@@ -75,10 +75,10 @@ asked_alone : (opened asked : Bool) → opened ≡ false → (opened || asked) �
 asked_alone true asked shut e = absurd cc
 asked_alone false asked shut e = e
 
-pub end_shut : (task : TaskState) → task.is_open ≡ false → sequence_end task ≡ (next_ask task).offset + (next_ask task).length
+pub end_shut : (task : WriteDataState) → task.is_open ≡ false → sequence_end task ≡ (next_ask task).offset + (next_ask task).length
 end_shut task shut = cond-false task.is_open _ _ shut
 
-pub solicited : (task : TaskState) (out : Frame) → 1 ≤ task.burst → task.unsolicited ≤ length task.payload → task.is_open ≡ false → Fits task out
+pub solicited : (task : WriteDataState) (out : Frame) → 1 ≤ task.burst → task.unsolicited ≤ length task.payload → task.is_open ≡ false → Fits task out
     → Solicited task out
 solicited task out some behind shut f =
     let parts = and_parts (lacks_data task) (nat_lt (filled task) task.sent) (asked_alone task.is_open (is_asked task) shut f.sequence) in
@@ -103,15 +103,15 @@ grown_shut : (opened still : Bool) (u burst n : ℕ) → opened ≡ false
 grown_shut true still u burst n e = absurd cc
 grown_shut false still u burst n e = refl
 
-pub filled_open : (task : TaskState) (out : Frame) → task.is_open ≡ true → filled (grown task out) ≡ 0
+pub filled_open : (task : WriteDataState) (out : Frame) → task.is_open ≡ true → filled (grown task out) ≡ 0
 filled_open task out is_open = grown_open task.is_open (not (is_last out)) task.unsolicited task.burst (length (task.payload ++ out.body)) is_open
 
-pub filled_shut : (task : TaskState) (out : Frame) → task.is_open ≡ false
+pub filled_shut : (task : WriteDataState) (out : Frame) → task.is_open ≡ false
     → filled (grown task out) ≡ (length task.payload + length out.body - task.unsolicited) / task.burst
 filled_shut task out shut = rw (← length-append task.payload out.body)
     (grown_shut task.is_open (not (is_last out)) task.unsolicited task.burst (length (task.payload ++ out.body)) shut)
 
-pub takes : (task : TaskState) (out : Frame) → 1 ≤ task.burst → task.unsolicited ≤ length task.payload
+pub takes : (task : WriteDataState) (out : Frame) → 1 ≤ task.burst → task.unsolicited ≤ length task.payload
     → task.sent ≡ filled task + length task.open_tags → fault_of task out ≡ None → Takes task out
 takes task out some behind counted lawful = elim (cases_Bool task.is_open) [
   | inl is_open ↦ let none = filled_open task out is_open in record { step = omega (arith, none); opened = omega (arith, none) }
@@ -130,7 +130,7 @@ within_wanted false start expected p n behind less le = absurd (omega (arith, be
 within_limit : (first expected n : ℕ) → n ≤ min first expected → n ≤ expected
 within_limit first expected n le = omega (arith, le)
 
-pub within_expected : (task : TaskState) (out : Frame) → 1 ≤ task.burst → task.unsolicited ≤ length task.payload → fault_of task out ≡ None
+pub within_expected : (task : WriteDataState) (out : Frame) → 1 ≤ task.burst → task.unsolicited ≤ length task.payload → fault_of task out ≡ None
     → length task.payload + length out.body ≤ task.expected
 within_expected task out some behind lawful = elim (cases_Bool task.is_open) [
   | inl is_open ↦ within_limit task.first_burst task.expected (length task.payload + length out.body)

@@ -7,8 +7,8 @@ use Rattle.std.proofs.lemmas.Bool.Decides.{eqb_tells}
 use Rattle.iscsi_pdu.specs.Frames.{Frame}
 use Rattle.iscsi_transfer.specs.Payload.{is_last}
 use Rattle.iscsi_transfer.specs.declared.progress.Ask.{Ask}
-use Rattle.iscsi_transfer.specs.Task.{TaskState, ask, filled, next_ask, bursts_wanted, due_asks, lacks_data, sequence_end, fault_of, grown, with_data}
-use Rattle.iscsi_transfer.specs.TaskLaws.{asks_one_by_one, CommandAsksOneByOne, DataAsksOneByOne}
+use Rattle.iscsi_transfer.specs.WriteData.{WriteDataState, ask, filled, next_ask, bursts_wanted, due_asks, lacks_data, sequence_end, fault_of, grown, with_data}
+use Rattle.iscsi_transfer.specs.WriteDataLaws.{asks_one_by_one, CommandAsksOneByOne, DataAsksOneByOne}
 use Rattle.iscsi_transfer.proofs.Bursts.{none_come}
 use Rattle.iscsi_transfer.proofs.Standing.{at_first, remembered-begun}
 use Rattle.iscsi_transfer.proofs.Due.{lacks_shut, fewer_than_wanted}
@@ -40,7 +40,7 @@ one_by true f k s all q o p alone = elim (eqb_tells k s) [
       ap (λ (n : ℕ). map f (range_with_len s n)) {x = min all (k + 1) - s} {y = 0} (omega (arith, le)) ∙ rw differ.0 (never (q == 0) (o == p) (f k ∷ []))
 ]
 
-one_alone : (task : TaskState) → task.outstanding ≡ 1
+one_alone : (task : WriteDataState) → task.outstanding ≡ 1
     → (lacks_data task ≡ true → Alone (filled task) task.sent (bursts_wanted task) task.sequence_length (next_ask task).offset (length task.payload))
     → due_asks task ≡ asks_one_by_one task
 one_alone task one alone = rw one (one_by (lacks_data task) (ask task) (filled task) task.sent (bursts_wanted task) task.sequence_length
@@ -77,7 +77,7 @@ start_of : (opened : Bool) (u n : ℕ) → u ≤ n → (if opened then n else u)
 start_of true u n le = omega arith
 start_of false u n le = le
 
-data_alone : (task : TaskState) (out : Frame) → 1 ≤ task.burst → task.unsolicited ≤ length task.payload → fault_of task out ≡ None
+data_alone : (task : WriteDataState) (out : Frame) → 1 ≤ task.burst → task.unsolicited ≤ length task.payload → fault_of task out ≡ None
     → lacks_data (grown task out) ≡ true → Alone (filled (grown task out)) task.sent (bursts_wanted (grown task out))
     (grown task out).sequence_length (next_ask (grown task out)).offset (length (grown task out).payload)
 data_alone task out some behind lawful lacks =

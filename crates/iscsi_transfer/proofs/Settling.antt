@@ -7,9 +7,9 @@ use Rattle.iscsi_pdu.specs.Frames.{Frame}
 use Rattle.iscsi_pdu.specs.ScsiCommand.{is_write}
 use Rattle.iscsi_login.specs.declared.values.Values.{Values}
 use Rattle.iscsi_transfer.specs.Payload.{is_last, announces, expected}
-use Rattle.iscsi_transfer.specs.Task.{TaskState, filled, command_fault, unsolicited_limit, most_wanted, wanted, lacks_data, is_due, is_asked, is_whole, with_data}
+use Rattle.iscsi_transfer.specs.WriteData.{WriteDataState, filled, command_fault, unsolicited_limit, most_wanted, wanted, lacks_data, is_due, is_asked, is_whole, with_data}
 use Rattle.iscsi_transfer.specs.declared.fault.DataFault.TheVariants as faults
-use Rattle.iscsi_transfer.specs.TaskLaws.{CommandIsWholeOrAsks, SequenceIsWholeOrAsks}
+use Rattle.iscsi_transfer.specs.WriteDataLaws.{CommandIsWholeOrAsks, SequenceIsWholeOrAsks}
 use Rattle.iscsi_transfer.proofs.Standing.{at_first, remembered-begun}
 use Rattle.iscsi_transfer.proofs.Due.{due_or_asked}
 use Rattle.iscsi_transfer.proofs.Lawful.{Fits, fits, solicited}
@@ -23,10 +23,10 @@ lacks_is p w within = elim (eqb_tells p w) [
       rw (lt-ltb p w less, differ.0) refl
 ]
 
-lacks_or_whole : (task : TaskState) → task.is_open ≡ false → length task.payload ≤ wanted task → lacks_data task ≡ not (is_whole task)
+lacks_or_whole : (task : WriteDataState) → task.is_open ≡ false → length task.payload ≤ wanted task → lacks_data task ≡ not (is_whole task)
 lacks_or_whole task shut within = rw shut (lacks_is (length task.payload) (wanted task) within)
 
-settled : (task : TaskState) → 1 ≤ task.burst → 1 ≤ task.outstanding → task.unsolicited ≤ length task.payload → task.is_open ≡ false
+settled : (task : WriteDataState) → 1 ≤ task.burst → 1 ≤ task.outstanding → task.unsolicited ≤ length task.payload → task.is_open ≡ false
     → length task.payload ≤ wanted task → (is_due task || is_asked task) ≡ not (is_whole task)
 settled task some one behind shut within = due_or_asked task some one behind ∙ lacks_or_whole task shut within
 
@@ -43,7 +43,7 @@ shut_now : (b : Bool) → (b && false) ≡ false
 shut_now true = refl
 shut_now false = refl
 
-opened : (task : TaskState) (out : Frame) → 1 ≤ task.burst → 1 ≤ task.outstanding → task.is_open ≡ true → Fits task out → is_last out ≡ true
+opened : (task : WriteDataState) (out : Frame) → 1 ≤ task.burst → 1 ≤ task.outstanding → task.is_open ≡ true → Fits task out → is_last out ≡ true
     → (is_due (with_data task out) || is_asked (with_data task out)) ≡ not (is_whole (with_data task out))
 unfolding with_data
 opened task out some one is_open f last =
@@ -55,7 +55,7 @@ opened task out some one is_open f last =
 
 -- ---- what an R2T asked for ends
 
-closed : (task : TaskState) (out : Frame) → 1 ≤ task.burst → 1 ≤ task.outstanding → task.unsolicited ≤ length task.payload → task.is_open ≡ false
+closed : (task : WriteDataState) (out : Frame) → 1 ≤ task.burst → 1 ≤ task.outstanding → task.unsolicited ≤ length task.payload → task.is_open ≡ false
     → Fits task out → is_last out ≡ true
     → (is_due (with_data task out) || is_asked (with_data task out)) ≡ not (is_whole (with_data task out))
 unfolding with_data

@@ -10,8 +10,8 @@ use Rattle.std.proofs.lemmas.List.Folds.{list_any-append}
 use Rattle.iscsi_pdu.specs.Frames.{Frame}
 use Rattle.iscsi_login.specs.declared.values.Values.{Values}
 use Rattle.iscsi_transfer.specs.Payload.{Past, begun, accepted, asked, is_last, announces, up_to_last, data_of, expected}
-use Rattle.iscsi_transfer.specs.Task.{TaskState, bursts_in, filled, filled_of, remembered, grown, with_data, with_asked}
-use Rattle.iscsi_transfer.specs.TaskLaws.{OpenAreCounted, FewAtFirst, FewWhereFed}
+use Rattle.iscsi_transfer.specs.WriteData.{WriteDataState, bursts_in, filled, filled_of, remembered, grown, with_data, with_asked}
+use Rattle.iscsi_transfer.specs.WriteDataLaws.{OpenAreCounted, FewAtFirst, FewWhereFed}
 use Rattle.iscsi_transfer.proofs.Bursts.{filled_more}
 
 -- ---- the command alone
@@ -21,7 +21,7 @@ no_outs true = refl
 no_outs false = refl
 
 -- what is remembered of a command that has just come
-abbrev pub at_first : Values → Frame → TaskState
+abbrev pub at_first : Values → Frame → WriteDataState
 at_first values command = record {
   payload = command.body;
   expected = expected command;
@@ -124,7 +124,7 @@ still_open less more tags le =
 pub remembered-accepted : (past : Past) (out : Frame) → remembered (accepted out past) ≡ with_data (remembered past) out
 unfolding remembered with_data
 remembered-accepted past out =
-    ap (λ (t : TaskState). record t { open_tags = drop (filled t) past.tags }) (grown_is past out)
+    ap (λ (t : WriteDataState). record t { open_tags = drop (filled t) past.tags }) (grown_is past out)
     ∙ ap (λ (tags : List ℕ). record (grown (remembered past) out) { open_tags = tags })
     (still_open (filled_of past) (filled (grown (remembered past) out)) past.tags (filled_more (remembered past) out))
 

@@ -1,7 +1,7 @@
 -- How far the data of a command comes.
 use Rattle.std.specs.Prelude.{ℕ, ◌+◌, ◌≤◌, List, length, replicate}
 use Rattle.iscsi_pdu.specs.Frames.{Frame}
-use Rattle.iscsi_transfer.specs.Task.{TaskState, filled, grown}
+use Rattle.iscsi_transfer.specs.WriteData.{WriteDataState, filled, grown}
 use Rattle.iscsi_transfer.specs.declared.progress.Progress.TheInside.{Inside}
 
 -- a Data-Out with this header and this many bytes of data, all of them zeros
@@ -18,6 +18,6 @@ pub record IsCounted (progress : Inside) : Type 0 where
   pub few : progress.outstanding ≤ 4
 
 -- a Data-Out completes one R2T at most, and none if no R2T is open
-pub record Takes (task : TaskState) (out : Frame) : Type 0 where
+pub record Takes (task : WriteDataState) (out : Frame) : Type 0 where
   pub step : filled (grown task out) ≤ filled task + 1
   pub opened : filled (grown task out) ≤ filled task + length task.open_tags

@@ -2,9 +2,9 @@ pub use Rattle.iscsi_pdu.specs.Frames
 pub mod Fault
 pub mod DataIn
 pub mod Payload
-pub mod Task
+pub mod WriteData
 pub mod Counted
 pub mod Laws
-pub mod TaskLaws
+pub mod WriteDataLaws
 pub mod Examples
-pub mod ExamplesTask
+pub mod ExamplesWriteData

@@ -1,7 +1,7 @@
 //! Laws of the pieces of data, and of what R2Ts ask for. The functions do nothing: their contracts are the laws.
 
 ghost use Rattle.iscsi_transfer.specs.Laws.{PiecesFit, PiecesAreJoined, PiecesAreCounted, LessHasFewer, PiecesLie};
-ghost use Rattle.iscsi_transfer.specs.TaskLaws.{EachByteIsAskedFor, NoByteIsAskedForTwice, NothingElseIsAskedFor, DueRiseByOne, SentIsDueNoMore, OpenAreCounted, FewAtFirst, FewWhereSent, FewWhereFed, CommandIsWholeOrAsks, SequenceIsWholeOrAsks, CommandAsksOneByOne, DataAsksOneByOne};
+ghost use Rattle.iscsi_transfer.specs.WriteDataLaws.{EachByteIsAskedFor, NoByteIsAskedForTwice, NothingElseIsAskedFor, DueRiseByOne, SentIsDueNoMore, OpenAreCounted, FewAtFirst, FewWhereSent, FewWhereFed, CommandIsWholeOrAsks, SequenceIsWholeOrAsks, CommandAsksOneByOne, DataAsksOneByOne};
 
 /// States that each piece has some bytes of one burst, no more than a segment, and F if it ends its burst. Joined, the
 /// pieces are the data. Less data has no more pieces.

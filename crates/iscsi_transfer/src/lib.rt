@@ -24,23 +24,23 @@
 //! - [`piece_count`] returns how many pieces there are. [`piece_at`] computes each from its number, so that no list of
 //!   them has to be kept.
 //! - Joined, the pieces are the data ([`laws::pieces_are_the_data`]).
-//! - A [`Task`] collects a command's data. For every past of the task (`specs/Payload.antt`), it reports the payload so
+//! - A [`WriteData`] collects a command's data. For every past of the task (`specs/Payload.antt`), it reports the payload so
 //!   far, and the first fault of the command and of each Data-Out ([`DataFault`]).
 //! - It asks once for each byte after the unsolicited data, and for no other ([`laws::each_byte_is_asked_for_once`]).
 //! - No more than MaxOutstandingR2T R2Ts are open at a time ([`laws::few_are_open`]; if that is one,
 //!   [`laws::one_is_open_at_a_time`]).
 //! - When a sequence ends, an R2T is due or open exactly if the payload is not whole ([`laws::whole_or_asked_for`]).
-//! - The data stays in the buffers in which it came ([`data_parts::Parts`]). Only [`Task::start`] and
-//!   [`Task::data_out`] allocate memory. For a command that takes no data, [`Task::start`] allocates none.
+//! - The data stays in the buffers in which it came ([`data_parts::Parts`]). Only [`WriteData::start`] and
+//!   [`WriteData::data_out`] allocate memory. For a command that takes no data, [`WriteData::start`] allocates none.
 #![tactic(auto)]
 
 mod data_in;
 mod fault;
 pub mod laws;
 mod progress;
-mod task;
+mod write_data;
 
 pub use data_in::{Piece, data_ins, piece_at, piece_count};
 pub use fault::DataFault;
 pub use progress::{Ask, MOST_OPEN, NO_TRANSFER_TAG, Progress};
-pub use task::{Task, command_fault};
+pub use write_data::{WriteData, command_fault};

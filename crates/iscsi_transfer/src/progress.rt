@@ -2,7 +2,7 @@
 
 ghost use Rattle.std.specs.Prelude.{◌≡◌, ◌+◌, ◌*◌, ◌^◌, ◌<◌, ◌≤◌, [], ◌∷◌, length, replicate, true, IfNone, IfErr, OnOk, OnErr, Some, None};
 ghost use Rattle.iscsi_transfer.specs.Payload.{announces, expected as expected_in};
-ghost use Rattle.iscsi_transfer.specs.Task.{TaskState, blank, fault_of as fault_in, filled, grown, with_data, with_asked, allowed, due_asks, first, is_due, is_asked, is_whole as is_whole_in, wanted as wanted_in, next_ask, sequence_tag, sequence_end, lacks_data};
+ghost use Rattle.iscsi_transfer.specs.WriteData.{WriteDataState, blank, fault_of as fault_in, filled, grown, with_data, with_asked, allowed, due_asks, first, is_due, is_asked, is_whole as is_whole_in, wanted as wanted_in, next_ask, sequence_tag, sequence_end, lacks_data};
 ghost use Rattle.iscsi_transfer.specs.Counted.{brought, Takes};
 
 use crate::fault::DataFault;
@@ -55,10 +55,10 @@ pub struct Progress {
 
 impl Model for Progress {
     ghost use Rattle.std.specs.Prelude.{◌+◌, length as long, replicate};
-    ghost use Rattle.iscsi_transfer.specs.Task.{TaskState, bursts_in};
+    ghost use Rattle.iscsi_transfer.specs.WriteData.{WriteDataState, bursts_in};
     ghost use Rattle.iscsi_transfer.specs.Counted.{IsCounted};
 
-    ghost Value = { TaskState };
+    ghost Value = { WriteDataState };
 
     ghost view = { λ t. record {
       payload = replicate t.length 0;
@@ -272,7 +272,7 @@ impl Progress {
         fault
     }
 
-    #[tactic(auto, unfolding(crate::specs::Task::fault_of))]
+    #[tactic(auto, unfolding(crate::specs::WriteData::fault_of))]
     fn first_fault(&self, out: &Frame) -> Option<DataFault>
         ensures fault { result ≡ fault_in self.now out.now }
         ensures counted { IfNone result (self.now.sequence_length ≤ 4294967295) }

@@ -267,7 +267,7 @@ impl<S: Store> Disk<S> {
     }
 
     /// Writes the same block to `count` places. If it fails, these blocks may hold any bytes.
-    pub fn same(&mut self, first: u64, count: u64, block: &[u8]) -> Result<(), StoreFault>
+    pub fn write_same(&mut self, first: u64, count: u64, block: &[u8]) -> Result<(), StoreFault>
         requires range { first + count ≤ length self.old.blocks }
         requires whole { length block.now ≡ block_length }
         ensures written { OnOk result (IsTrue self.old.honest

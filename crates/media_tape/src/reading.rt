@@ -13,7 +13,7 @@ use crate::run::MARK_SIZE;
 use crate::tape::Tape;
 use bytes::BytesMut;
 use media_store::{Store, StoreFault};
-use out_of_memory::Memory;
+use target_limits::Memory;
 
 impl<S: Store> Tape<S> {
     /// Passes the item after the position (SSC-4 "READ (6)"). Of a record it appends the bytes requested to a buffer.

@@ -14,8 +14,8 @@ use crate::run::MARK_SIZE;
 use crate::tape::Tape;
 use crate::write::{Objects, cut_at, spelled, write_objects};
 use media_store::{Store, StoreFault};
-use out_of_memory::Memory;
 use std::alloc::AllocError;
+use target_limits::Memory;
 
 /// Returns `Early` if items that were written up to this place exceed the early mark, else `Whole`.
 fn told(early_mark: u64, end: u64) -> Written

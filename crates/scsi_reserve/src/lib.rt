@@ -16,7 +16,7 @@
 //!
 //! A [`Table`] behaves as defined:
 //!
-//! - [`Table::out`] (PERSISTENT RESERVE OUT) changes the table and answers as `out_of` defines.
+//! - [`Table::persistent_reserve_out`] (PERSISTENT RESERVE OUT) changes the table and answers as `out_of` defines.
 //! - [`Table::read_in`] (PERSISTENT RESERVE IN) returns exactly the bytes of `data_of`.
 //! - [`Table::allows`] is `is_allowed`, the table of conflicts.
 //! - If an allocation fails, nothing changes.

@@ -84,7 +84,7 @@ impl Table {
     ///
     /// If an allocation fails, nothing changes.
     #[tactic(auto, unfolding(crate::specs::Out::out_of))]
-    pub fn out(
+    pub fn persistent_reserve_out(
         &mut self,
         nexus: &Nexus,
         action: ServiceAction,

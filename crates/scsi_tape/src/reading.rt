@@ -14,11 +14,11 @@ use crate::tape_unit::TapeUnit;
 use bytes::BytesMut;
 use media_store::Store;
 use media_tape::{FixedEnd, FixedRead, Passed};
-use out_of_memory::Memory;
 use scsi_cdb::{FixedBlocks, IncorrectLength};
 use scsi_sense::{Done, Given, HEADROOM, Sense, Status, TAILROOM};
 use std::alloc::Global;
 use std::mem;
+use target_limits::Memory;
 
 /// READ BLOCK LIMITS data: the greatest length of a record in bytes, and the least.
 const BLOCK_LIMITS: [u8; 6] = [0x00, 0x10, 0x00, 0x00, 0x00, 0x01];

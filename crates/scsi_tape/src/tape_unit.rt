@@ -9,11 +9,11 @@ ghost use Rattle.scsi_tape.specs.CameOut.{IsTapeDone, tape_done, is_steady, IsTr
 use bytes::BytesMut;
 use media_store::Store;
 use media_tape::Tape;
-use out_of_memory::Memory;
 use scsi_cdb::{Need, TapeCommand};
 use scsi_sense::{Condition, Done, Sense};
 use std::alloc::Global;
 use std::marker::Model;
+use target_limits::Memory;
 
 /// Returns the number of bytes of data that a command needs. Of a longer payload the first bytes are used.
 pub fn bytes_needed(command: &TapeCommand) -> usize

@@ -13,10 +13,10 @@ use crate::sense::{early_warning, overflow};
 use crate::tape_unit::TapeUnit;
 use media_store::Store;
 use media_tape::{FixedWritten, Written};
-use out_of_memory::Memory;
 use scsi_cdb::{FixedBlocks, RecordLength};
 use scsi_sense::{Condition, Done, Sense};
 use std::alloc::Global;
+use target_limits::Memory;
 
 /// Reports how WRITE of `count` bytes ended.
 fn written(alloc: Global, count: u32, written: Written) -> Done

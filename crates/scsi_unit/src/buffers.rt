@@ -5,11 +5,11 @@ ghost use Rattle.scsi_unit.specs.Buffers.{most_short, rooms, no_places, all_plac
 
 use bytes::BytesMut;
 use media_block::BLOCK_LENGTH;
-use out_of_memory::Memory;
 use scsi_cdb::MOST_BLOCKS;
 use scsi_sense::{HEADROOM, TAILROOM};
 use std::alloc::{AllocError, Global};
 use std::marker::Model;
+use target_limits::Memory;
 
 /// The most room of a short buffer; a connection keeps no more than this for its answers. The buffer of a short READ
 /// may become that of the answers. A long one is then given back to the system, to be made and filled anew.

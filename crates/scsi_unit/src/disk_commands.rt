@@ -18,10 +18,10 @@ use bytes::BytesMut;
 use data_parts::Data;
 use media_block::{BLOCK_LENGTH, Disk};
 use media_store::{Store, StoreFault};
-use out_of_memory::Memory;
 use scsi_cdb::{BlockRange, DiskCommand};
 use scsi_sense::{Done, Given, HEADROOM, TAILROOM};
 use std::alloc::Global;
+use target_limits::Memory;
 
 /// Returns the READ CAPACITY (10) data of a disk with this number of blocks.
 fn capacity_10(block_count: u64) -> [u8; 8]

@@ -104,7 +104,7 @@ impl<S: Store> DiskDevice<S> {
         let block = &data[..BLOCK_LENGTH];
         match self
             .disk
-            .same(range.first(), u64::from(range.count()), block)
+            .write_same(range.first(), u64::from(range.count()), block)
         {
             Ok(()) => Done::good_taking(alloc, BLOCK_LENGTH as u32),
             Err(_) => self.write_failed(alloc),

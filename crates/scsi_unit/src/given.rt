@@ -3,9 +3,9 @@
 ghost use Rattle.std.specs.Prelude.{◌≡◌, ◌≤◌, length, take, IfOk};
 ghost use Rattle.scsi_sense.specs.Done.{good_with};
 
-use out_of_memory::Memory;
 use scsi_sense::{Done, Given};
 use std::alloc::Global;
+use target_limits::Memory;
 
 /// Returns the first bytes, at most `most`.
 pub(crate) fn front(bytes: &[u8], most: usize) -> &[u8]

@@ -9,11 +9,11 @@ ghost use Rattle.scsi_unit.specs.DiskCommands.{most_given};
 ghost use Rattle.scsi_unit.specs.Identity.{page_outcome, inquiry_outcome, luns_outcome, sense_outcome, unsupported, without_unit};
 
 use crate::given::done_with_front;
-use out_of_memory::Memory;
 use scsi_cdb::{Command, FieldFault, Kind, ReportLunsFields, Row, UnitCommand};
 use scsi_inquiry::{Peripheral, VpdPage, luns, page, standard};
 use scsi_sense::{Condition, Done, Sense};
 use std::alloc::Global;
+use target_limits::Memory;
 
 /// Returns CHECK CONDITION with INVALID FIELD IN CDB.
 pub(crate) fn field_refused(alloc: Global) -> Done

@@ -55,7 +55,7 @@ mod tape_commands;
 mod unit;
 mod units;
 
-pub use out_of_memory::Memory;
 pub use serial::Serial;
+pub use target_limits::Memory;
 pub use unit::Unit;
 pub use units::Units;

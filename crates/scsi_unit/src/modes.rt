@@ -7,11 +7,11 @@ ghost use Rattle.scsi_unit.specs.Unit.{mode_sense_outcome};
 
 use crate::given::done_with_front;
 use crate::identity::field_refused;
-use out_of_memory::Memory;
 use scsi_cdb::ModeSenseFields;
 use scsi_mode::{Parameters, sense};
 use scsi_sense::Done;
 use std::alloc::Global;
+use target_limits::Memory;
 
 /// Carries out MODE SENSE of a unit with these parameters.
 #[tactic(auto, unfolding(crate::specs::Unit::mode_sense_outcome))]

@@ -21,10 +21,10 @@ use bytes::BytesMut;
 use data_parts::Data;
 use media_block::BLOCK_LENGTH;
 use media_store::Store;
-use out_of_memory::Memory;
 use scsi_cdb::{Cdb, Command, DiskCommand, FieldFault, ModeSelectFields, Row, UnitCommand};
 use scsi_mode::{ListFault, select};
 use scsi_sense::{Attention, Condition, Done, Nexus, Sense};
+use target_limits::Memory;
 
 /// Returns the number of bytes of data that a command to a disk needs.
 fn bytes_needed(command: &DiskCommand) -> usize

@@ -8,11 +8,11 @@ ghost use Rattle.scsi_unit.specs.PersistentReserve.{reserve_in_outcome, ended_ou
 use crate::given::done_with_front;
 use crate::unit::Unit;
 use media_store::Store;
-use out_of_memory::Memory;
 use scsi_cdb::{ReserveInFields, ReserveOutFields};
 use scsi_reserve::{Ended, Table};
 use scsi_sense::{Done, Nexus, Sense};
 use std::alloc::Global;
+use target_limits::Memory;
 
 /// Carries out PERSISTENT RESERVE IN of a table.
 #[tactic(auto, unfolding(crate::specs::PersistentReserve::reserve_in_outcome))]
@@ -61,7 +61,7 @@ impl<S: Store> Unit<S> {
         let list = &data[..fields.list_length as usize];
         let outcome = self
             .reservations
-            .out(nexus, fields.action, fields.scope, fields.code, list)?;
+            .persistent_reserve_out(nexus, fields.action, fields.scope, fields.code, list)?;
         self.joined.raise_due(outcome.due.as_slice());
         Ok(ended(self.alloc, fields.list_length, outcome.ended))
     }

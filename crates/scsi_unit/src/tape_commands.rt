@@ -17,11 +17,11 @@ use crate::unit::Unit;
 use bytes::BytesMut;
 use data_parts::Data;
 use media_store::Store;
-use out_of_memory::Memory;
 use scsi_cdb::{Cdb, TapeCommand};
 use scsi_sense::{Attention, Done, HEADROOM, Nexus, TAILROOM};
 use scsi_tape::TapeUnit;
 use std::alloc::Global;
+use target_limits::Memory;
 
 /// Returns the room for the data that a command requests, with that before it and after it. How much it returns is
 /// known only once it was read.

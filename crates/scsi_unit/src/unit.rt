@@ -15,12 +15,12 @@ use data_parts::Data;
 use media_block::Disk;
 use media_store::Store;
 use media_tape::Tape;
-use out_of_memory::Memory;
 use scsi_reserve::Table;
 use scsi_sense::{Attention, Done, Nexus};
 use scsi_tape::TapeUnit;
 use std::alloc::Global;
 use std::marker::Model;
+use target_limits::Memory;
 
 /// A logical unit: a disk or a tape, its registrations and reservation, and the unit attentions pending for each nexus.
 #[derive(Drop)]

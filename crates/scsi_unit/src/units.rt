@@ -17,12 +17,12 @@ use crate::unit::Unit;
 use bytes::BytesMut;
 use data_parts::{Data, SpareBuffers};
 use media_store::Store;
-use out_of_memory::Memory;
 use scsi_cdb::{ReportLunsFields, Row};
 use scsi_sense::{Attention, Done, Nexus};
 use std::alloc::Global;
 use std::marker::Model;
 use std::mem;
+use target_limits::Memory;
 
 /// The logical units of one target.
 #[derive(Drop)]

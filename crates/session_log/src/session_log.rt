@@ -6,12 +6,12 @@ use crate::lines;
 use crate::log_file::LogFile;
 use crate::observed::Observer;
 use crate::sense::Sensed;
-use connection_numbers::CONNECTIONS;
 use jiff::Timestamp;
 use std::alloc::{AllocError, Global};
 use std::fs::File;
 use std::net::SocketAddr;
 use std::rt::{Clock, Files};
+use target_limits::CONNECTIONS;
 
 /// So many lines a second are written of connections that have not logged in, and of those that have.
 const MOST_OF_STRANGERS: u32 = 20;

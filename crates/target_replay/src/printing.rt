@@ -16,7 +16,11 @@ use std::alloc::{AllocError, Global};
 use std::io::{ErrorKind, Write};
 
 /// Takes all the bytes that wait on a connection, which then count as sent.
-fn drain<S: Store>(alloc: Global, target: &mut Target<S>, c: usize) -> Result<Vec<u8>, Memory>
+fn take_waiting<S: Store>(
+    alloc: Global,
+    target: &mut Target<S>,
+    c: usize,
+) -> Result<Vec<u8>, Memory>
     requires in_range { c < 64 }
     requires open { is_open_at target.old c ≡ true }
     ensures bytes { IfOk result (λ bytes. bytes.items ≡ (link_at target.old c).waiting) }
@@ -73,7 +77,7 @@ fn print_connection<S: Store>(
     ensures each { ReflectsSoundness target.old target.new }
     ensures sure { IsSure target.old → IsSure target.new }
 {
-    let bytes = drain(alloc, target, c)?;
+    let bytes = take_waiting(alloc, target, c)?;
     print_bytes(alloc, c, bytes.as_slice(), text)?;
     if target.closing(c) {
         print_closed(c, text)?;

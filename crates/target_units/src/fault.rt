@@ -5,8 +5,8 @@ ghost use Rattle.target_units.specs.declared.fault.UnitFault.TheVariants.{Memory
 ghost use Rattle.target_units.specs.declared.fault.OpenFault.TheVariants.{Memory as NoTarget};
 
 use crate::cause::DeviceCause;
-use out_of_memory::Memory;
 use std::alloc::AllocFailed;
+use target_limits::Memory;
 use thiserror::Error;
 
 /// Why a unit of one target is not opened.

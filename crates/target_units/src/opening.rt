@@ -15,7 +15,6 @@ use crate::store::{MediumStore, SystemStore};
 use media_block::{BLOCK_LENGTH, Disk, DiskOpenFault};
 use media_store::{FileStore, MemStore, Start, Store, SystemFile};
 use media_tape::{Tape, TapeOpenFault};
-use out_of_memory::Memory;
 use scsi_unit::{Serial, Unit, Units};
 use std::alloc::Global;
 use std::fs::File;
@@ -23,6 +22,7 @@ use std::io;
 use std::io::ErrorKind;
 use std::rt::Files;
 use target_config::{BlockCount, Configuration, MediumConfiguration, UnitConfiguration};
+use target_limits::Memory;
 
 /// The targets of a configuration, with their units opened.
 #[derive(Drop)]

@@ -46,7 +46,7 @@ use std::io;
 use std::process::ExitCode;
 
 /// Runs the program with the words of the command line.
-fn carry_out(rt: &HostRuntime) -> Result<(), Fault> {
+fn run_with_words(rt: &HostRuntime) -> Result<(), Fault> {
     let words = arguments(rt)?;
     run::<Unknown, _, _>(
         rt,
@@ -58,7 +58,7 @@ fn carry_out(rt: &HostRuntime) -> Result<(), Fault> {
 }
 
 fn main(rt: HostRuntime) -> ExitCode {
-    let ended = carry_out(&rt);
+    let ended = run_with_words(&rt);
     if let Err(fault) = &ended {
         // If standard error fails, there is nowhere left to report it.
         let _ = eprintln!(rt; "{fault}");

@@ -6,10 +6,10 @@ ghost use Rattle.iscsi_login.specs.Login.{longest_piece, step_of, answered, IsAn
 
 use crate::answer::LONGEST_PIECE;
 use crate::login::Login;
-use crate::params::Params;
 use crate::reply::Reply;
 use crate::request::{is_last_step, stage_after};
-use crate::session::Session;
+use crate::requested_session::RequestedSession;
+use crate::session_params::SessionParams;
 use iscsi_pdu::{
     Frame, Header, LoginAccepted, LoginRefusal, LoginReply, LoginResponse, LoginStep, Stage, Stamp,
 };
@@ -69,7 +69,7 @@ impl Login {
     }
 
     /// Takes the session that begins with the next answer, if one does.
-    fn begin(&mut self, step: LoginStep) -> Option<Session>
+    fn begin(&mut self, step: LoginStep) -> Option<RequestedSession>
         ensures session { result ≡ begun_by self.old step }
         ensures target { (count : ℕ) → AsksBelow count self.old.session → AsksBelow count result }
         ensures left { (count : ℕ) → AsksBelow count self.old.session → AsksBelow count self.new.session }
@@ -139,7 +139,7 @@ impl Login {
         let step = self.step(header);
         match self.begin(step) {
             Some(session) => {
-                let params = Params {
+                let params = SessionParams {
                     nexus: session.nexus,
                     target: session.target,
                     directory: session.directory,

@@ -17,16 +17,16 @@ use crate::directory::Directory;
 use crate::fault::Fault;
 use crate::login::Login;
 use crate::names::{asked, is_normal_session};
-use crate::params::Params;
 use crate::request::is_operational;
-use crate::session::Session;
+use crate::requested_session::RequestedSession;
+use crate::session_params::SessionParams;
 use crate::text::{joined, says_no_segment};
 use crate::values::Values;
 use bytes::BytesMut;
 use iscsi_pdu::{Frame, Header, LoginRefusal};
 use iscsi_text::{Pairs, TextFault, pairs};
-use out_of_memory::Memory;
 use std::alloc::Global;
+use target_limits::Memory;
 
 /// Returns the pairs of a whole text, or why it is refused.
 fn read_text(alloc: Global, text: &[u8]) -> Result<Pairs, Fault>
@@ -61,9 +61,9 @@ impl Login {
         &self,
         request: &Frame,
         directory: &Directory,
-        named: &Option<Params>,
+        named: &Option<SessionParams>,
         pairs: &Pairs,
-    ) -> Result<Option<Session>, Fault>
+    ) -> Result<Option<RequestedSession>, Fault>
         ensures session { IfOk result (λ asked. asked ≡ asked_by self.now.session directory.now request.now.header pairs.now) }
         ensures target { IfOk result (AsksBelow (length directory.now.names)) }
         ensures accepted { OnOk result (session_refusal self.now.session (lookup_in directory.now named.now) request.now.header pairs.now ≡ None) }
@@ -102,7 +102,7 @@ impl Login {
         &mut self,
         header: &Header,
         pairs: Pairs,
-        asked: Option<Session>,
+        asked: Option<RequestedSession>,
         due: BytesMut,
         values: Values,
     ) -> Result<(), Fault>
@@ -134,7 +134,7 @@ impl Login {
         &mut self,
         request: &Frame,
         directory: &Directory,
-        named: &Option<Params>,
+        named: &Option<SessionParams>,
     ) -> Result<Vec<u8>, Fault>
         ensures heard { OnOk result (self.new ≡ heard directory.now self.old request.now.header (pairs_with self.old request.now)) }
         ensures piece { IfOk result (λ piece. piece.items ≡ take longest_piece self.new.due) }

@@ -12,26 +12,26 @@ returns-clause-prints g c = λ s sent h stands.
       | then-closing+in_ok-print_closed w ↦
           rw (w.target-is, w.text-is)
           (closed_one s sent h c.args.c (string_bytes c.args.text.now) c.in_ok-bytes.bytes.items (string_bytes w.print_closed.new.text)
-          c.args.target.now c.drain.new.target w.gone.new.self c.requires.in_range stands
+          c.args.target.now c.take_waiting.new.target w.gone.new.self c.requires.in_range stands
           c.in_ok-bytes.ensures.bytes (c.in_ok-bytes.ensures.stands s sent h stands)
           w.if-closing.ensures (rw printed at w.in_ok-print_closed.ensures) w.gone.ensures.always)
       | else-closing w ↦
           rw (w.target-is, w.text-is)
           (open_one s sent h c.args.c (string_bytes c.args.text.now) c.in_ok-bytes.bytes.items (string_bytes c.print_bytes.new.text)
-          c.args.target.now c.drain.new.target c.requires.in_range stands
+          c.args.target.now c.take_waiting.new.target c.requires.in_range stands
           c.in_ok-bytes.ensures.bytes (c.in_ok-bytes.ensures.stands s sent h stands) w.if-closing.ensures printed)
     ])
 
 pub returns-clause-sound : goal.returns-clause-sound
 returns-clause-sound g c =
     elim c.if-closing.branch [
-      | then-closing+in_ok-print_closed w ↦ rw w.target-is (λ sound. c.drain.ensures.sound (w.gone.ensures.sound sound))
-      | else-closing w ↦ rw w.target-is c.drain.ensures.sound
+      | then-closing+in_ok-print_closed w ↦ rw w.target-is (λ sound. c.take_waiting.ensures.sound (w.gone.ensures.sound sound))
+      | else-closing w ↦ rw w.target-is c.take_waiting.ensures.sound
     ]
 
 pub returns-clause-each : goal.returns-clause-each
 returns-clause-each g c =
     elim c.if-closing.branch [
-      | then-closing+in_ok-print_closed w ↦ rw w.target-is (λ target sound. c.drain.ensures.each target (w.gone.ensures.each target sound))
-      | else-closing w ↦ rw w.target-is c.drain.ensures.each
+      | then-closing+in_ok-print_closed w ↦ rw w.target-is (λ target sound. c.take_waiting.ensures.each target (w.gone.ensures.each target sound))
+      | else-closing w ↦ rw w.target-is c.take_waiting.ensures.each
     ]

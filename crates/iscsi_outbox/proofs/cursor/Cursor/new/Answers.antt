@@ -4,8 +4,8 @@ use Rattle.iscsi_pdu.specs.Answer.{spelling}
 use Rattle.iscsi_outbox.proofs.Starts.{start_placed, start_answered, padding_is}
 use Rattle.iscsi_outbox.proofs.cursor.Cursor.new.Goals as goal
 
-pub settle-requires : goal.settle-requires
-settle-requires c =
+pub start_piece-requires : goal.start_piece-requires
+start_piece-requires c =
     let size = c.len-length.result - 48 in
     let short = c.requires.short in
     let longer = ap (λ (xs : List ℕ). length xs) c.extend_reserved.ensures.items in
@@ -17,7 +17,7 @@ settle-requires c =
 pub returns-clause-value : goal.returns-clause-value
 returns-clause-value c =
     let size = c.len-length.result - 48 in
-    c.settle.ensures.same
+    c.start_piece.ensures.same
     ∙ start_answered c.put.new.buffer c.args.shared c.args.limits c.args.buffer.items (spelling c.args.last.now) size c.requires.limits (omega arith)
     (c.put.ensures.written
     ∙ ap (λ (xs : List ℕ). xs ++ spelling c.args.last.now)

@@ -1,6 +1,6 @@
 use Rattle.std.proofs.Common.{◌≡◌, ◌-◌, find, is_none}
 use Rattle.std.specs.List.{range_with_len}
-use Rattle.connection_numbers.specs.Numbers.{connections}
+use Rattle.target_limits.specs.Numbers.{connections}
 use Rattle.iscsi_ports.specs.Lingering.{place_of}
 use Rattle.iscsi_ports.proofs.lingering.LingeringSockets.free_place.Given as goal
 

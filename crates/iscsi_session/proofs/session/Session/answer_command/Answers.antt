@@ -3,7 +3,7 @@ use Rattle.std.specs.Prelude.{flat_map}
 use Rattle.iscsi_pdu.specs.Frames.{Frame}
 use Rattle.iscsi_pdu.specs.Answer.{spelling}
 use Rattle.iscsi_pdu.specs.declared.stamp.Stamp.{Stamp}
-use Rattle.iscsi_login.specs.declared.params.Params.{Params}
+use Rattle.iscsi_login.specs.declared.session_params.SessionParams.{SessionParams}
 use Rattle.iscsi_session.specs.Requests.{frame_of, stamp, finished}
 use Rattle.iscsi_session.specs.Answers.{command_answers}
 use Rattle.iscsi_session.specs.Room.{room_for}
@@ -22,7 +22,7 @@ put_answers-requires-clause-room c =
     let known = subst (λ (x : SessionState). (frame : Frame) (others : List Frame) → x.tasks.queue ≡ frame ∷ others
     → room_for x.params.values frame ≤ c.args.out.now.spare) (sym c.self.view_is) c.requires.room in
     let same : c.self-2.inside.params ≡ c.self.inside.params = ap (λ (x : SessionState). x.params) (c.self-2.view_is ∙ c.next_stamp-stamp.ensures.same) in
-    subst (λ (p : Params). room_for p.values c.in-Some.frame ≤ c.args.out.now.spare) (sym same) (known _ _ c.in-Some.ensures.some)
+    subst (λ (p : SessionParams). room_for p.values c.in-Some.frame ≤ c.args.out.now.spare) (sym same) (known _ _ c.in-Some.ensures.some)
 
 pub returns-clause-answers : goal.returns-clause-answers
 returns-clause-answers c past k rest s is =
@@ -42,6 +42,6 @@ returns-clause-answers c past k rest s is =
       out = c.put_answers.ensures
           ∙ ap (λ (x : Stamp). items ++ flat_map spelling (command_answers x c.self-2.inside.params.values c.in-Some.frame done))
           (c.next_stamp-stamp.ensures.stamp (finished k past) f.1)
-          ∙ ap (λ (p : Params). items ++ flat_map spelling (command_answers now p.values c.in-Some.frame done)) same
+          ∙ ap (λ (p : SessionParams). items ++ flat_map spelling (command_answers now p.values c.in-Some.frame done)) same
           ∙ ap (λ (x : Frame). items ++ flat_map spelling (command_answers now past.params.values x done)) f.0;
     }

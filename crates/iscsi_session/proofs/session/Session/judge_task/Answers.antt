@@ -2,7 +2,7 @@ use Rattle.std.proofs.Common.{true, false, refl, sym, ap, ◌∙◌}
 use Rattle.std.proofs.lemmas.Bool.{or_parts}
 use Rattle.std.specs.Prelude.{is_some}
 use Rattle.iscsi_pdu.specs.Header.{initiator_task_tag}
-use Rattle.iscsi_login.specs.declared.params.Params.{Params}
+use Rattle.iscsi_login.specs.declared.session_params.SessionParams.{SessionParams}
 use Rattle.iscsi_session.specs.Judging.{is_faulty}
 use Rattle.iscsi_session.specs.Draining.{drain_with}
 use Rattle.iscsi_session.proofs.Feeding.{none_by}
@@ -28,13 +28,13 @@ pub returns-then-is_faulty-clause-verdict : goal.returns-then-is_faulty-clause-v
 returns-then-is_faulty-clause-verdict c past s =
     sym (task_told past c.args.frame.now true false false true (sym (c.is_fresh.ensures.fresh past s) ∙ c.if-not-is_fresh.false)
     (sym (c.is_over.ensures past s) ∙ c.if-is_over.false) (sym (c.is_taken.ensures.taken past s) ∙ c.if-is_taken.false)
-    (ap (λ (p : Params). is_faulty p.values c.args.frame.now) (sym (parts past _ s).params_is) ∙ sym c.is_faulty.ensures ∙ c.if-is_faulty.true))
+    (ap (λ (p : SessionParams). is_faulty p.values c.args.frame.now) (sym (parts past _ s).params_is) ∙ sym c.is_faulty.ensures ∙ c.if-is_faulty.true))
 
 pub returns-clause-verdict : goal.returns-clause-verdict
 returns-clause-verdict c past s =
     sym (task_told past c.args.frame.now true false false false (sym (c.is_fresh.ensures.fresh past s) ∙ c.if-not-is_fresh.false)
     (sym (c.is_over.ensures past s) ∙ c.if-is_over.false) (sym (c.is_taken.ensures.taken past s) ∙ c.if-is_taken.false)
-    (ap (λ (p : Params). is_faulty p.values c.args.frame.now) (sym (parts past _ s).params_is) ∙ sym c.is_faulty.ensures ∙ c.if-is_faulty.false))
+    (ap (λ (p : SessionParams). is_faulty p.values c.args.frame.now) (sym (parts past _ s).params_is) ∙ sym c.is_faulty.ensures ∙ c.if-is_faulty.false))
 
 pub returns-clause-acceptable : goal.returns-clause-acceptable
 returns-clause-acceptable c e =

@@ -1,6 +1,6 @@
 use Rattle.std.proofs.Common.{◌≡◌, ◌∙◌, sym, subst, ap, ℕ, List, length, take, min}
 use Rattle.iscsi_pdu.specs.Segment.{most_data}
-use Rattle.iscsi_login.specs.declared.params.Params.{Params}
+use Rattle.iscsi_login.specs.declared.session_params.SessionParams.{SessionParams}
 use Rattle.std.proofs.lemmas.Bool.{ne_eqb}
 use Rattle.iscsi_pdu.specs.Frames.{Frame}
 use Rattle.iscsi_pdu.specs.Header.{initiator_task_tag}
@@ -20,7 +20,7 @@ returns-clause-out c past s =
     let body_is : take c.min-length.result c.deref.result.now ≡ take (min past.params.values.max_recv_data_segment_length most_data) c.args.frame.now.body =
     ap (take c.min-length.result) body_now ∙ ap (λ (k : ℕ). take k c.args.frame.now.body) (c.min-length.ensures ∙ ap (λ (k : ℕ). min k most_data) c.min.ensures)
     ∙ ping_data c.len.result c.self.inside.params.values.max_recv_data_segment_length most_data c.args.frame.now.body count
-    ∙ ap (λ (p : Params). take (min p.values.max_recv_data_segment_length most_data) c.args.frame.now.body) values_is in
+    ∙ ap (λ (p : SessionParams). take (min p.values.max_recv_data_segment_length most_data) c.args.frame.now.body) values_is in
     ping_written c.args.out.now.items c.put.new.self.items _ c.initiator_task_tag-2.result _ c.next_stamp.result past.params.values c.args.frame.now
     (record {
       asks = ne_eqb _ _ (λ e. c.if-initiator_task_tag.false (c.initiator_task_tag.ensures ∙ ap initiator_task_tag frame_is ∙ e));

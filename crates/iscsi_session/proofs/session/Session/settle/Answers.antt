@@ -1,5 +1,5 @@
 use Rattle.std.proofs.Common.{ℕ, suc, List, [], refl, ap, ◌∙◌}
-use Rattle.iscsi_login.specs.declared.params.Params.{Params}
+use Rattle.iscsi_login.specs.declared.session_params.SessionParams.{SessionParams}
 use Rattle.iscsi_session.specs.Runs.{output}
 use Rattle.iscsi_session.proofs.Came.{came_none, came_then, came_as, came_with}
 use Rattle.iscsi_session.proofs.Parts.{on_err_known}
@@ -30,7 +30,7 @@ pub loop-preserved : goal.loop-preserved
 loop-preserved g c = record {
   turns = suc c.loop.invariant.turns;
   ran = came_then _ _ _ _ _ _ _ c.loop.invariant.ran
-      (came_with _ _ _ _ _ (ap (λ (p : Params). p.target) c.loop.invariant.params) c.in_ok-finish.ensures.steps) c.in_ok-finish.ensures.back
+      (came_with _ _ _ _ _ (ap (λ (p : SessionParams). p.target) c.loop.invariant.params) c.in_ok-finish.ensures.steps) c.in_ok-finish.ensures.back
       (λ given middle left ran one. settled_more _ _ _ _ _ _ _ _ given middle left ran one
       c.if-branch.true (c.in_ok-finish.ensures.fewer c.if-branch.true));
   back = λ sound. c.loop.invariant.back (c.in_ok-finish.ensures.back sound);
@@ -42,7 +42,7 @@ loop-preserved g c = record {
 
 pub returns-clause-ok : goal.returns-clause-ok
 returns-clause-ok g c = came_then _ _ _ _ _ _ _ c.loop.invariant.ran
-    (came_with _ _ _ _ _ (ap (λ (p : Params). p.target) c.loop.invariant.params) c.in_ok-finish.ensures.steps) c.in_ok-finish.ensures.back
+    (came_with _ _ _ _ _ (ap (λ (p : SessionParams). p.target) c.loop.invariant.params) c.in_ok-finish.ensures.steps) c.in_ok-finish.ensures.back
     (λ given middle left ran one. all_settled _ _ _ _ _ _ _ _ given middle left ran one c.if-branch.false)
 
 pub returns-in_err-finish-clause-eases : goal.returns-in_err-finish-clause-eases

@@ -1,5 +1,5 @@
 use Rattle.std.proofs.Common.{◌≡◌, ◌<◌, length}
-use Rattle.iscsi_transfer.specs.Task.{first, due_asks}
+use Rattle.iscsi_transfer.specs.WriteData.{first, due_asks}
 use Rattle.iscsi_session.specs.State.{transfer_at, r2ts_at}
 use Rattle.iscsi_session.proofs.Sending.{IsSent}
 use Rattle.iscsi_session.proofs.transfers.Transfers.ask.Given as goal

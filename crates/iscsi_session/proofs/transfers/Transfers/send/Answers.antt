@@ -1,5 +1,5 @@
 use Rattle.std.proofs.Common.{◌≡◌, ◌<◌, Some, length, sym, ap, subst, ◌∙◌}
-use Rattle.iscsi_transfer.specs.Task.{first, due_asks}
+use Rattle.iscsi_transfer.specs.WriteData.{first, due_asks}
 use Rattle.iscsi_session.specs.State.{TransferList, transfer_at, r2ts_at}
 use Rattle.iscsi_session.proofs.Sending.{same_place, sent_rest}
 use Rattle.iscsi_session.proofs.transfers.Transfers.send.Goals as goal

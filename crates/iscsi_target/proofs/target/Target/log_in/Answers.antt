@@ -6,7 +6,7 @@ use Rattle.iscsi_pdu.specs.declared.answer.Answer.TheVariants as answers
 use Rattle.iscsi_login.specs.Lookup.{Lookup, lookup_in}
 use Rattle.iscsi_login.specs.Login.{reply_of}
 use Rattle.iscsi_login.specs.Session.{named_by}
-use Rattle.iscsi_login.specs.declared.params.Params.{Params}
+use Rattle.iscsi_login.specs.declared.session_params.SessionParams.{SessionParams}
 use Rattle.iscsi_target.specs.World.{lookup_for}
 use Rattle.iscsi_target.specs.Machine.{LinkState, Machine, link_at, closed, IsWithin, logged_in, sessions}
 use Rattle.iscsi_target.proofs.Asking.{enters, no_session, waits, closed_asked, reads_asked, begun_alike, begun_by_request, on_err}
@@ -48,7 +48,7 @@ returns-in-Some-clause-ok g c =
     c.in_ok-named.ensures ∙ ap (λ (ls : List LinkState). named_by c.tsih.result (sessions ls)) c.as_slice.ensures.value
     ∙ ap (λ (n : ℕ). named_by n (sessions c.self.inside.connections)) (c.tsih.ensures ∙ ap (λ (f : Frame). tsih f.header) c.request.view_is) in
     let looked_up : lookup_in c.self.inside.directory c.in_ok-named.named ≡ lookup_for machine.directory (sessions machine.links) c.args.request.now =
-    ap (λ (o : Option Params). lookup_in c.self.inside.directory o) named in
+    ap (λ (o : Option SessionParams). lookup_in c.self.inside.directory o) named in
     on_ok_weaker c.begin.result (λ e login h.
     (let is_so : c.at_mut-connection.result.now.phase ≡ _ = ap (λ (l : LinkState). l.phase) a.old
     ∙ ap (λ (m : Machine). (link_at m c.args.c).phase) c.self.view_is ∙ h in

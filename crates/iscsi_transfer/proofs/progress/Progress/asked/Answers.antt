@@ -1,5 +1,5 @@
 use Rattle.std.proofs.Common.{[], ◌∷◌, refl, ap, ◌∙◌}
-use Rattle.iscsi_transfer.specs.Task.{bursts_in, with_asked}
+use Rattle.iscsi_transfer.specs.WriteData.{bursts_in, with_asked}
 use Rattle.iscsi_transfer.specs.contracts.progress.Progress.{the_view}
 use Rattle.iscsi_transfer.proofs.Open.{pushed}
 use Rattle.iscsi_transfer.proofs.Inside.{filled_is}

@@ -1,6 +1,6 @@
 use Rattle.std.proofs.Common.{◌≡◌, ◌+◌, ◌≤◌, length, Some, None, sym}
 use Rattle.std.specs.Prelude.{Option, IfNone}
-use Rattle.iscsi_transfer.specs.Task.{fault_of}
+use Rattle.iscsi_transfer.specs.WriteData.{fault_of}
 use Rattle.iscsi_transfer.specs.Counted.{brought, Takes}
 use Rattle.iscsi_transfer.specs.declared.fault.DataFault.{DataFault}
 use Rattle.iscsi_transfer.proofs.Blank.{takes_brought}

@@ -1,6 +1,6 @@
 use Rattle.std.proofs.Common.{◌≡◌, ℕ, ◌+◌, ◌-◌, length, drop, ap, ◌∙◌, arith}
 use Rattle.iscsi_transfer.specs.Counted.{brought}
-use Rattle.iscsi_transfer.specs.Task.{TaskState, bursts_in, filled}
+use Rattle.iscsi_transfer.specs.WriteData.{WriteDataState, bursts_in, filled}
 use Rattle.iscsi_transfer.proofs.Inside.{filled_is}
 use Rattle.iscsi_transfer.proofs.Open.{reached, left_open}
 use Rattle.iscsi_transfer.proofs.progress.Progress.take.Goals as goal
@@ -26,8 +26,8 @@ returns-then-filled c =
     ) in
     let counted : old.sent ≡ filled old + length old.open_tags = omega (arith, before, c.filled-filled.ensures.counted) in
     let kept : inside.open_tags.items ≡ old.open_tags =
-    ap (λ (t : TaskState). t.open_tags) c.self.view_is ∙ ap (λ (t : TaskState). t.open_tags) c.grow.ensures.grown in
-    ap (λ (t : TaskState). let s : TaskState = record t { sent = k + length tags; open_tags = tags } in s) c.self.view_is
+    ap (λ (t : WriteDataState). t.open_tags) c.self.view_is ∙ ap (λ (t : WriteDataState). t.open_tags) c.grow.ensures.grown in
+    ap (λ (t : WriteDataState). let s : WriteDataState = record t { sent = k + length tags; open_tags = tags } in s) c.self.view_is
     ∙ left_open old new (brought c.args.header.now c.args.size) k tags c.grow.ensures.grown is counted c.requires.takes
     (c.remove.ensures.items ∙ ap (drop 1) kept ∙ ap (λ (n : ℕ). drop n old.open_tags) one)
 
@@ -39,7 +39,7 @@ returns-else-filled c =
     let before : c.filled-filled.result ≡ filled old = c.filled-filled.ensures.value in
     let none : 0 ≡ k - filled old = omega (arith, before, c.if-filled.false) in
     let counted : old.sent ≡ filled old + length old.open_tags = omega (arith, before, c.filled-filled.ensures.counted) in
-    let kept : new.open_tags ≡ old.open_tags = ap (λ (t : TaskState). t.open_tags) c.grow.ensures.grown in
-    ap (λ (n : ℕ). let s : TaskState = record new { sent = n } in s) c.filled.ensures.counted
+    let kept : new.open_tags ≡ old.open_tags = ap (λ (t : WriteDataState). t.open_tags) c.grow.ensures.grown in
+    ap (λ (n : ℕ). let s : WriteDataState = record new { sent = n } in s) c.filled.ensures.counted
     ∙ left_open old new (brought c.args.header.now c.args.size) k new.open_tags c.grow.ensures.grown c.filled.ensures.value counted c.requires.takes
     (kept ∙ ap (λ (n : ℕ). drop n old.open_tags) none)

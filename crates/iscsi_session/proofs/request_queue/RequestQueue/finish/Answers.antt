@@ -1,0 +1,19 @@
+use Rattle.std.proofs.Common.{◌≡◌, ◌<◌, ◌∷◌, length, drop, ◌∙◌, refl, ap, subst, arith}
+use Rattle.iscsi_session.specs.State.{TaskLists, one_fewer}
+use Rattle.iscsi_session.proofs.Lines.{first_out}
+use Rattle.iscsi_session.proofs.request_queue.RequestQueue.finish.Goals as goal
+
+pub returns : goal.returns
+returns c =
+    let within : 0 < length c.self.inside.queue.items = grind (arith, c.if-is_empty.false, c.is_empty.ensures, c.self.inside.queue.ok.0) in
+    let once = c.self.invariant.once c.remove-key.result in
+    let out = first_out c.self.inside.requests c.remove-frame.new.self c.remove-key.result c.remove-frame.result c.self.inside.window.keys
+    c.self.inside.queue.items c.self.inside.due.items within c.remove-key.ensures.value
+    c.remove-frame.ensures.value c.remove-frame.ensures.updates (omega arith) in
+    record {
+      some = subst (λ (t : TaskLists). t.queue ≡ c.remove-frame.result ∷ drop 1 t.queue) c.self.view_is out.first;
+      same = subst (λ (t : TaskLists). c.finish_number.new.self ≡ one_fewer c.remove-frame.result (record t { queue = drop 1 t.queue })) c.self.view_is
+          (c.finish_number.ensures ∙ ap (one_fewer c.remove-frame.result) (rw (c.remove-key.ensures.items, out.left, out.same_held, out.same_others) refl));
+      none = tt;
+      none_same = tt;
+    }

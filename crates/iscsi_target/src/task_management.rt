@@ -1,0 +1,194 @@
+//! The effect of a session's Task Management Functions on the rest of its target (RFC 7143 §11.5.1). The other
+//! sessions lose the commands that they reach, and the units raise unit attentions. Nothing here allocates.
+
+ghost use Rattle.std.specs.Prelude.{◌≡◌, ℕ, ◌<◌, List, [], Some, None, true, length};
+ghost use Rattle.std.specs.List.{fold};
+ghost use Rattle.iscsi_pdu.specs.Header.{lun_field};
+ghost use Rattle.scsi_unit.specs.Units.{AreSound, AreSure, numbers_of};
+ghost use Rattle.iscsi_login.specs.LoginState.{IsTargetBelow};
+ghost use Rattle.iscsi_login.specs.Session.{is_same_target as is_same};
+ghost use Rattle.iscsi_session.specs.Comings.{Coming, lend};
+ghost use Rattle.iscsi_session.specs.Runs.{output, Runs};
+ghost use Rattle.iscsi_session.specs.Weight.{IsAtRest, Eases};
+ghost use Rattle.iscsi_target.specs.World.{units_at, changed_units, function_of, told_by, losing, lose_one, reset_by, reset as reset_in, carry_out, carry_out_for};
+ghost use Rattle.iscsi_target.specs.History.{connections};
+ghost use Rattle.iscsi_target.specs.Machine.{Machine, KeepsApart, link_at};
+ghost use Rattle.iscsi_target.specs.Bounded.{AddsAtMost};
+ghost use Rattle.iscsi_target.specs.Serving.{Preserves, CarriesOut};
+ghost use Rattle.iscsi_target.specs.SessionCalls.{InSession, LeavesSession, LosesCommands, ChangesOne};
+
+use crate::target::Target;
+use iscsi_pdu::{Header, TaskFunction};
+use iscsi_session::{Reach, Session, attention_of, is_for_all_sessions};
+use media_store::Store;
+use scsi_sense::{Attention, Nexus};
+use scsi_unit::Units;
+use target_limits::CONNECTIONS;
+
+/// Returns the numbers of the units of a session's target. Without a target there are none.
+pub(crate) fn luns_of<S: Store>(all: &[Units<S>], target: Option<usize>) -> &[u8]
+    ensures { result.now ≡ numbers_of (units_at target all.now) }
+{
+    let Some(target) = target else {
+        return &[];
+    };
+    match all.get(target) {
+        Some(units) => units.luns(),
+        None => &[],
+    }
+}
+
+/// Raises the unit attention of a nexus that lost commands by CLEAR TASK SET.
+fn tell<S: Store>(units: &mut Units<S>, nexus: &Nexus, function: &Header)
+    ensures { units.new ≡ told_by (function_of function.now) (lun_field function.now) nexus.now units.old }
+{
+    let attention = Attention::CommandsClearedByAnotherInitiator;
+    if let Some(Attention::CommandsClearedByAnotherInitiator) = attention_of(function) {
+        units.raise(nexus, function.lun(), attention);
+    }
+}
+
+/// Raises the unit attention of a reset for every nexus.
+fn reset<S: Store>(units: &mut Units<S>, function: &Header)
+    ensures { units.new ≡ reset_by (function_of function.now) (lun_field function.now) units.old }
+{
+    let attention = Attention::BusDeviceResetFunctionOccurred;
+    match function.task_function() {
+        TaskFunction::LogicalUnitReset => units.raise_for_all(function.lun(), attention),
+        TaskFunction::TargetWarmReset => units.raise_everywhere(attention),
+        _ => {}
+    }
+}
+
+/// Removes the commands of a session that the function of another session reaches. If it lost any to CLEAR TASK SET,
+/// its nexus gets the unit attention.
+pub(crate) fn lose<S: Store>(session: &mut Session, units: &mut Units<S>, function: &Header)
+    ensures runs { (waiting : List ℕ) (comings : List Coming) → Runs (λ fails place. losing function.now) None true session.old session.new
+        (output waiting []) (output waiting []) (lend units.old comings) (lend units.new comings) }
+    ensures back { AreSound units.new → AreSound units.old }
+    ensures sure { AreSure units.old → AreSure units.new }
+    ensures eases { (waiting : List ℕ) → IsAtRest session.old → Eases session.old session.new waiting waiting }
+    ensures params { session.new.params ≡ session.old.params }
+{
+    let has_lost = session.remove(&Reach {
+        function: *function,
+        luns: units.luns(),
+        is_own: false,
+    });
+    if has_lost {
+        tell(units, &session.params().nexus, function);
+    }
+}
+
+impl<S: Store> Target<S> {
+    /// Carries out the functions that acted in the session of connection c for the rest of its target, if it has one.
+    pub(crate) fn carry_out_for(&mut self, c: usize, target: Option<usize>, functions: &[Header])
+        requires { IsTargetBelow (length self.old.units) target }
+        ensures carries { CarriesOut (carry_out_for c target functions.now) self.old self.new }
+        ensures apart { (t : ℕ) → is_same target (Some t) ≡ true → KeepsApart t self.old self.new }
+        ensures moves { (b : ℕ) → Preserves b None self.old self.new }
+    {
+        match target {
+            Some(target) => self.carry_out_all(c, target, functions),
+            None => {}
+        }
+    }
+
+    /// Carries out the functions in order.
+    fn carry_out_all(&mut self, c: usize, target: usize, functions: &[Header])
+        requires { target < length self.old.units }
+        ensures carries { CarriesOut (λ w. fold (carry_out c target) w functions.now) self.old self.new }
+        ensures apart { KeepsApart target self.old self.new }
+        ensures moves { (b : ℕ) → Preserves b None self.old self.new }
+    {
+        for function in functions {
+            self.carry_out(c, target, function);
+        }
+    }
+
+    /// Carries out a function: the other sessions of the target lose what it reaches, and a reset raises its unit
+    /// attention.
+    #[tactic(auto, unfolding(crate::specs::World::carry_out))]
+    fn carry_out(&mut self, c: usize, target: usize, function: &Header)
+        requires { target < length self.old.units }
+        ensures carries { CarriesOut (λ w. carry_out c target w function.now) self.old self.new }
+        ensures apart { KeepsApart target self.old self.new }
+        ensures moves { (b : ℕ) → Preserves b None self.old self.new }
+    {
+        if is_for_all_sessions(function) {
+            self.lose_all(c, target, function);
+            self.reset(target, function);
+        }
+    }
+
+    /// Removes what the function reaches from each session of the target except that of connection c.
+    fn lose_all(&mut self, c: usize, target: usize, function: &Header)
+        requires { target < length self.old.units }
+        ensures carries { CarriesOut (λ w. fold (lose_one function.now target c) w connections) self.old self.new }
+        ensures apart { KeepsApart target self.old self.new }
+        ensures moves { (b : ℕ) → Preserves b None self.old self.new }
+    {
+        for d in 0..CONNECTIONS {
+            self.lose_one(c, d, target, function);
+        }
+    }
+
+    /// Removes what the function reaches from the session of connection d, if it is of this target and not that of
+    /// connection c.
+    fn lose_one(&mut self, c: usize, d: usize, target: usize, function: &Header)
+        requires in_range { d < 64 }
+        requires target { target < length self.old.units }
+        ensures carries { CarriesOut (λ w. lose_one function.now target c w d) self.old self.new }
+        ensures apart { KeepsApart target self.old self.new }
+        ensures moves { (b : ℕ) → Preserves b None self.old self.new }
+    {
+        if d == c {
+            return;
+        }
+        if !self.is_with(d, target) {
+            return;
+        }
+        self.lose_session(d, target, function);
+    }
+
+    /// Removes what the function reaches from the session of a connection.
+    fn lose_session(&mut self, d: usize, target: usize, function: &Header)
+        requires in_range { d < 64 }
+        requires target { target < length self.old.units }
+        ensures changes { ChangesOne d (Some target) self.old self.new }
+        ensures leaves { InSession (link_at self.old d).phase (λ session. LeavesSession (λ after waiting.
+            LosesCommands function.now (units_at (Some target) self.old.units) (units_at (Some target) self.new.units) session after
+            (link_at self.old d).waiting waiting) session (link_at self.old d) (link_at self.new d)) }
+        ensures eases { AddsAtMost 0 (link_at self.old d) (link_at self.new d) }
+        ensures back { AreSound (units_at (Some target) self.new.units) → AreSound (units_at (Some target) self.old.units) }
+        ensures sure { AreSure (units_at (Some target) self.old.units) → AreSure (units_at (Some target) self.new.units) }
+        ensures count { length self.old.links ≡ 64 }
+    {
+        let units = &mut self.units[target];
+        let connection = self.connections.at_mut(d);
+        connection.lose(units, function);
+    }
+
+    /// Raises the unit attention of a reset for every nexus.
+    fn reset(&mut self, target: usize, function: &Header)
+        requires { target < length self.old.units }
+        ensures carries { CarriesOut (reset_in function.now target) self.old self.new }
+        ensures apart { KeepsApart target self.old self.new }
+        ensures moves { (b : ℕ) → Preserves b None self.old self.new }
+    {
+        self.reset_units(target, function);
+    }
+
+    /// Raises the unit attention of a reset for every nexus, at the units of a target.
+    #[tactic(auto, unfolding(crate::specs::World::changed_units))]
+    fn reset_units(&mut self, target: usize, function: &Header)
+        requires { target < length self.old.units }
+        ensures { self.new ≡ record self.old {
+          units = changed_units (reset_by (function_of function.now) (lun_field function.now))
+              (Some target) self.old.units;
+        } }
+    {
+        let units = &mut self.units[target];
+        reset(units, function);
+    }
+}

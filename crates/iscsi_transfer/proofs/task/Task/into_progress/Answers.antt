@@ -1,8 +1,0 @@
-use Rattle.std.proofs.Common.{ℕ, List, ap, ◌∙◌}
-use Rattle.iscsi_transfer.specs.Task.{TaskState, blank}
-use Rattle.iscsi_transfer.proofs.task.Task.into_progress.Goals as goal
-
-pub returns : goal.returns
-returns c =
-    ap (λ (bytes : List ℕ). let task : TaskState = record c.self.inside.progress { payload = bytes } in task) c.self.invariant
-    ∙ ap blank c.self.view_is
