@@ -20,7 +20,7 @@ const IMMEDIATE: usize = 65_536;
 /// The number of places at which a stream may begin.
 const PLACES: usize = 1_048_576;
 
-/// The lengths of the pieces in which bytes arrive, from sockets and over a slow connection.
+/// The lengths of the pieces in which bytes arrive, from serving_checks and over a slow connection.
 const CUTS: [usize; 2] = [65_536, 1_448];
 
 /// The lengths of the segments of Data-Outs.
