@@ -6,8 +6,8 @@ use Rattle.std.specs.List.{range_with_len}
 use Rattle.iscsi_target.specs.History.{connection_limit, connections}
 use Rattle.iscsi_target.specs.Machine.{Machine, LinkState, link_at, with_link, sent_link, is_open_at, is_closing, is_silent, closed, free_link}
 use Rattle.iscsi_ports.specs.Log.{Entry, Close}
-use Rattle.iscsi_serve.specs.Turn.{Moment, moment, changed, is_open, is_closed, Closes, Along}
-use Rattle.iscsi_serve.specs.Progress.{AreEnded, Does, is_over, is_to_close, NoneToClose, KeepsOthers}
+use Rattle.iscsi_serve.specs.Turn.{Moment, moment, changed, is_open, is_closed, Closes, InOrder}
+use Rattle.iscsi_serve.specs.Progress.{AreEnded, StepsBy, is_over, is_to_close, NoneToClose, KeepsOthers}
 use Rattle.iscsi_serve.proofs.Goings.{where_not}
 use Rattle.iscsi_serve.proofs.Keeping.{keeps_same}
 
@@ -94,12 +94,12 @@ no_close_at target ended before turn c lt are e =
     where_not (is_closed c turn (link_at target c)) (m ≡ changed (Close c) (with_link (closed target c) c free_link) m) (m ≡ m)
     (ap (λ (has_ended : Bool). is_over has_ended (link_at target c)) (sym (are c lt)) ∙ e) refl
 
-along_none : (R : ℕ → Moment → Moment → Type 0) (m : Moment) (a n : ℕ) → ((c : ℕ) → c < a + n → R c m m) → Along R (range_with_len a n) m m
+along_none : (R : ℕ → Moment → Moment → Type 0) (m : Moment) (a n : ℕ) → ((c : ℕ) → c < a + n → R c m m) → InOrder R (range_with_len a n) m m
 along_none R m a zero each = refl
 along_none R m a (suc n) each = (m, each a (omega arith), along_none R m (a + 1) n (λ c lt. each c (omega (arith, lt))))
 
 pub none_closes : (tells : Bool) (log : List Entry) (target : Machine) (ended : List Bool) → NoneToClose 64 ended target
-    → Does (Along Closes connections) tells tells log log target target ended ended
+    → StepsBy (InOrder Closes connections) tells tells log log target target ended ended
 none_closes tells log target ended none = record {
   keeps = keeps_same tells log target;
   goes = λ e before turn at are.

@@ -13,7 +13,7 @@ use Rattle.target_limits.specs.Numbers.{is_number}
 use Rattle.iscsi_ports.specs.Log.{Carried, Bytes, Entry, Open, NobodyCame, Read, Wrote, Close}
 use Rattle.iscsi_serve.specs.Served.{IsFed}
 use Rattle.iscsi_serve.specs.Turn.{Moment, moment, changed, told, IfElse, opened, free_number, HasAccepted, is_read, room_for, HasFed, HasRead, Reads, piece_in, is_written, after_write, HasWritten, Writes, is_end, ends, is_closed, Closes}
-use Rattle.iscsi_serve.specs.Progress.{AreEnded, none_ended, IsDue, Goes}
+use Rattle.iscsi_serve.specs.Progress.{AreEnded, none_ended, IsDue, MovesBy}
 use Rattle.iscsi_ports.specs.declared.results.Named.{Named}
 use Rattle.iscsi_serve.proofs.Fronts.{offered_front, offered_within}
 use Rattle.iscsi_serve.proofs.Moments.{none_more, one_more}
@@ -62,7 +62,7 @@ none_ended_by turn none c lt = get_or-replicate 64 c false false lt ∙ sym (non
 -- ---- reads
 
 pub no_read : (log : List Entry) (target : Machine) (ended : List Bool) (named : Named) (c : ℕ) → is_read named c (link_at target c) ≡ false
-    → Goes (Reads named c) log log target target ended ended
+    → MovesBy (Reads named c) log log target target ended ended
 no_read log target ended named c e =
     none_more (Reads named c) log target ended
     (λ before turn are.
@@ -83,7 +83,7 @@ fed m n c room (byte ∷ piece) after some feeds is_fed e = (after, feeds, is_fe
 pub read_some : (log log_then : List Entry) (target after : Machine) (named : Named) (ended : List Bool) (c room : ℕ) (piece : List ℕ)
     → IsDue named c room target → 0 < length piece → length piece ≤ room
     → log_then ≡ log ++ Read c room (Bytes piece) ∷ [] → Feeds c target after
-    → IsFed c piece target after → Goes (Reads named c) log log_then target after ended ended
+    → IsFed c piece target after → MovesBy (Reads named c) log log_then target after ended ended
 read_some log log_then target after named ended c room piece due some fits e feeds is_fed =
     let entry : Entry = Read c room (Bytes piece) in
     one_more (Reads named c) log log_then target after ended ended entry (ended_same ended entry (λ d. and_false (eqb c d))) e
@@ -93,7 +93,7 @@ read_some log log_then target after named ended c room piece due some fits e fee
 
 -- it would have waited
 pub read_none : (log log_then : List Entry) (target : Machine) (named : Named) (ended : List Bool) (c room : ℕ) → IsDue named c room target
-    → log_then ≡ log ++ Read c room (Bytes []) ∷ [] → Goes (Reads named c) log log_then target target ended ended
+    → log_then ≡ log ++ Read c room (Bytes []) ∷ [] → MovesBy (Reads named c) log log_then target target ended ended
 read_none log log_then target named ended c room due e =
     let entry : Entry = Read c room (Bytes []) in
     one_more (Reads named c) log log_then target target ended ended entry (ended_same ended entry (λ d. and_false (eqb c d))) e
@@ -102,7 +102,7 @@ read_none log log_then target named ended c room due e =
 -- it told an end or a fault
 pub read_ended : (log log_then : List Entry) (target : Machine) (named : Named) (ended : List Bool) (c room : ℕ) (carried : Carried)
     → c < connection_limit → length ended ≡ 64 → IsDue named c room target → is_end carried ≡ true
-    → log_then ≡ log ++ Read c room carried ∷ [] → Goes (Reads named c) log log_then target target ended (set ended c true)
+    → log_then ≡ log ++ Read c room carried ∷ [] → MovesBy (Reads named c) log log_then target target ended (set ended c true)
 read_ended log log_then target named ended c room (Bytes piece) lt len due over e = absurd cc
 read_ended log log_then target named ended c room carried lt len due over e =
     let entry : Entry = Read c room carried in
@@ -112,7 +112,7 @@ read_ended log log_then target named ended c room carried lt len due over e =
 -- ---- writes
 
 no_write : (log : List Entry) (target : Machine) (ended : List Bool) (c : ℕ) → is_written (link_at target c) ≡ false
-    → Goes (Writes c) log log target target ended ended
+    → MovesBy (Writes c) log log target target ended ended
 no_write log target ended c e =
     none_more (Writes c) log target ended
     (λ before turn are.
@@ -120,16 +120,16 @@ no_write log target ended c e =
     where_not (is_written (link_at target c)) (HasWritten c (link_at target c).waiting m m) (m ≡ m) e refl)
 
 pub free_write : (log : List Entry) (target : Machine) (ended : List Bool) (c : ℕ) → is_open_at target c ≡ false
-    → Goes (Writes c) log log target target ended ended
+    → MovesBy (Writes c) log log target target ended ended
 free_write log target ended c e = no_write log target ended c (ap (λ (b : Bool). b && nat_lt 0 (length (link_at target c).waiting)) e)
 
 pub empty_write : (log : List Entry) (target : Machine) (ended : List Bool) (c : ℕ) → (link_at target c).waiting ≡ []
-    → Goes (Writes c) log log target target ended ended
+    → MovesBy (Writes c) log log target target ended ended
 empty_write log target ended c e =
     no_write log target ended c (ap (λ (waiting : List ℕ). is_open_at target c && nat_lt 0 (length waiting)) e ∙ and_false (is_open_at target c))
 
 pub silent_write : (log : List Entry) (target : Machine) (ended : List Bool) (c : ℕ) → is_silent (link_at target c) ≡ true
-    → Goes (Writes c) log log target target ended ended
+    → MovesBy (Writes c) log log target target ended ended
 silent_write log target ended c e = let link = link_at target c in
     empty_write log target ended c (none_waits link.waiting (and_true (eqb (length link.waiting) 0) (not (is_closing link.phase)) e).0)
   where
@@ -152,7 +152,7 @@ written m n c offered unwritten carried open_ front some all e =
 -- bytes were written
 pub write_some : (log log_then : List Entry) (target after : Machine) (ended : List Bool) (c n : ℕ) (offered : List ℕ) → is_open_at target c ≡ true
     → offered ≡ take (length offered) (link_at target c).waiting → 0 < length offered → n ≤ length offered
-    → log_then ≡ log ++ Wrote c (length offered) (Bytes (take n offered)) ∷ [] → after ≡ with_link target c (sent_link (link_at target c) n) → Goes
+    → log_then ≡ log ++ Wrote c (length offered) (Bytes (take n offered)) ∷ [] → after ≡ with_link target c (sent_link (link_at target c) n) → MovesBy
     (Writes c) log log_then target after ended ended
 write_some log log_then target after ended c n offered open_ front some le e now =
     let piece = take n offered in
@@ -170,7 +170,7 @@ pub write_ended : (log log_then : List Entry) (target : Machine) (ended : List B
     → c < connection_limit → length ended ≡ 64 → is_open_at target c ≡ true
     → offered ≡ take (length offered) (link_at target c).waiting → 0 < length offered → is_end carried ≡ true
     → log_then ≡ log ++ Wrote c (length offered) carried ∷ [] →
-    Goes (Writes c) log log_then target target ended (set ended c true)
+    MovesBy (Writes c) log log_then target target ended (set ended c true)
 write_ended log log_then target ended c (Bytes piece) offered lt len open_ front some over e = absurd cc
 write_ended log log_then target ended c carried offered lt len open_ front some over e =
     let entry : Entry = Wrote c (length offered) carried in
@@ -180,7 +180,7 @@ write_ended log log_then target ended c carried offered lt len open_ front some 
 -- ---- closes
 
 no_close : (log : List Entry) (target : Machine) (ended : List Bool) (c : ℕ)
-    → ((turn : List Entry) → AreEnded ended turn → is_closed c turn (link_at target c) ≡ false) → Goes (Closes c) log log target target ended ended
+    → ((turn : List Entry) → AreEnded ended turn → is_closed c turn (link_at target c) ≡ false) → MovesBy (Closes c) log log target target ended ended
 no_close log target ended c e =
     none_more (Closes c) log target ended
     (λ before turn are.
@@ -188,7 +188,7 @@ no_close log target ended c e =
     where_not (is_closed c turn (link_at target c)) (m ≡ changed (Close c) (with_link (closed target c) c free_link) m) (m ≡ m) (e turn are) refl)
 
 pub free_close : (log : List Entry) (target : Machine) (ended : List Bool) (c : ℕ) → is_open_at target c ≡ false
-    → Goes (Closes c) log log target target ended ended
+    → MovesBy (Closes c) log log target target ended ended
 free_close log target ended c e =
     no_close log target ended c
     (λ turn are. ap (λ (b : Bool). b && (list_any (ends c) turn || is_closing (link_at target c).phase && eqb (length (link_at target c).waiting) 0)) e)
@@ -204,12 +204,12 @@ done_is target ended c done turn lt are e =
     ∙ ap (λ (b : Bool). is_open_at target c && b) e
 
 pub open_close : (log : List Entry) (target : Machine) (ended : List Bool) (c : ℕ) → c < connection_limit → is_done ended target c ≡ false
-    → Goes (Closes c) log log target target ended ended
+    → MovesBy (Closes c) log log target target ended ended
 open_close log target ended c lt e = no_close log target ended c (λ turn are. done_is target ended c false turn lt are e ∙ and_false (is_open_at target c))
 
 pub close_due : (log log_then : List Entry) (target after : Machine) (ended : List Bool) (c : ℕ) → c < connection_limit → is_open_at target c ≡ true
     → is_done ended target c ≡ true
-    → log_then ≡ log ++ Close c ∷ [] → after ≡ with_link (closed target c) c free_link → Goes (Closes c) log log_then target after ended ended
+    → log_then ≡ log ++ Close c ∷ [] → after ≡ with_link (closed target c) c free_link → MovesBy (Closes c) log log_then target after ended ended
 close_due log log_then target after ended c lt open_ done e now =
     let entry : Entry = Close c in
     one_more (Closes c) log log_then target after ended ended entry (ended_same ended entry (λ d. refl)) e
@@ -222,14 +222,14 @@ close_due log log_then target after ended c lt open_ done e now =
 -- ---- a connection comes
 
 pub nobody : (log log_then : List Entry) (target : Machine) → log_then ≡ log ++ NobodyCame ∷ []
-    → Goes HasAccepted log log_then target target none_ended none_ended
+    → MovesBy HasAccepted log log_then target target none_ended none_ended
 nobody log log_then target e =
     one_more HasAccepted log log_then target target none_ended none_ended NobodyCame (ended_same none_ended NobodyCame (λ d. refl)) e
     (λ before turn are. inr refl)
 
 pub somebody : (log log_then : List Entry) (target after : Machine) (c : ℕ) → c < connection_limit → c ≡ free_number target
     → log_then ≡ log ++ Open c ∷ [] → after ≡ with_link target c (opened_link c)
-    → Goes HasAccepted log log_then target after none_ended none_ended
+    → MovesBy HasAccepted log log_then target after none_ended none_ended
 somebody log log_then target after c lt free e now =
     one_more HasAccepted log log_then target after none_ended none_ended (Open c) (ended_same none_ended (Open c) (λ d. refl)) e
     (λ before turn are.
@@ -239,7 +239,7 @@ somebody log log_then target after c lt free e now =
     inl (subst (λ (c : ℕ). n ≡ opened c m) free does))
 
 pub too_many : (log middle log_then : List Entry) (target : Machine) (c : ℕ) → c ≡ 64 → c ≡ free_number target → middle ≡ log ++ Open c ∷ []
-    → log_then ≡ middle ++ Close c ∷ [] → Goes HasAccepted log log_then target target none_ended none_ended
+    → log_then ≡ middle ++ Close c ∷ [] → MovesBy HasAccepted log log_then target target none_ended none_ended
 too_many log middle log_then target c is free e f =
     let same : (m : Moment) → told (Close c) (told (Open c) m) ≡ opened (free_number target) m = λ m.
     ap (λ (c : ℕ). told (Close c) (told (Open c) m)) is ∙ ap (λ (c : ℕ). opened c m) (sym is ∙ free) in

@@ -13,8 +13,8 @@ use Rattle.iscsi_target.proofs.Standing.{is_open_there, is_free_there, stands_se
 use Rattle.iscsi_ports.specs.Log.{Bytes, Entry, Open, Read, Wrote, Close, Written, written_after, written}
 use Rattle.iscsi_serve.specs.Events.{event_of, events}
 use Rattle.iscsi_serve.specs.Served.{IsServed, IsFed, MayFollow, MayHappen, MayComeOut, Stays, ComesOutServed, HasBeenServed}
-use Rattle.iscsi_serve.specs.Turn.{Moment, Along}
-use Rattle.iscsi_serve.specs.Progress.{StandsFed, Keeps, Does}
+use Rattle.iscsi_serve.specs.Turn.{Moment, InOrder}
+use Rattle.iscsi_serve.specs.Progress.{StandsFed, Keeps, StepsBy}
 use Rattle.iscsi_serve.proofs.Fronts.{offered_front}
 use Rattle.iscsi_serve.proofs.Moments.{along_next}
 use Rattle.iscsi_serve.proofs.Steps.{sent_by, new_served, told_served, open_served, read_served, wrote_served, close_served}
@@ -197,14 +197,14 @@ keeps_then tells between tells_then log middle log_then target after target_then
 }
 
 pub none_does : (R : ℕ → Moment → Moment → Type 0) (tells : Bool) (log : List Entry) (target : Machine) (ended : List Bool)
-    → Does (Along R []) tells tells log log target target ended ended
+    → StepsBy (InOrder R []) tells tells log log target target ended ended
 none_does R tells log target ended = record { keeps = keeps_same tells log target; goes = λ e before turn at are. (turn, at, are, refl) }
 
 pub one_more_does : (R : ℕ → Moment → Moment → Type 0) (c : ℕ) (tells between tells_then : Bool) (log middle log_then : List Entry)
     (target after target_then : Machine) (ended now ended_then : List Bool)
-    → Does (Along R (range_with_len 0 c)) tells between log middle target after ended now → Does (R c) between tells_then middle log_then after
+    → StepsBy (InOrder R (range_with_len 0 c)) tells between log middle target after ended now → StepsBy (R c) between tells_then middle log_then after
     target_then now ended_then
-    → Does (Along R (range_with_len 0 (c + 1))) tells tells_then log log_then target target_then ended ended_then
+    → StepsBy (InOrder R (range_with_len 0 (c + 1))) tells tells_then log log_then target target_then ended ended_then
 one_more_does R c tells between tells_then log middle log_then target after target_then ended now ended_then so_far step = record {
   keeps = keeps_then tells between tells_then log middle log_then target after target_then so_far.keeps step.keeps;
   goes = λ e before turn at are.

@@ -4,8 +4,8 @@ use Rattle.std.proofs.lemmas.Bool.{cases_lt}
 use Rattle.std.specs.List.{range_with_len}
 use Rattle.iscsi_target.specs.Machine.{Machine, link_at, is_open_at, is_silent}
 use Rattle.iscsi_ports.specs.Log.{Entry}
-use Rattle.iscsi_serve.specs.Turn.{Writes, Along}
-use Rattle.iscsi_serve.specs.Progress.{Does, NoneToClose}
+use Rattle.iscsi_serve.specs.Turn.{Writes, InOrder}
+use Rattle.iscsi_serve.specs.Progress.{StepsBy, NoneToClose}
 use Rattle.iscsi_serve.proofs.Closing.{due_silent}
 use Rattle.iscsi_serve.proofs.Goings.{silent_write}
 use Rattle.iscsi_serve.proofs.Keeping.{keeps_same, one_more_does}
@@ -16,10 +16,10 @@ AreSilent target from end = (d : ℕ) → from ≤ d → d < end → is_silent (
 
 silent_by : (k from end : ℕ) (tells tells_then : Bool) (log log_then : List Entry) (target target_then : Machine) (ended ended_then : List Bool)
     → from + k ≡ end → AreSilent target_then from end
-    → Does (Along Writes (range_with_len 0 from)) tells tells_then log log_then target target_then ended ended_then
-    → Does (Along Writes (range_with_len 0 end)) tells tells_then log log_then target target_then ended ended_then
+    → StepsBy (InOrder Writes (range_with_len 0 from)) tells tells_then log log_then target target_then ended ended_then
+    → StepsBy (InOrder Writes (range_with_len 0 end)) tells tells_then log log_then target target_then ended ended_then
 silent_by zero from end tells tells_then log log_then target target_then ended ended_then is silent so_far =
-    subst (λ (n : ℕ). Does (Along Writes (range_with_len 0 n)) tells tells_then log log_then target target_then ended ended_then)
+    subst (λ (n : ℕ). StepsBy (InOrder Writes (range_with_len 0 n)) tells tells_then log log_then target target_then ended ended_then)
     (let e : from ≡ end = omega (arith, is) in e) so_far
 silent_by (suc k) from end tells tells_then log log_then target target_then ended ended_then is silent so_far =
     silent_by k (from + 1) end tells tells_then log log_then target target_then ended ended_then (omega (arith, is))
@@ -31,8 +31,8 @@ silent_by (suc k) from end tells tells_then log log_then target target_then ende
 
 pub silent_does : (from end : ℕ) (tells tells_then : Bool) (log log_then : List Entry) (target target_then : Machine) (ended ended_then : List Bool)
     → from ≤ end → AreSilent target_then from end
-    → Does (Along Writes (range_with_len 0 from)) tells tells_then log log_then target target_then ended ended_then
-    → Does (Along Writes (range_with_len 0 end)) tells tells_then log log_then target target_then ended ended_then
+    → StepsBy (InOrder Writes (range_with_len 0 from)) tells tells_then log log_then target target_then ended ended_then
+    → StepsBy (InOrder Writes (range_with_len 0 end)) tells tells_then log log_then target target_then ended ended_then
 silent_does from end tells tells_then log log_then target target_then ended ended_then le silent so_far =
     silent_by (end - from) from end tells tells_then log log_then target target_then ended ended_then (omega (arith, le)) silent so_far
 

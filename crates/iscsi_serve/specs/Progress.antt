@@ -52,8 +52,8 @@ StandsFed May c piece target target_then =
     × Stands s sent target_then (h ++ happening marks comings (history.Bytes c piece) ∷ [])
 
 -- in the turn that began at this log, the loop moved from one moment to another by R
-abbrev pub Goes : (Moment → Moment → Type 0) → List Entry → List Entry → Machine → Machine → List Bool → List Bool → Type 0
-Goes R log log_then target target_then ended ended_then =
+abbrev pub MovesBy : (Moment → Moment → Type 0) → List Entry → List Entry → Machine → Machine → List Bool → List Bool → Type 0
+MovesBy R log log_then target target_then ended ended_then =
     (before turn : List Entry) → log ≡ before ++ turn → AreEnded ended turn
     → (after : List Entry) × (log_then ≡ before ++ after) × AreEnded ended_then after × R (moment target before turn) (moment target_then before after)
 
@@ -68,7 +68,7 @@ pub record Keeps (tells tells_then : Bool) (log log_then : List Entry) (target t
   pub bounded : Bounded target → Bounded target_then
 
 -- a step by R: what it does, and what it keeps
-pub record Does (R : Moment → Moment → Type 0) (tells tells_then : Bool) (log log_then : List Entry)
+pub record StepsBy (R : Moment → Moment → Type 0) (tells tells_then : Bool) (log log_then : List Entry)
     (target target_then : Machine) (ended ended_then : List Bool) : Type 0 where
   pub keeps : Keeps tells tells_then log log_then target target_then
-  pub goes : tells_then ≡ true → Goes R log log_then target target_then ended ended_then
+  pub goes : tells_then ≡ true → MovesBy R log log_then target target_then ended ended_then

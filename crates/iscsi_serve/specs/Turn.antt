@@ -128,9 +128,9 @@ Closes c m n =
 -- ---- a turn
 
 -- R for each of these, in order
-abbrev pub Along : (ℕ → Moment → Moment → Type 0) → List ℕ → Moment → Moment → Type 0
-Along R [] m n = n ≡ m
-Along R (c ∷ cs) m n = (after : Moment) × R c m after × Along R cs after n
+abbrev pub InOrder : (ℕ → Moment → Moment → Type 0) → List ℕ → Moment → Moment → Type 0
+InOrder R [] m n = n ≡ m
+InOrder R (c ∷ cs) m n = (after : Moment) × R c m after × InOrder R cs after n
 
 -- one accept if the listener was named
 abbrev pub Accepts : Named → Moment → Moment → Type 0
@@ -140,9 +140,9 @@ Accepts named m n = IfElse named.listener (HasAccepted m n) (n ≡ m)
 pub record Carries (named : Named) (m n : Moment) : Type 0 where
   pub read : Moment
   pub written : Moment
-  pub reads : Along (Reads named) connections m read
-  pub writes : Along Writes connections read written
-  pub closes : Along Closes connections written n
+  pub reads : InOrder (Reads named) connections m read
+  pub writes : InOrder Writes connections read written
+  pub closes : InOrder Closes connections written n
 
 -- A turn: one poll, one accept if the listener was named, and then what is due.
 pub record IsTurn (m n : Moment) : Type 0 where

@@ -6,8 +6,8 @@ ghost use Rattle.iscsi_target.specs.History.{connections};
 ghost use Rattle.iscsi_target.specs.Machine.{Feeds, IsSound, ReflectsSoundness, IsSure, link_at, is_open_at, is_closing, want_of};
 ghost use Rattle.iscsi_ports.specs.Log.{Entry, AcceptFailed};
 ghost use Rattle.iscsi_serve.specs.Served.{MayHappen, IsFed, StaysServed, ComesOutServed};
-ghost use Rattle.iscsi_serve.specs.Turn.{Moment, moment, log_of, beginning, free_number as lowest_free, HasAccepted, is_read, Accepts, Reads, Writes, Closes, Along, Carries, EndsTurn, EndsTurns};
-ghost use Rattle.iscsi_serve.specs.Progress.{AreEnded, none_ended, is_to_close, NoneToClose, KeepsOthers, IsDue, StandsFed, Goes, Keeps, Does};
+ghost use Rattle.iscsi_serve.specs.Turn.{Moment, moment, log_of, beginning, free_number as lowest_free, HasAccepted, is_read, Accepts, Reads, Writes, Closes, InOrder, Carries, EndsTurn, EndsTurns};
+ghost use Rattle.iscsi_serve.specs.Progress.{AreEnded, none_ended, is_to_close, NoneToClose, KeepsOthers, IsDue, StandsFed, MovesBy, Keeps, StepsBy};
 ghost use Rattle.iscsi_ports.specs.declared.results.Named.{Named};
 
 use crate::ending::{any_ended, either, has_ended, is_done};
@@ -37,7 +37,7 @@ fn free_number<S: Store>(target: &Target<S>) -> usize
 /// Accepts a waiting connection. Closes it at once if no number is free for it.
 fn accept_one<P: Ports, S: Store>(ports: &mut P, target: &mut Target<S>) -> Result<(), ServeFault>
     ensures ok { OnOk result (P.tells ports.new ≡ true
-        → Goes HasAccepted (P.log ports.old) (P.log ports.new) target.old target.new none_ended none_ended) }
+        → MovesBy HasAccepted (P.log ports.old) (P.log ports.new) target.old target.new none_ended none_ended) }
     ensures failed { IfErr result (λ fault. (fault ≡ ServeFault.Accept) × (target.new ≡ target.old)
         × (P.tells ports.new ≡ true → P.log ports.new ≡ P.log ports.old ++ AcceptFailed ∷ [])) }
     ensures keeps { Keeps (P.tells ports.old) (P.tells ports.new) (P.log ports.old) (P.log ports.new) target.old target.new }
@@ -108,7 +108,7 @@ fn read_piece<P: Ports, S: Store>(
 )
     requires in_range { c < 64 }
     requires open { is_open_at target.old c ≡ true }
-    ensures { (named : Named) → IsDue named c (length piece.old) target.old → Does (Reads named c) (P.tells ports.old) (P.tells ports.new)
+    ensures { (named : Named) → IsDue named c (length piece.old) target.old → StepsBy (Reads named c) (P.tells ports.old) (P.tells ports.new)
         (P.log ports.old) (P.log ports.new) target.old target.new ended.old ended.new }
 {
     match ports.read(c, piece) {
@@ -131,7 +131,7 @@ fn read_one<P: Ports, S: Store>(
     c: usize,
 )
     requires { c < 64 }
-    ensures { Does (Reads named.now c) (P.tells ports.old) (P.tells ports.new)
+    ensures { StepsBy (Reads named.now c) (P.tells ports.old) (P.tells ports.new)
         (P.log ports.old) (P.log ports.new) target.old target.new ended.old ended.new }
 {
     let room = room_for(target, named, c);
@@ -149,7 +149,7 @@ fn write_open<P: Ports, S: Store>(
 )
     requires in_range { c < 64 }
     requires open { is_open_at target.old c ≡ true }
-    ensures does { Does (Writes c) (P.tells ports.old) (P.tells ports.new) (P.log ports.old) (P.log ports.new) target.old target.new ended.old ended.new }
+    ensures does { StepsBy (Writes c) (P.tells ports.old) (P.tells ports.new) (P.log ports.old) (P.log ports.new) target.old target.new ended.old ended.new }
     ensures open { is_open_at target.new c ≡ true }
     ensures others { KeepsOthers c target.old target.new ended.old ended.new }
 {
@@ -173,7 +173,7 @@ fn write_one<P: Ports, S: Store>(
     c: usize,
 ) -> bool
     requires { c < 64 }
-    ensures does { Does (Writes c) (P.tells ports.old) (P.tells ports.new) (P.log ports.old) (P.log ports.new) target.old target.new ended.old ended.new }
+    ensures does { StepsBy (Writes c) (P.tells ports.old) (P.tells ports.new) (P.log ports.old) (P.log ports.new) target.old target.new ended.old ended.new }
     ensures others { KeepsOthers c target.old target.new ended.old ended.new }
     ensures due { result ≡ is_to_close ended.new target.new c }
 {
@@ -195,7 +195,7 @@ fn close_one<P: Ports, S: Store>(
     c: usize,
 )
     requires { c < 64 }
-    ensures { Does (Closes c) (P.tells ports.old) (P.tells ports.new) (P.log ports.old) (P.log ports.new) target.old target.new ended.now ended.now }
+    ensures { StepsBy (Closes c) (P.tells ports.old) (P.tells ports.new) (P.log ports.old) (P.log ports.new) target.old target.new ended.now ended.now }
 {
     if !target.is_open(c) {
         return;
@@ -214,7 +214,7 @@ fn read_all<P: Ports, S: Store>(
     buffer: &mut [u8; MOST_READ],
     ended: &mut [bool; CONNECTIONS],
 )
-    ensures { Does (Along (Reads named.now) connections) (P.tells ports.old) (P.tells ports.new)
+    ensures { StepsBy (InOrder (Reads named.now) connections) (P.tells ports.old) (P.tells ports.new)
         (P.log ports.old) (P.log ports.new) target.old target.new ended.old ended.new }
 {
     for c in 0..CONNECTIONS {
@@ -228,7 +228,7 @@ fn write_all<P: Ports, S: Store>(
     target: &mut Target<S>,
     ended: &mut [bool; CONNECTIONS],
 ) -> bool
-    ensures does { Does (Along Writes connections) (P.tells ports.old) (P.tells ports.new)
+    ensures does { StepsBy (InOrder Writes connections) (P.tells ports.old) (P.tells ports.new)
         (P.log ports.old) (P.log ports.new) target.old target.new ended.old ended.new }
     ensures due { result ≡ false → NoneToClose 64 ended.new target.new }
 {
@@ -248,7 +248,7 @@ fn close_each<P: Ports, S: Store>(
     target: &mut Target<S>,
     ended: &[bool; CONNECTIONS],
 )
-    ensures { Does (Along Closes connections) (P.tells ports.old) (P.tells ports.new)
+    ensures { StepsBy (InOrder Closes connections) (P.tells ports.old) (P.tells ports.new)
         (P.log ports.old) (P.log ports.new) target.old target.new ended.now ended.now }
 {
     for c in 0..CONNECTIONS {
@@ -264,7 +264,7 @@ fn close_all<P: Ports, S: Store>(
     has_closes: bool,
 )
     requires { has_closes ≡ false → NoneToClose 64 ended.now target.old }
-    ensures { Does (Along Closes connections) (P.tells ports.old) (P.tells ports.new)
+    ensures { StepsBy (InOrder Closes connections) (P.tells ports.old) (P.tells ports.new)
         (P.log ports.old) (P.log ports.new) target.old target.new ended.now ended.now }
 {
     if has_closes {
@@ -279,7 +279,7 @@ fn accept_named<P: Ports, S: Store>(
     named: &Named,
 ) -> Result<(), ServeFault>
     ensures ok { OnOk result (P.tells ports.new ≡ true
-        → Goes (Accepts named.now) (P.log ports.old) (P.log ports.new) target.old target.new none_ended none_ended) }
+        → MovesBy (Accepts named.now) (P.log ports.old) (P.log ports.new) target.old target.new none_ended none_ended) }
     ensures failed { IfErr result (λ fault. (fault ≡ ServeFault.Accept) × (named.now.listener ≡ true) × (target.new ≡ target.old)
         × (P.tells ports.new ≡ true → P.log ports.new ≡ P.log ports.old ++ AcceptFailed ∷ [])) }
     ensures keeps { Keeps (P.tells ports.old) (P.tells ports.new) (P.log ports.old) (P.log ports.new) target.old target.new }

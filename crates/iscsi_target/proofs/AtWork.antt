@@ -20,7 +20,7 @@ use Rattle.iscsi_target.specs.World.{Setting, World, present, past_of, is_marked
 use Rattle.iscsi_target.specs.Machine.{Machine, IsSound, IsSoundAt, ReflectsSoundness, link_at}
 use Rattle.iscsi_target.specs.SessionCalls.{LeavesSession, ChangesOne, called}
 use Rattle.iscsi_target.specs.Stands.{IsQuiet, IsQuietIn, stand_in, Begins}
-use Rattle.iscsi_target.specs.Serving.{Serves, Agrees, Does, reached_since, kept, is_taken_at, is_done_by}
+use Rattle.iscsi_target.specs.Serving.{Serves, Agrees, ActsAs, reached_since, kept, is_taken_at, is_done_by}
 use Rattle.iscsi_target.specs.declared.phase.Phase.TheVariants as phases
 use Rattle.iscsi_target.proofs.Choices.{cond_true, eqb_self}
 use Rattle.iscsi_target.proofs.Linked.{units_with}
@@ -180,7 +180,7 @@ module _ (run : Run) (failed : Option (ℕ → Step)) (goes_on : Bool) (orders :
       → ((place : ℕ) (marks : List Mark) (work : Work) → Agrees (kind place) marks (marks_of c failed place)
       → run (fails marks c) place work ≡ run (is_failed failed place) place work)
       → ((place : ℕ) → list_all (kind place) (marks_of c failed place) ≡ true)
-      → Does kind act kept (starved_if failed c) given after
+      → ActsAs kind act kept (starved_if failed c) given after
   call_does kind act acts agrees of_kind = record {
     failed = marks_of c failed;
     first = begins_if failed c;

@@ -9,10 +9,10 @@ use Rattle.iscsi_target.specs.History.{Mark}
 use Rattle.iscsi_target.specs.World.{Setting, World}
 use Rattle.iscsi_target.specs.Machine.{Machine, ReflectsSoundness}
 use Rattle.iscsi_target.specs.Stands.{stand_in, Begins}
-use Rattle.iscsi_target.specs.Serving.{Serves, Agrees, Does, first_of, reached_since}
+use Rattle.iscsi_target.specs.Serving.{Serves, Agrees, ActsAs, first_of, reached_since}
 use Rattle.iscsi_target.proofs.Sound.{sound_back}
 use Rattle.iscsi_target.proofs.Marks.{Apart, Wider, agrees_left, agrees_right, all_wider, all_append}
-use Rattle.iscsi_target.proofs.Keeping.{Goes}
+use Rattle.iscsi_target.proofs.Keeping.{Extends}
 
 abbrev pub Act : Type 0
 Act = Setting → List Mark → ℕ → World → World
@@ -45,11 +45,11 @@ in_order (m ∷ a) b [] ys h g = absurd cc
 in_order [] b (x ∷ xs) ys h g = one_more x (xs ++ ys) b (in_order [] b xs ys refl g)
 in_order (m ∷ a) b (x ∷ xs) ys h g = grind (arith, in_order a b xs ys, in_order (m ∷ a) b xs ys)
 
-pub since : (w v : World) (g : Goes w v) → reached_since w v ≡ g.reached.0
+pub since : (w v : World) (g : Extends w v) → reached_since w v ≡ g.reached.0
 since w v g = ap (drop (length w.reached)) g.reached.1 ∙ drop-append_seam w.reached g.reached.0
 
 -- in one World, and then in the next
-pub reached_both : (a b : List Mark) (w v u : World) → Goes w v → Goes v u → stand_in a (reached_since w v) ≡ true → stand_in b (reached_since v u) ≡ true
+pub reached_both : (a b : List Mark) (w v u : World) → Extends w v → Extends v u → stand_in a (reached_since w v) ≡ true → stand_in b (reached_since v u) ≡ true
     → stand_in (a ++ b) (reached_since w u) ≡ true
 reached_both a b w v u first second h g =
     let behind = first.reached.0 ++ second.reached.0 in
@@ -65,7 +65,7 @@ pub does_nothing : (kind : ℕ → Mark → Bool) (act : Act) (halves : Halves) 
     → ((s : Setting) (sent : ℕ → ℕ) (half : ℕ → List ℕ) (w : World) (place : ℕ) (marks : List Mark)
     → Agrees (kind place) marks [] → Serves s sent half w given
     → Serves s sent (halves half) (act s marks place w) after × ((act s marks place w).comings ≡ w.comings))
-    → Does kind act halves None given after
+    → ActsAs kind act halves None given after
 does_nothing kind act halves given after stands = record {
   failed = λ place. [];
   first = λ place. refl;
@@ -78,11 +78,11 @@ does_nothing kind act halves given after stands = record {
 
 -- as much failed, and came out so: of these marks, and where the code stood here, another act is done
 abbrev pub does_from : {kind one : ℕ → Mark → Bool} {act other : Act} {halves bytes : Halves} {starved : Option ℕ} {given from after : Machine}
-    → (d : Does kind act halves starved given after) → ((place : ℕ) → list_all (one place) (d.failed place) ≡ true)
+    → (d : ActsAs kind act halves starved given after) → ((place : ℕ) → list_all (one place) (d.failed place) ≡ true)
     → ((s : Setting) (sent : ℕ → ℕ) (half : ℕ → List ℕ) (w : World) (place : ℕ) (marks : List Mark) → Agrees (one place) marks (d.failed place)
     → AreAhead d.came w.comings → Serves s sent half w from → Serves s sent (bytes half) (other s marks place w) after
     × (stand_in (d.failed place) (reached_since w (other s marks place w)) ≡ true) × ((other s marks place w).comings ≡ drop (length d.came) w.comings))
-    → Does one other bytes starved from after
+    → ActsAs one other bytes starved from after
 does_from d of_kind stands =
     record { failed = d.failed; first = d.first; of_kind = of_kind; came = d.came; plain = d.plain; calm = d.calm; stands = stands }
 
@@ -90,20 +90,20 @@ does_from d of_kind stands =
 pub does_as : (kind : ℕ → Mark → Bool) (act other : Act) (halves : Halves) (starved : Option ℕ) (given after : Machine)
     → ((s : Setting) (sent : ℕ → ℕ) (half : ℕ → List ℕ) (w : World) (place : ℕ) (marks : List Mark) → Serves s sent half w given
     → other s marks place w ≡ act s marks place w)
-    → Does kind act halves starved given after → Does kind other halves starved given after
+    → ActsAs kind act halves starved given after → ActsAs kind other halves starved given after
 does_as kind act other halves starved given after same d = does_from d d.of_kind
     (λ s sent half w place marks agree ahead h. rw (same s sent half w place marks h) (d.stands s sent half w place marks agree ahead h))
 
 pub does_on : (kind : ℕ → Mark → Bool) (act : Act) (halves : Halves) (starved : Option ℕ) (a b given after : Machine) → a ≡ given → b ≡ after
-    → Does kind act halves starved a b → Does kind act halves starved given after
+    → ActsAs kind act halves starved a b → ActsAs kind act halves starved given after
 does_on kind act halves starved a b given after e f d =
-    let P : Machine → Type 0 = λ m. Does kind act halves starved m after in
-    let Q : Machine → Type 0 = λ m. Does kind act halves starved a m in
+    let P : Machine → Type 0 = λ m. ActsAs kind act halves starved m after in
+    let Q : Machine → Type 0 = λ m. ActsAs kind act halves starved a m in
     subst P e (subst Q f d)
 
 pub does_starved : (kind : ℕ → Mark → Bool) (act : Act) (halves : Halves) (a b : Option ℕ) (given after : Machine) → a ≡ b
-    → Does kind act halves a given after → Does kind act halves b given after
-does_starved kind act halves a b given after e d = let P : Option ℕ → Type 0 = λ o. Does kind act halves o given after in subst P e d
+    → ActsAs kind act halves a given after → ActsAs kind act halves b given after
+does_starved kind act halves a b given after e d = let P : Option ℕ → Type 0 = λ o. ActsAs kind act halves o given after in subst P e d
 
 -- ---- one call after the other
 
@@ -111,10 +111,10 @@ unfoldable pub does_then : (one two both : ℕ → Mark → Bool) (act_one act_t
     (given middle after : Machine)
     → ((place : ℕ) → Apart (one place) (two place)) → ((place : ℕ) → Apart (two place) (one place)) → ((place : ℕ) → Wider (one place) (both place))
     → ((place : ℕ) → Wider (two place) (both place))
-    → ReflectsSoundness middle after → ((s : Setting) (marks : List Mark) (place : ℕ) (w : World) → Goes w (act_one s marks place w))
-    → ((s : Setting) (marks : List Mark) (place : ℕ) (w : World) → Goes w (act_two s marks place w))
-    → Does one act_one halves_one a given middle → Does two act_two halves_two b middle after
-    → Does both (λ s marks place w. act_two s marks place (act_one s marks place w)) (λ half. halves_two (halves_one half)) (first_of a b) given after
+    → ReflectsSoundness middle after → ((s : Setting) (marks : List Mark) (place : ℕ) (w : World) → Extends w (act_one s marks place w))
+    → ((s : Setting) (marks : List Mark) (place : ℕ) (w : World) → Extends w (act_two s marks place w))
+    → ActsAs one act_one halves_one a given middle → ActsAs two act_two halves_two b middle after
+    → ActsAs both (λ s marks place w. act_two s marks place (act_one s marks place w)) (λ half. halves_two (halves_one half)) (first_of a b) given after
 does_then one two both act_one act_two halves_one halves_two a b given middle after one_two two_one wide_one wide_two back goes_one goes_two first
     second = record {
       failed = λ place. first.failed place ++ second.failed place;

@@ -14,7 +14,7 @@ use Rattle.iscsi_target.specs.Life.{Life, Phase, LoggingIn, FullFeature, reads}
 use Rattle.iscsi_target.specs.World.{Setting, World, present, changed, reads_life, is_marked, close, reaching, take_step, log_in, take_in, settle_one, settle, serve, is_login, taken_in, taken_by, comes, arrive, settle_for, carry_out_for, orders_in}
 use Rattle.iscsi_target.specs.Machine.{LinkState, Machine, ReflectsSoundness, link_at, is_reading, closed, logged_in}
 use Rattle.iscsi_target.specs.Stands.{phase_for, link_of, stand_in}
-use Rattle.iscsi_target.specs.Serving.{Serves, Agrees, Does, reached_since, CarriesOut, kept, is_of_none, first_of, is_of_frame, is_taken_at, is_done_at, is_done_by, is_done_below, Takes, Settles, SettlesOne, SettlesFor}
+use Rattle.iscsi_target.specs.Serving.{Serves, Agrees, ActsAs, reached_since, CarriesOut, kept, is_of_none, first_of, is_of_frame, is_taken_at, is_done_at, is_done_by, is_done_below, Takes, Settles, SettlesOne, SettlesFor}
 use Rattle.iscsi_target.specs.declared.phase.Phase.TheVariants as phases
 use Rattle.iscsi_target.proofs.Choices.{eqb_self, cond_true, cond_false, and_true, and_false}
 use Rattle.iscsi_target.proofs.Lists.{range_next}
@@ -25,7 +25,7 @@ use Rattle.iscsi_target.proofs.Working.{at_work, left_by}
 use Rattle.iscsi_session.proofs.Came.{ahead_of}
 use Rattle.iscsi_target.proofs.Comings.{comings_close, comings_log_in}
 use Rattle.iscsi_target.proofs.Walks.{on-fold, on-take_in, on-settle_one, on-settle_for, on-carry_out_for}
-use Rattle.iscsi_target.proofs.Keeping.{Goes, goes_walk, on-then, on-reaching}
+use Rattle.iscsi_target.proofs.Keeping.{Extends, goes_walk, on-then, on-reaching}
 use Rattle.iscsi_target.proofs.Doing.{reached_both, does_nothing, does_as, does_from, does_then}
 use Rattle.iscsi_target.proofs.AtWork.{IsCalled, CallDoes, last_there, marks_of, starved_if, call_does, own_past, served_orders, serve_acts, serve_agrees}
 use Rattle.std.proofs.lemmas.Bool.Decides.{nat_tests}
@@ -146,7 +146,7 @@ unfolding close changed
 reached_first c point w = ap (stand_in (mark_at c point ∷ [])) (drop-append_seam w.reached (mark_at c point ∷ [])) ∙ last_there (mark_at c point) []
 
 pub starves : (given after : Machine) (c : ℕ) (arrival : Arrival) → c < connection_limit → is_reading (link_at given c).phase ≡ true → after ≡ closed given c
-    → Does is_of_frame (λ s marks place w. arrive s marks c w (place, arrival)) kept (Some c) given after
+    → ActsAs is_of_frame (λ s marks place w. arrive s marks c w (place, arrival)) kept (Some c) given after
 unfolding arrive
 starves given after c arrival lt r is = record {
   failed = λ place. mark_at c (Arriving place) ∷ [];
@@ -178,7 +178,7 @@ takes_starved given after c frame lt r is = starves given after c (Whole frame) 
 -- the functions that acted were carried out, and then the sessions of the target were settled
 abbrev pub Finishes : ℕ → Option ℕ → List (List ℕ) → Option ℕ → Machine → Machine → Type 0
 Finishes c target orders starved middle after =
-    Does is_done_at (λ s marks place w. settle_for marks place target (carry_out_for c target orders w)) kept starved middle after
+    ActsAs is_done_at (λ s marks place w. settle_for marks place target (carry_out_for c target orders w)) kept starved middle after
 
 pub finishes : (c : ℕ) (target : Option ℕ) (orders : List (List ℕ)) (starved : Option ℕ) (middle carried after : Machine) → ReflectsSoundness carried after
     → CarriesOut (carry_out_for c target orders) middle carried → SettlesFor target starved carried after → Finishes c target orders starved middle after
@@ -200,9 +200,9 @@ takes_served failed goes_on orders c target frame given middle ended after starv
     let first = call_does run failed goes_on orders c target given middle ended k l e is_taken_at (λ s marks place w. take_in marks c place frame w)
     (λ s marks place w past at own. serve_acts c frame marks place w past at)
     (λ place marks work agree. serve_agrees failed c frame place marks work agree) of_kind in
-    let taking : (marks : List Mark) (place : ℕ) (w : World) → Goes w (take_in marks c place frame w) =
+    let taking : (marks : List Mark) (place : ℕ) (w : World) → Extends w (take_in marks c place frame w) =
     λ marks place w. on-take_in (goes_walk marks) c place frame w tt in
-    let finishing : (marks : List Mark) (place : ℕ) (w : World) → Goes w (settle_for marks place target (carry_out_for c target orders w)) =
+    let finishing : (marks : List Mark) (place : ℕ) (w : World) → Extends w (settle_for marks place target (carry_out_for c target orders w)) =
     λ marks place w. on-then w (carry_out_for c target orders w) _ (on-carry_out_for (goes_walk []) c target orders w (λ t e. tt))
     (on-settle_for (goes_walk marks) place target (carry_out_for c target orders w) (λ t e. tt)) in
     let both = does_then is_taken_at is_done_at is_step_at (λ s marks place w. take_in marks c place frame w)
@@ -255,7 +255,7 @@ below_all c place mark e = (and_true (nat_lt mark.connection c) (is_done_at plac
 
 -- those below this connection
 abbrev pub SettledBelow : ℕ → ℕ → Option ℕ → Machine → Machine → Type 0
-SettledBelow target c starved given after = Does (is_done_below c) (λ s marks place w. fold (settle_one marks place target) w (range_with_len 0 c))
+SettledBelow target c starved given after = ActsAs (is_done_below c) (λ s marks place w. fold (settle_one marks place target) w (range_with_len 0 c))
     kept starved given after
 
 pub none_settled : (target : ℕ) (machine : Machine) → SettledBelow target 0 None machine machine

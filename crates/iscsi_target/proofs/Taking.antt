@@ -17,7 +17,7 @@ use Rattle.iscsi_target.specs.World.{Setting, World, present, reads_life, close,
 use Rattle.iscsi_target.specs.Machine.{LinkState, Machine, Feeds, KeepsPart, link_at, with_link, is_reading, closed, free_link, shut_link, GivesFrame}
 use Rattle.iscsi_target.specs.Bounded.{AddsAtMost}
 use Rattle.iscsi_target.specs.Stands.{link_of}
-use Rattle.iscsi_target.specs.Serving.{Serves, Does, is_of_frame, has_place, place_of, is_among, first_of, with_half, KeepsHalf, Preserves, Takes, Leaves, TakesOne, TakesSome, TakesAll}
+use Rattle.iscsi_target.specs.Serving.{Serves, ActsAs, is_of_frame, has_place, place_of, is_among, first_of, with_half, KeepsHalf, Preserves, Takes, Leaves, TakesOne, TakesSome, TakesAll}
 use Rattle.iscsi_target.proofs.Arrivals.{long_end, fold-places}
 use Rattle.iscsi_target.proofs.Choices.{eqb_self, cond_true, cond_false}
 use Rattle.iscsi_target.proofs.Linked.{link_is, reads_there, some_reads, serves_one, serves_as, serves_world, serves_reaching, closes, present-close, present-reaching, units_with}
@@ -284,8 +284,9 @@ begins machine c lt r = record {
 
 -- ---- one more
 
-shifted : (n : ℕ) (kind : ℕ → Mark → Bool) (act : Act) (halves : Halves) (starved : Option ℕ) (given after : Machine) → Does kind act halves starved given after
-    → Does (λ place. kind (place + n)) (λ s marks place w. act s marks (place + n) w) halves starved given after
+shifted : (n : ℕ) (kind : ℕ → Mark → Bool) (act : Act) (halves : Halves) (starved : Option ℕ) (given after : Machine)
+    → ActsAs kind act halves starved given after
+    → ActsAs (λ place. kind (place + n)) (λ s marks place w. act s marks (place + n) w) halves starved given after
 shifted n kind act halves starved given after d = record {
   failed = λ place. d.failed (place + n);
   first = λ place. d.first (place + n);
@@ -376,7 +377,7 @@ takes_more c a b first machine new done more so_far one =
     (λ place. among_more n (n + 1) place (omega arith)) (here_more n) one.leaves.back
     (λ s marks place w. on-arrivals (goes s marks c) w (enumerate_from place done) (any_arrivals c (enumerate_from place done)))
     (λ s marks place w. on-arrive (goes s marks c) w (place + n, one.arrival) (any_arrival c (place + n, one.arrival))) so_far second in
-    let P : ℕ → Type 0 = λ k. Does (is_among k) (λ s marks place w. fold (arrive s marks c) w (enumerate_from place (done ++ one.arrival ∷ [])))
+    let P : ℕ → Type 0 = λ k. ActsAs (is_among k) (λ s marks place w. fold (arrive s marks c) w (enumerate_from place (done ++ one.arrival ∷ [])))
     (with_half c one.more) (first_of a b) first new in
     subst P (sym count) (does_from both both.of_kind (λ s sent half w place marks agree ahead h.
     (let at = both.stands s sent half w place marks agree ahead h in

@@ -58,7 +58,7 @@ reached_since before after = drop (length before.reached) after.reached
 -- The effect of the call of an act. If the code stood with a World before, it stands after with what the act makes of
 -- that World. Marks of other kinds do not matter. The place is that of the frame in progress; `halves` says how the
 -- kept bytes change.
-pub record Does (kind : ℕ → Mark → Bool) (act : Setting → List Mark → ℕ → World → World) (halves : (ℕ → List ℕ) → ℕ → List ℕ)
+pub record ActsAs (kind : ℕ → Mark → Bool) (act : Setting → List Mark → ℕ → World → World) (halves : (ℕ → List ℕ) → ℕ → List ℕ)
     (starved : Option ℕ) (given after : Machine) : Type 0 where
   -- the points at which allocations failed, in this order
   pub failed : ℕ → List Mark
@@ -99,7 +99,7 @@ is_of_none place mark = false
 
 -- The call of an act that cannot fail.
 abbrev pub CarriesOut : (World → World) → Machine → Machine → Type 0
-CarriesOut act given after = Does is_of_none (λ s marks place w. act w) kept None given after
+CarriesOut act given after = ActsAs is_of_none (λ s marks place w. act w) kept None given after
 
 -- ---- the acts
 
@@ -128,7 +128,7 @@ is_done_below c place mark = nat_lt mark.connection c && is_done_at place mark
 
 -- a frame is taken
 abbrev pub Takes : ℕ → Frame → Option ℕ → Machine → Machine → Type 0
-Takes c frame starved given after = Does is_of_frame (λ s marks place w. arrive s marks c w (place, Whole frame)) kept starved given after
+Takes c frame starved given after = ActsAs is_of_frame (λ s marks place w. arrive s marks c w (place, Whole frame)) kept starved given after
 
 -- ---- the frames of a piece
 
@@ -156,7 +156,7 @@ pub record TakesOne (c : ℕ) (starved : Option ℕ) (old new : Machine) : Type 
   pub behind : is_reading (link_at new c).phase ≡ true → rest (link_at old c).half ≡ rest more
   pub shorter : length more < length (link_at old c).half
   pub kept : KeepsHalf more (link_at new c)
-  pub does : Does is_of_frame (λ s marks place w. arrive s marks c w (place, arrival)) (with_half c more) starved old new
+  pub does : ActsAs is_of_frame (λ s marks place w. arrive s marks c w (place, arrival)) (with_half c more) starved old new
   pub leaves : Leaves c 1 starved old new
 
 abbrev pub place_of : Step → ℕ
@@ -178,7 +178,7 @@ is_among n place mark = has_place (λ p. not (nat_lt p place) && nat_lt p (place
 -- these first arrivals are taken, in order
 abbrev pub TakesSome : ℕ → List Arrival → List ℕ → Option ℕ → Machine → Machine → Type 0
 TakesSome c done more starved old new =
-    Does (is_among (length done)) (λ s marks place w. fold (arrive s marks c) w (enumerate_from place done)) (with_half c more) starved old new
+    ActsAs (is_among (length done)) (λ s marks place w. fold (arrive s marks c) w (enumerate_from place done)) (with_half c more) starved old new
 
 -- all arrivals are taken
 pub record TakesAll (c : ℕ) (starved : Option ℕ) (old new : Machine) : Type 0 where
@@ -189,11 +189,11 @@ pub record TakesAll (c : ℕ) (starved : Option ℕ) (old new : Machine) : Type 
 
 -- the commands of the sessions of a target are done
 abbrev pub Settles : ℕ → Option ℕ → Machine → Machine → Type 0
-Settles target starved given after = Does is_done_at (λ s marks place w. settle marks place target w) kept starved given after
+Settles target starved given after = ActsAs is_done_at (λ s marks place w. settle marks place target w) kept starved given after
 
 -- the same for a session's target, if it has one; and for the session of one connection
 abbrev pub SettlesFor : Option ℕ → Option ℕ → Machine → Machine → Type 0
-SettlesFor target starved given after = Does is_done_at (λ s marks place w. settle_for marks place target w) kept starved given after
+SettlesFor target starved given after = ActsAs is_done_at (λ s marks place w. settle_for marks place target w) kept starved given after
 
 abbrev pub SettlesOne : ℕ → ℕ → Option ℕ → Machine → Machine → Type 0
-SettlesOne target c starved given after = Does (is_done_by c) (λ s marks place w. settle_one marks place target w c) kept starved given after
+SettlesOne target c starved given after = ActsAs (is_done_by c) (λ s marks place w. settle_one marks place target w c) kept starved given after
