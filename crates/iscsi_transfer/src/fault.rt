@@ -6,7 +6,8 @@ ghost use Rattle.iscsi_transfer.specs.declared.fault.DataFault.TheVariants.{Memo
 use std::alloc::AllocError;
 use thiserror::Error;
 
-/// What is wrong with a SCSI Command's immediate data or with a Data-Out. Each fault has a number.
+/// What is wrong with a SCSI Command's immediate data or with a Data-Out. Each fault has a number. The order of the tests
+/// is another: [`WriteData::fault_of`](crate::WriteData::fault_of) has it.
 #[derive(Clone, Copy, Debug, PartialEq, Eq, Error)]
 pub enum DataFault {
     /// 1: immediate data of a command that takes none, or while ImmediateData is No (RFC 7143 §13.11).

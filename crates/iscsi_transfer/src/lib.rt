@@ -24,7 +24,7 @@
 //! - [`piece_count`] returns how many pieces there are. [`piece_at`] computes each from its number, so that no list of
 //!   them has to be kept.
 //! - Joined, the pieces are the data ([`laws::pieces_are_the_data`]).
-//! - A [`WriteData`] collects a command's data. For every past of the task (`specs/Payload.antt`), it reports the payload so
+//! - A [`WriteData`] collects a command's data. For every past of it (`specs/Payload.antt`), it reports the payload so
 //!   far, and the first fault of the command and of each Data-Out ([`DataFault`]).
 //! - It asks once for each byte after the unsolicited data, and for no other ([`laws::each_byte_is_asked_for_once`]).
 //! - No more than MaxOutstandingR2T R2Ts are open at a time ([`laws::few_are_open`]; if that is one,

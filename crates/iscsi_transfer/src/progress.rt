@@ -39,7 +39,9 @@ pub struct Progress {
     length: usize,
     /// How many bytes the command takes.
     expected: usize,
+    /// FirstBurstLength
     first_burst: usize,
+    /// MaxBurstLength
     burst: usize,
     /// How many bytes came unsolicited.
     unsolicited: usize,
@@ -259,7 +261,7 @@ impl Progress {
         self.first_fault(out)
     }
 
-    /// Like `fault_of`; `None` also guarantees that the data fits.
+    /// Returns what [`Progress::fault_of`] returns. `None` also guarantees that the data fits.
     pub(crate) fn judged(&self, out: &Frame) -> Option<DataFault>
         ensures fault { result ≡ fault_in self.now out.now }
         ensures counted { IfNone result (self.now.sequence_length ≤ 4294967295) }
@@ -272,6 +274,7 @@ impl Progress {
         fault
     }
 
+    /// Returns the first fault of a Data-Out, tested in the order of `specs/WriteData.antt` (RFC 7143 §11.7).
     #[tactic(auto, unfolding(crate::specs::WriteData::fault_of))]
     fn first_fault(&self, out: &Frame) -> Option<DataFault>
         ensures fault { result ≡ fault_in self.now out.now }

@@ -64,7 +64,7 @@ fn immediate(alloc: Global, body: Vec<u8>) -> Result<Parts, AllocError>
 }
 
 impl WriteData {
-    /// Starts the task of a SCSI Command that has just come. The immediate data stays in the buffer in which it came,
+    /// Starts the data of a SCSI Command that has just come. The immediate data stays in the buffer in which it came,
     /// and no room is made for what is to come.
     pub fn start(alloc: Global, command: Frame, values: &Values) -> Result<WriteData, DataFault>
         requires burst { 1 ≤ values.now.max_burst_length }
