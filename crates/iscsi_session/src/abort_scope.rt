@@ -29,6 +29,7 @@ pub(crate) enum Scope {
 }
 
 impl Scope {
+    /// Returns the scope of a function.
     pub(crate) fn of(function: TaskFunction) -> Scope
         ensures { result ≡ scope_of function }
     {
@@ -179,6 +180,7 @@ impl Reach<'_> {
         }
     }
 
+    /// Returns whether the target has a unit with this number.
     fn has_unit(&self, number: u8) -> bool
         ensures { result ≡ has_unit self.now.luns number }
     {

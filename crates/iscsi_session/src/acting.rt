@@ -1,4 +1,5 @@
-//! Executing the requests that are taken.
+//! Executing the requests that are taken: on the pages, they act. A SCSI Command only joins the queue here, and
+//! [`Session::settle`] does it.
 
 ghost use Rattle.std.specs.Prelude.{◌≡◌, ◌≤◌, ◌<◌, ◌++◌, ◌∷◌, ℕ, List, [], None, Some, length, flat_map, true, false, if◌then◌else◌, IfOk, OnOk, OnErr};
 ghost use Rattle.scsi_unit.specs.Units.{numbers_of};
@@ -28,6 +29,7 @@ use target_limits::Memory;
 /// The most bytes that the answer to a NOP-Out or a Logout takes, not counting the ping data.
 const ROOM_TO_ACT: usize = 99;
 
+/// Returns whether a frame is a SCSI Command.
 pub(crate) fn is_command(frame: &Frame) -> bool
     ensures { result ≡ is_command frame.now }
 {
@@ -189,6 +191,7 @@ impl Session {
         }
     }
 
+    /// Returns the answer to a Logout (RFC 7143 §11.15): a Logout Response, or a Reject if its reason code is reserved.
     fn logout_answer(&self, stamp: Stamp, frame: &Frame) -> Answer<'static>
         ensures value { result ≡ logout_answer stamp self.now.params frame.now }
         ensures short { length (spelling result) ≤ 96 }

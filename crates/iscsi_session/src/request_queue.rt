@@ -271,6 +271,7 @@ impl RequestQueue {
         }
     }
 
+    /// Returns how many commands are in the queue.
     fn queued(&self) -> usize
         ensures { result ≡ length self.now.queue }
     {

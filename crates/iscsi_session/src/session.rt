@@ -24,9 +24,13 @@ pub(crate) const RESERVED_TAG: u32 = 0xffff_ffff;
 pub struct Session {
     pub(crate) params: SessionParams,
     pub(crate) stat: Stat,
+    /// Its requests of every kind, which are held, due or queued.
     pub(crate) tasks: RequestQueue,
+    /// The data of its SCSI Commands.
     pub(crate) transfers: Transfers,
+    /// Its Task Management Function Requests.
     pub(crate) functions: Functions,
+    /// Its exchange of texts.
     pub(crate) exchange: Exchange,
 }
 

@@ -26,6 +26,7 @@ use std::alloc::Global;
 use std::marker::Model;
 use target_limits::Memory;
 
+/// Returns whether a frame is a Task Management Function Request.
 pub(crate) fn is_function(frame: &Frame) -> bool
     ensures { result ≡ is_function_in frame.now }
 {
@@ -92,6 +93,7 @@ impl Functions {
         }
     }
 
+    /// Returns the place of the unfinished function with this tag.
     fn place_of(&self, tag: u32) -> Option<usize>
         ensures { result ≡ function_place tag self.now }
     {

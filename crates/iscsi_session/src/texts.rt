@@ -22,6 +22,7 @@ use target_limits::Memory;
 /// The most bytes that a Text Response or a Reject takes, not counting the text.
 const ROOM_TO_TELL: usize = 99;
 
+/// Returns whether a frame is a Text Request.
 pub(crate) fn is_text(frame: &Frame) -> bool
     ensures { result ≡ is_text_in frame.now }
 {

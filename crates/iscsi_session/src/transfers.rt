@@ -25,6 +25,7 @@ use target_limits::Memory;
 pub(crate) struct Transfer {
     /// The header of the command.
     pub(crate) header: Header,
+    /// Its data so far, and how far that has come.
     pub(crate) task: WriteData,
 }
 
@@ -64,6 +65,7 @@ impl Transfers {
         }
     }
 
+    /// Returns the place of the unfinished command with this tag.
     fn place_of(&self, tag: u32) -> Option<usize>
         ensures { result ≡ place_with tag self.now.list }
     {
@@ -194,7 +196,7 @@ impl Transfers {
     }
 }
 
-/// Starts the task of a command whose data is as agreed.
+/// Starts the data of a command, which is as agreed. Copies the immediate data, as the frame keeps its own.
 fn start(alloc: Global, frame: &Frame, values: &Values) -> Result<WriteData, Memory>
     requires values { AreInRange values.now }
     requires lawful { command_fault values.now frame.now ≡ None }
