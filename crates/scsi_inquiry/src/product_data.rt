@@ -1,4 +1,4 @@
-//! Vital product data pages.
+//! The bytes of the vital product data pages (`specs/VpdPages.antt`).
 
 ghost use Rattle.std.specs.Prelude.{◌≡◌, ◌≤◌, length};
 ghost use Rattle.scsi_inquiry.specs.VpdPages.{most_serial, designator, block_limits as limits, page_parameters, page_data};
@@ -9,9 +9,10 @@ use crate::vpd_page::VpdPage;
 use arrayvec::ArrayVec;
 use scsi_cdb::{Kind, MOST_BLOCKS, MOST_COMPARED, MOST_SAME};
 
-/// The pages of a disk, and those of a tape.
+/// The codes of a disk's pages, rising.
 const DISK_PAGES: [u8; 5] = [0x00, 0x80, 0x83, 0xb0, 0xb1];
 
+/// The codes of a tape's pages, rising.
 const TAPE_PAGES: [u8; 3] = [0x00, 0x80, 0x83];
 
 /// T10 vendor identification.
@@ -59,7 +60,7 @@ fn alone(bytes: &[u8]) -> ArrayVec<u8, 64>
     data
 }
 
-/// Returns what comes after the first four bytes of a page.
+/// Returns what comes after the first four bytes of a page, at most 64 bytes.
 fn parameters(kind: Kind, serial: &[u8], page: VpdPage) -> ArrayVec<u8, 64>
     requires { length serial.now ≤ most_serial }
     ensures data { result.items ≡ page_parameters kind serial.now page }

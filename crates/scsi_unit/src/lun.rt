@@ -24,12 +24,14 @@ impl Model for Lun {
 }
 
 impl Lun {
+    /// Creates the LUN of the unit with this number.
     pub fn new(number: u8) -> Lun
         ensures { result ≡ number }
     {
         Lun { number }
     }
 
+    /// Returns the number.
     pub fn number(self) -> u8
         ensures { result ≡ self }
     {

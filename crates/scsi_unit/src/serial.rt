@@ -23,6 +23,7 @@ impl Model for Serial {
 }
 
 impl Serial {
+    /// Creates a serial number from its text.
     pub fn new(text: String) -> Serial
         requires { length (string_bytes text) ≤ most_serial }
         ensures { result ≡ string_bytes text }
@@ -30,6 +31,7 @@ impl Serial {
         Serial { text }
     }
 
+    /// Returns its bytes.
     pub(crate) fn as_bytes(&self) -> &[u8]
         ensures value { result.now ≡ self.now }
         ensures short { length result.now ≤ most_serial }

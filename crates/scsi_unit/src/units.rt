@@ -64,6 +64,7 @@ fn join_each<S: Store>(units: &mut [Unit<S>], nexus: &Nexus) -> Result<(), Memor
     Ok(())
 }
 
+/// Returns the numbers of these units, in their order.
 fn numbers<S: Store>(alloc: Global, units: &[Unit<S>]) -> Result<Vec<u8>, Memory>
     ensures { IfOk result (λ numbers. numbers.items ≡ numbers_of units.now) }
 {
