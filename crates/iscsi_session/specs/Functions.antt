@@ -14,7 +14,7 @@ use Rattle.iscsi_pdu.specs.declared.answer.Answer.TheVariants as answers
 use Rattle.iscsi_pdu.specs.declared.stamp.Stamp.{Stamp}
 use Rattle.iscsi_order.specs.Window as order
 use Rattle.iscsi_order.specs.Serial.{is_before}
-use Rattle.iscsi_session.specs.Scope.{scope_of, waits_by}
+use Rattle.iscsi_session.specs.AbortScope.{scope_of, waits_by}
 use Rattle.iscsi_session.specs.declared.abort_scope.Scope.{Scope}
 use Rattle.iscsi_session.specs.declared.abort_scope.Scope.TheVariants as scopes
 use Rattle.iscsi_session.specs.declared.aborted.Aborted.{Aborted}

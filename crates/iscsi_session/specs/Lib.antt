@@ -13,7 +13,7 @@ pub use Rattle.iscsi_transfer.specs.WriteData
 pub use Rattle.scsi_sense.specs.Done
 pub mod Requests
 pub mod Transfers
-pub mod Scope
+pub mod AbortScope
 pub mod Functions
 pub mod Judging
 pub mod Texts

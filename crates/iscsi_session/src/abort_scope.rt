@@ -4,7 +4,7 @@ ghost use Rattle.std.specs.Prelude.{◌≡◌};
 ghost use Rattle.iscsi_pdu.specs.TaskManagement.{task_function, function_code};
 ghost use Rattle.scsi_unit.specs.Lun.{lun_number};
 ghost use Rattle.iscsi_session.specs.Functions.{reaches as reaches_in, has_unit, unit_named, is_earlier, is_in_set, set_result, scope as scope_in, waits as waits_in};
-ghost use Rattle.iscsi_session.specs.Scope.{scope_of, waits_by, is_for_all as is_for_all_by, attention_of as attention_by};
+ghost use Rattle.iscsi_session.specs.AbortScope.{scope_of, waits_by, is_for_all as is_for_all_by, attention_of as attention_by};
 ghost use Rattle.iscsi_session.specs.State.{reaches_frame};
 
 use crate::acting::is_command;

@@ -24,7 +24,7 @@ use Rattle.iscsi_login.specs.Login.{advanced, reply_of}
 use Rattle.iscsi_login.specs.declared.session_params.SessionParams.{SessionParams}
 use Rattle.iscsi_login.specs.declared.reply.Reply.{Reply}
 use Rattle.iscsi_login.specs.declared.reply.Reply.TheVariants.{Full}
-use Rattle.iscsi_session.specs.Scope.{attention_of}
+use Rattle.iscsi_session.specs.AbortScope.{attention_of}
 use Rattle.iscsi_target.specs.World.{left, changed_units, lookup_for, function_of, told, told_by, reset_by}
 use Rattle.iscsi_target.specs.Machine.{Machine, IsSound, IsSoundAt, ReflectsSoundness, IsSure, link_at, with_link, begun_link, closed, session_in_phase, sessions, shut_older, begun, replied, logged_in}
 

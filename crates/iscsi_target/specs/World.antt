@@ -22,7 +22,7 @@ use Rattle.iscsi_login.specs.declared.session_params.SessionParams.{SessionParam
 use Rattle.iscsi_login.specs.declared.reply.Reply.{Reply}
 use Rattle.iscsi_login.specs.declared.reply.Reply.TheVariants.{GoOn, Full, Refused}
 use Rattle.iscsi_session.specs.Requests.{Past, begun as begun_past, removing}
-use Rattle.iscsi_session.specs.Scope.{scope_of, is_for_all, attention_of}
+use Rattle.iscsi_session.specs.AbortScope.{scope_of, is_for_all, attention_of}
 use Rattle.iscsi_session.specs.Functions.{FunctionReach, reached}
 use Rattle.iscsi_session.specs.Comings.{Coming, lend}
 use Rattle.iscsi_session.specs.Steps.{Step, Work, begun_work, served, settled}

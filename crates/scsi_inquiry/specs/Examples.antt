@@ -2,8 +2,8 @@
 use Rattle.std.specs.Prelude.{◌≡◌, [], ◌∷◌, ◌++◌, codes, replicate, Some, None, refl}
 use Rattle.scsi_cdb.specs.declared.operation.Kind.TheVariants.{Disk, Tape}
 use Rattle.scsi_cdb.specs.declared.report_luns.SelectReport.TheVariants.{LogicalUnits, WellKnown, All}
-use Rattle.scsi_inquiry.specs.Standard.{standard_data}
-use Rattle.scsi_inquiry.specs.VpdPages.{page_of, page_data}
+use Rattle.scsi_inquiry.specs.StandardData.{standard_data}
+use Rattle.scsi_inquiry.specs.ProductData.{page_of, page_data}
 use Rattle.scsi_inquiry.specs.Luns.{rising, lun_data}
 use Rattle.scsi_inquiry.specs.declared.peripheral.Peripheral.TheVariants.{Unit, NoUnit}
 use Rattle.scsi_inquiry.specs.declared.vpd_page.VpdPage.TheVariants.{SupportedPages, UnitSerialNumber, DeviceIdentification, BlockLimits, BlockDeviceCharacteristics}

@@ -1,4 +1,4 @@
-pub mod Standard
-pub mod VpdPages
+pub mod StandardData
+pub mod ProductData
 pub mod Luns
 pub mod Examples

@@ -1,7 +1,7 @@
 //! What a LUN names.
 
 ghost use Rattle.std.specs.Prelude.{◌≡◌};
-ghost use Rattle.scsi_inquiry.specs.Standard.{peripheral_byte};
+ghost use Rattle.scsi_inquiry.specs.StandardData.{peripheral_byte};
 
 use scsi_cdb::Kind;
 

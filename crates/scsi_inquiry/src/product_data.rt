@@ -1,7 +1,7 @@
-//! The bytes of the vital product data pages (`specs/VpdPages.antt`).
+//! The bytes of the vital product data pages (`specs/ProductData.antt`).
 
 ghost use Rattle.std.specs.Prelude.{◌≡◌, ◌≤◌, length};
-ghost use Rattle.scsi_inquiry.specs.VpdPages.{most_serial, designator, block_limits as limits, page_parameters, page_data};
+ghost use Rattle.scsi_inquiry.specs.ProductData.{most_serial, designator, block_limits as limits, page_parameters, page_data};
 
 use crate::peripheral::Peripheral;
 use crate::put::put;
@@ -39,7 +39,7 @@ fn identification(serial: &[u8]) -> ArrayVec<u8, 64>
 
 /// Returns the limits of commands (SBC-3 "Block Limits VPD page").
 fn block_limits() -> ArrayVec<u8, 64>
-    ensures { result.items ≡ Rattle.scsi_inquiry.specs.VpdPages.block_limits }
+    ensures { result.items ≡ Rattle.scsi_inquiry.specs.ProductData.block_limits }
 {
     let mut data = ArrayVec::new();
     put(&mut data, &[WRITE_SAME_NONZERO, MOST_COMPARED as u8, 0, 0]);

@@ -1,7 +1,7 @@
 //! Standard INQUIRY data.
 
 ghost use Rattle.std.specs.Prelude.{◌≡◌};
-ghost use Rattle.scsi_inquiry.specs.Standard.{standard_data};
+ghost use Rattle.scsi_inquiry.specs.StandardData.{standard_data};
 
 use crate::peripheral::Peripheral;
 use scsi_cdb::Kind;

@@ -1,7 +1,7 @@
 //! The vital product data pages that exist.
 
 ghost use Rattle.std.specs.Prelude.{◌≡◌};
-ghost use Rattle.scsi_inquiry.specs.VpdPages.{page_of, page_code};
+ghost use Rattle.scsi_inquiry.specs.ProductData.{page_of, page_code};
 
 use scsi_cdb::Kind;
 

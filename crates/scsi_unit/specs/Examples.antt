@@ -9,7 +9,7 @@ use Rattle.scsi_sense.specs.declared.condition.Attention.TheVariants.{PowerOnOrR
 use Rattle.scsi_cdb.specs.Fault.{invalid_operation_code, invalid_field}
 use Rattle.scsi_cdb.specs.declared.operation.Kind.TheVariants as kind
 use Rattle.scsi_reserve.specs.Table.{empty_table}
-use Rattle.scsi_inquiry.specs.Standard.{standard_data}
+use Rattle.scsi_inquiry.specs.StandardData.{standard_data}
 use Rattle.scsi_inquiry.specs.Luns.{rising}
 use Rattle.scsi_inquiry.specs.declared.peripheral.Peripheral.TheVariants as peripheral
 use Rattle.scsi_mode.specs.ParameterList.{is_page, after_page, has_page, after_pages, after_descriptor, after_header, selected}

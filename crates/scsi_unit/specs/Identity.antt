@@ -16,8 +16,8 @@ use Rattle.scsi_cdb.specs.declared.command.UnitCommand.TheVariants.{TestUnitRead
 use Rattle.scsi_cdb.specs.declared.command.UnitCommand.TheVariants.{ReserveIn, ReserveOut}
 use Rattle.scsi_cdb.specs.declared.fault.FieldFault.{FieldFault}
 use Rattle.scsi_cdb.specs.declared.report_luns.ReportLunsFields.{ReportLunsFields}
-use Rattle.scsi_inquiry.specs.Standard.{standard_data}
-use Rattle.scsi_inquiry.specs.VpdPages.{page_of, page_data}
+use Rattle.scsi_inquiry.specs.StandardData.{standard_data}
+use Rattle.scsi_inquiry.specs.ProductData.{page_of, page_data}
 use Rattle.scsi_inquiry.specs.Luns.{lun_data}
 use Rattle.scsi_inquiry.specs.declared.peripheral.Peripheral.TheVariants as peripheral
 use Rattle.scsi_inquiry.specs.declared.vpd_page.VpdPage.{VpdPage}

@@ -12,8 +12,8 @@ pub use Rattle.scsi_cdb.specs.Command
 pub use Rattle.scsi_reserve.specs.Table
 pub use Rattle.scsi_reserve.specs.Out
 pub use Rattle.scsi_reserve.specs.ReadIn
-pub use Rattle.scsi_inquiry.specs.Standard
-pub use Rattle.scsi_inquiry.specs.VpdPages
+pub use Rattle.scsi_inquiry.specs.StandardData
+pub use Rattle.scsi_inquiry.specs.ProductData
 pub use Rattle.scsi_inquiry.specs.Luns
 pub use Rattle.media_tape.specs.Items
 pub use Rattle.media_tape.specs.Tape

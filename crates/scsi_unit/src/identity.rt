@@ -3,8 +3,8 @@
 ghost use Rattle.std.specs.Prelude.{◌≡◌, ◌≤◌, length, take, IfOk};
 ghost use Rattle.scsi_sense.specs.Done.{good_with, check_condition};
 ghost use Rattle.scsi_cdb.specs.Fault.{invalid_field};
-ghost use Rattle.scsi_inquiry.specs.Standard.{standard_data};
-ghost use Rattle.scsi_inquiry.specs.VpdPages.{most_serial, page_of};
+ghost use Rattle.scsi_inquiry.specs.StandardData.{standard_data};
+ghost use Rattle.scsi_inquiry.specs.ProductData.{most_serial, page_of};
 ghost use Rattle.scsi_unit.specs.DiskCommands.{most_given};
 ghost use Rattle.scsi_unit.specs.Identity.{page_outcome, inquiry_outcome, luns_outcome, sense_outcome, unsupported, without_unit};
 

@@ -1,7 +1,7 @@
 //! Serial numbers.
 
 ghost use Rattle.std.specs.Prelude.{◌≡◌, ◌≤◌, length, string_bytes};
-ghost use Rattle.scsi_inquiry.specs.VpdPages.{most_serial};
+ghost use Rattle.scsi_inquiry.specs.ProductData.{most_serial};
 
 use std::marker::Model;
 
@@ -13,7 +13,7 @@ pub struct Serial {
 
 impl Model for Serial {
     ghost use Rattle.std.specs.Prelude.{List, ℕ, ◌≤◌, length, string_bytes};
-    ghost use Rattle.scsi_inquiry.specs.VpdPages.{most_serial};
+    ghost use Rattle.scsi_inquiry.specs.ProductData.{most_serial};
 
     ghost Value = { List ℕ };
 

@@ -4,7 +4,7 @@ use Rattle.std.specs.Int.{w16, w32, w64, to_be_bytes}
 use Rattle.scsi_cdb.specs.declared.operation.Kind.{Kind}
 use Rattle.scsi_cdb.specs.declared.operation.Kind.TheVariants.{Disk, Tape}
 use Rattle.scsi_cdb.specs.Range.{most_blocks, most_compared, most_same}
-use Rattle.scsi_inquiry.specs.Standard.{peripheral_byte, vendor}
+use Rattle.scsi_inquiry.specs.StandardData.{peripheral_byte, vendor}
 use Rattle.scsi_inquiry.specs.declared.peripheral.Peripheral.TheVariants.{Unit}
 use Rattle.scsi_inquiry.specs.declared.vpd_page.VpdPage.{VpdPage}
 use Rattle.scsi_inquiry.specs.declared.vpd_page.VpdPage.TheVariants.{SupportedPages, UnitSerialNumber, DeviceIdentification, BlockLimits, BlockDeviceCharacteristics}
