@@ -5,7 +5,7 @@ from pathlib import Path
 
 TOP = Path(__file__).resolve().parent.parent.parent
 PAGE = "docs/WRONG_BODIES.md"
-MOST = 100  # each costs a check of its crate
+MOST = 110  # each costs a check of its crate
 GROUPS = (
     "Commands",
     "Numbers and tags",
