@@ -9,8 +9,9 @@ import struct
 import threading
 import time
 
-from serving_checks.loopback import (CONNECTIONS, LOGIN, READY, READY_AGAIN, UNITS, answer_of, answers, connect, disk_file,
-                              held_clients, is_answered, is_closed, read, read_10, requests, reset, serving)
+from serving_checks.loopback import (CONNECTIONS, LOGIN, READY, READY_AGAIN, UNITS, answer_of, answers, connect,
+                                     disk_file, held_clients, is_answered, is_closed, read, read_10, requests,
+                                     reset, serving)
 from wire import notation, pdu
 
 AHEAD = 65536  # bytes that are read ahead of a connection at most

@@ -7,8 +7,9 @@ import struct
 import subprocess
 import time
 
-from serving_checks.loopback import (CONNECTIONS, LIMIT, READY_AGAIN, TOP, answers, connect, connection_in, connection_of,
-                              held_clients, is_answered_at_last, is_closed, read, requests, serving)
+from serving_checks.loopback import (CONNECTIONS, LIMIT, READY_AGAIN, TOP, answers, connect, connection_in,
+                                     connection_of, held_clients, is_answered_at_last, is_closed, read, requests,
+                                     serving)
 
 STATUS = TOP / "tools/status"
 

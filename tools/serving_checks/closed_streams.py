@@ -12,8 +12,8 @@ from typing import NamedTuple
 
 from running.server import free_port
 from serving_checks.log_lines import LOGOUT, lines_in, lines_of, login
-from serving_checks.loopback import (LIMIT, LOGIN, PROGRAM, READY, READY_AGAIN, answer_of, connect, ended, held_clients,
-                              is_answered, is_closed, read, started)
+from serving_checks.loopback import (LIMIT, LOGIN, PROGRAM, READY, READY_AGAIN, answer_of, connect, ended,
+                                     held_clients, is_answered, is_closed, read, started)
 from serving_checks.surroundings import library
 from serving_checks.tape_files import item
 from wire import notation, pdu

@@ -12,8 +12,8 @@ import threading
 import time
 from contextlib import contextmanager
 
-from serving_checks.loopback import (LIMIT, LOGIN, TOP, answer_of, answers, connect, disk_file, is_answered, processor_time,
-                              read, read_10, requests, serving)
+from serving_checks.loopback import (LIMIT, LOGIN, TOP, answer_of, answers, connect, disk_file, is_answered,
+                                     processor_time, read, read_10, requests, serving)
 from wire import pdu
 
 BLOCKS = 512  # blocks of a READ of 256 KiB

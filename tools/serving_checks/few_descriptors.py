@@ -6,8 +6,8 @@ import select
 import struct
 from contextlib import contextmanager
 
-from serving_checks.loopback import (LIMIT, READY_AGAIN, connection_of, descriptors_of, held_clients, processor_time, read,
-                              requests, serving)
+from serving_checks.loopback import (LIMIT, READY_AGAIN, connection_of, descriptors_of, held_clients,
+                                     processor_time, read, requests, serving)
 
 DESCRIPTORS, CLIENTS = 12, 20
 QUIET = 1.5  # seconds in which a program that spins is seen, and one that looks again each second does so

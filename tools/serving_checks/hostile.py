@@ -9,8 +9,8 @@ import threading
 import time
 from pathlib import Path
 
-from serving_checks.loopback import (LIMIT, READY_AGAIN, UNITS, answer_of, answers, connect, disk_file, held_clients,
-                              is_answered, read, read_10, requests, reset, serving)
+from serving_checks.loopback import (LIMIT, READY_AGAIN, UNITS, answer_of, answers, connect, disk_file,
+                                     held_clients, is_answered, read, read_10, requests, reset, serving)
 from wire import notation, pdu
 
 MEBIBYTE = 1 << 20

@@ -11,8 +11,9 @@ import time
 from contextlib import contextmanager
 from pathlib import Path
 
-from serving_checks.loopback import (CONNECTIONS, LIMIT, LOGIN, READY, UNITS, answers, connect, disk_file,
-                              ended, held_clients, is_answered, is_closed, read, read_10, requests, serving, started)
+from serving_checks.loopback import (CONNECTIONS, LIMIT, LOGIN, READY, UNITS, answers, connect, disk_file, ended,
+                                     held_clients, is_answered, is_closed, read, read_10, requests, serving,
+                                     started)
 from serving_checks.surroundings import library
 from wire import notation, pdu
 

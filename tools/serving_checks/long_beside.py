@@ -12,7 +12,7 @@ from concurrent.futures import ThreadPoolExecutor
 from contextlib import contextmanager
 
 from serving_checks.loopback import (CONNECTIONS, LIMIT, answer_of, connect, descriptors_of, disk_file, is_answered,
-                              is_answered_at_last, is_closed, read, read_10, reset, serving)
+                                     is_answered_at_last, is_closed, read, read_10, reset, serving)
 from serving_checks.long_turns import BLOCKS, LENGTH, SHORT, logged_in, one_read, reads
 from wire import notation, pdu
 

@@ -6,8 +6,8 @@ import threading
 from concurrent.futures import ThreadPoolExecutor
 
 from serving_checks.ahead import commands
-from serving_checks.loopback import (CONNECTIONS, READY_AGAIN, answer_of, connect, disk_file, held_clients, is_answered,
-                              is_answered_at_last, read, read_10, reset, serving, writing)
+from serving_checks.loopback import (CONNECTIONS, READY_AGAIN, answer_of, connect, disk_file, held_clients,
+                                     is_answered, is_answered_at_last, read, read_10, reset, serving, writing)
 from wire import notation, pdu
 
 LENGTH = 1 << 20  # bytes of the disk

@@ -15,10 +15,10 @@ from contextlib import ExitStack, contextmanager, suppress
 from pathlib import Path
 
 from running import checks
-from serving_checks.endings import (BLOCKS, INITIATOR, TARGET, connect_in, disk_of_reads, ip, may_make_networks, reads,
-                             rest_of, two_networks)
+from serving_checks.endings import (BLOCKS, INITIATOR, TARGET, connect_in, disk_of_reads, ip, may_make_networks,
+                                    reads, rest_of, two_networks)
 from serving_checks.loopback import (CONNECTIONS, LIMIT, LOGIN, TOP, answer_of, connect, ended, is_answered,
-                              is_answered_at_last, is_closed, read_10, requests, serving)
+                                     is_answered_at_last, is_closed, read_10, requests, serving)
 from wire import pdu
 
 # What accept(2) says of a connection that is gone already, and what a system answers that has not enough of something.
