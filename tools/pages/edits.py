@@ -21,12 +21,9 @@ GROUPS = (
 BEGINNING = re.compile(r"# (?P<words>[A-Z].*[^.\n])\n# group: (?P<group>.+)\nfile: ")
 HEAD = f"""# Wrong bodies
 
-A contract is only as good as what it refuses. Each file `NAME.edit` in the folder `must-fail` of a crate changes a line or two of its code. The result is what somebody could write in good faith, and it would lose, repeat or misplace data or report the wrong thing. `rt ci` checks that the prover refuses each. There are at most {MOST}, as each costs a check of its crate. They cover what the promises name, and holes that a contract once had. `rt plant` makes up others by the hundred ([PROGRESS](dev/PROGRESS.md#owed-besides)).
+A contract is only as good as what it refuses. Each file `NAME.edit` in the folder `must-fail` of a crate changes a line or two of its code, as somebody could in good faith, and `rt ci` checks that the prover refuses it. Below is what the code would then do. They cover what the promises name, and holes that a contract once had. There are at most {MOST}, as each costs a check of its crate; `rt plant` makes up others by the hundred ([PROGRESS](dev/PROGRESS.md#owed-besides)).
 
 `tools/wrong-bodies` makes this page of the comments that the edits begin with; [CONTRIBUTING](../CONTRIBUTING.md#a-wrong-body) says how to add one.
-
-| Wrong body | What it gets wrong | Crate |
-|---|---|---|
 """
 
 
@@ -49,7 +46,7 @@ def edits():
 
 
 def read():
-    """Returns the rows of each group, and what is wrong with the comment of an edit."""
+    """Returns the lines of each group, and what is wrong with the comment of an edit."""
     rows, faults = {group: [] for group in GROUPS}, []
     for file in edits():
         begins = BEGINNING.match(file.read_text(encoding="utf-8"))
@@ -59,13 +56,13 @@ def read():
         elif begins["group"] not in rows:
             faults.append(f"{file.relative_to(TOP)}: its group is to be one of {'; '.join(GROUPS)}")
         else:
-            rows[begins["group"]].append(f"| `{file.stem}` | {begins['words']} | `{file.parts[-3]}` |\n")
+            rows[begins["group"]].append(f"- `{file.stem}` (`{file.parts[-3]}`): {begins['words']}\n")
     return rows, faults
 
 
 def page(rows):
-    """Returns the page with these rows."""
-    parts = (f"| **{group}** | | |\n" + "".join(rows[group]) for group in GROUPS if rows[group])
+    """Returns the page with these lines."""
+    parts = (f"\n## {group}\n\n" + "".join(rows[group]) for group in GROUPS if rows[group])
     return HEAD + "".join(parts)
 
 
