@@ -62,8 +62,8 @@ pub(crate) fn item_at<S: Store>(
     if length > MOST_BYTES || end - place - LENGTHS < u64::from(length) {
         return Ok(None);
     }
-    let behind = place + 4 + u64::from(length);
-    window.hold(store, behind, end, ahead(length))?;
-    let again = window.number(behind);
+    let trailer = place + 4 + u64::from(length);
+    window.hold(store, trailer, end, ahead(length))?;
+    let again = window.number(trailer);
     Ok(if again == length { Some(length) } else { None })
 }

@@ -57,7 +57,7 @@ fn put_data(items: &[u8], count: usize, block_length: usize, buffer: &mut BytesM
 }
 
 /// Reads `count` records of one length from a place on, in one call, and appends their bytes to a buffer. First it
-/// reserves room there for them and for `behind` bytes more.
+/// reserves room there for them and for `tailroom` bytes more.
 pub(crate) fn read_blocks<S: Store>(
     alloc: Global,
     store: &mut S,
@@ -65,7 +65,7 @@ pub(crate) fn read_blocks<S: Store>(
     count: u32,
     block_length: u32,
     buffer: &mut BytesMut,
-    behind: u32,
+    tailroom: u32,
 ) -> Result<Result<(), StoreFault>, AllocError>
     requires few { count * block_length ≤ most_bytes }
     requires within { place + count * (block_length + 8) < 2 ^ 64 }
@@ -73,7 +73,7 @@ pub(crate) fn read_blocks<S: Store>(
         → place + count * (block_length + 8) ≤ length (S.Store.content store.old)
         → buffer.new.items ≡ buffer.old.items ++ data_in count block_length (drop place (S.Store.content store.old)))) }
     ensures length { IfOk result (λ done. OnOk done (length buffer.new.items ≡ length buffer.old.items + count * block_length)) }
-    ensures spare { IfOk result (λ _. behind ≤ buffer.new.spare) }
+    ensures spare { IfOk result (λ _. tailroom ≤ buffer.new.spare) }
     ensures back { IsTrue (S.Store.honest store.new) → IsTrue (S.Store.honest store.old) }
     ensures content { S.Store.content store.new ≡ S.Store.content store.old }
     ensures synced { S.Store.synced store.new ≡ S.Store.synced store.old }
@@ -86,7 +86,7 @@ pub(crate) fn read_blocks<S: Store>(
     ensures err { OnErr result (store.new ≡ store.old) }
 {
     let (many, long) = (count as usize, block_length as usize);
-    buffer.reserve(many * long + behind as usize)?;
+    buffer.reserve(many * long + tailroom as usize)?;
     if count == 1 {
         return Ok(read_behind(store, place + LENGTH, long, buffer));
     }

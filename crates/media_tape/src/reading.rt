@@ -17,13 +17,13 @@ use target_limits::Memory;
 
 impl<S: Store> Tape<S> {
     /// Passes the item after the position (SSC-4 "READ (6)"). Of a record it appends the bytes requested to a buffer.
-    /// First it reserves room there for them and for `behind` bytes more. If an allocation fails, nothing changes; if
+    /// First it reserves room there for them and for `tailroom` bytes more. If an allocation fails, nothing changes; if
     /// the store fails, the tape is as before.
     pub fn read(
         &mut self,
         asked: u32,
         buffer: &mut BytesMut,
-        behind: u32,
+        tailroom: u32,
     ) -> Result<Result<Passed, StoreFault>, Memory>
         ensures passed { IfOk result (λ done. IfOk done (λ passed. IsTrue self.new.honest → passed ≡ read_told asked self.old)) }
         ensures nothing { IfOk result (λ done. IfOk done (λ told. told ≡ passed.Nothing → asked ≡ 0)) }
@@ -32,7 +32,7 @@ impl<S: Store> Tape<S> {
             → buffer.new.items ≡ buffer.old.items ++ take asked (first_data self.old.after))) }
         ensures length { IfOk result (λ done. IfOk done (λ passed. length buffer.new.items
             ≡ length buffer.old.items + min asked (passed_length passed))) }
-        ensures spare { IfOk result (λ done. IfOk done (λ told. (n : ℕ) → told ≡ passed.Record n → behind ≤ buffer.new.spare)) }
+        ensures spare { IfOk result (λ done. IfOk done (λ told. (n : ℕ) → told ≡ passed.Record n → tailroom ≤ buffer.new.spare)) }
         ensures tape { IfOk result (λ done. OnOk done (IsTrue self.new.honest → self.new ≡ tape_read asked self.old)) }
         ensures failed { IfOk result (λ done. OnErr done (self.new
             ≡ record self.old { failures = risen self.old.failures; honest = self.new.honest })) }
@@ -55,7 +55,7 @@ impl<S: Store> Tape<S> {
         }
         let length = self.index.size_at(self.position) - MARK_SIZE;
         let given = asked.min(length) as usize;
-        buffer.reserve(given + behind as usize)?;
+        buffer.reserve(given + tailroom as usize)?;
         let place = self.index.place_of(self.position) + LENGTH;
         match read_behind(&mut self.store, place, given, buffer) {
             Ok(()) => {
@@ -67,7 +67,7 @@ impl<S: Store> Tape<S> {
     }
 
     /// Passes `count` records of one length after the position, here called blocks, and appends their bytes to a buffer
-    /// (SSC-4 "READ (6)", FIXED). First it reserves room there for them and for `behind` bytes more. A filemark or a
+    /// (SSC-4 "READ (6)", FIXED). First it reserves room there for them and for `tailroom` bytes more. A filemark or a
     /// record of another length ends them, and is passed. If an allocation fails, nothing changes; if the store fails,
     /// the tape is as before, and no block is returned.
     pub fn read_fixed(
@@ -75,7 +75,7 @@ impl<S: Store> Tape<S> {
         count: u32,
         block_length: u32,
         buffer: &mut BytesMut,
-        behind: u32,
+        tailroom: u32,
     ) -> Result<Result<FixedRead, StoreFault>, Memory>
         requires { count * block_length ≤ most_bytes }
         ensures read { IfOk result (λ done. IfOk done (λ read. IsTrue self.new.honest → read ≡ fixed_told count block_length self.old)) }
@@ -84,7 +84,7 @@ impl<S: Store> Tape<S> {
             → buffer.new.items ≡ buffer.old.items ++ fixed_data count block_length self.old)) }
         ensures length { IfOk result (λ done. IfOk done (λ read. length buffer.new.items
             ≡ length buffer.old.items + read.given * block_length)) }
-        ensures spare { IfOk result (λ _. behind ≤ buffer.new.spare) }
+        ensures spare { IfOk result (λ _. tailroom ≤ buffer.new.spare) }
         ensures shown { IfOk result (λ done. IfOk done (λ read. 0 < block_length
             → Gives count block_length read (drop (length buffer.old.items) buffer.new.items))) }
         ensures tape { IfOk result (λ done. OnOk done (IsTrue self.new.honest → self.new ≡ tape_read_fixed count block_length self.old)) }
@@ -110,7 +110,7 @@ impl<S: Store> Tape<S> {
             read.given,
             block_length,
             buffer,
-            behind,
+            tailroom,
         )?;
         match done {
             Ok(()) => {
