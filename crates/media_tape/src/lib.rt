@@ -20,9 +20,11 @@
 //! - a record that is written replaces everything after the position, and nothing follows it in the store;
 //! - a position is set after the given number of items.
 //!
+//! Positioning, and a read that returns nothing of a record, call no store: the index serves them.
+//!
 //! If a call fails:
 //!
-//! - a read or a positioning leaves the tape as it was;
+//! - a read leaves the tape as it was;
 //! - a write or a cut leaves the items before the position;
 //! - if an allocation failed, nothing changes.
 //!

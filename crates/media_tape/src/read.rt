@@ -13,7 +13,8 @@ use std::alloc::{AllocError, Global};
 /// The length of an item, after which the bytes of a record stand.
 pub(crate) const LENGTH: u64 = 4;
 
-/// Reads `count` bytes from an offset on, and appends them to a buffer that has room for them.
+/// Reads `count` bytes from an offset on, and appends them to a buffer that has room for them. For no byte it calls no
+/// store.
 pub(crate) fn read_behind<S: Store>(
     store: &mut S,
     at: u64,
@@ -33,6 +34,7 @@ pub(crate) fn read_behind<S: Store>(
     ensures reach { S.Store.reach store.new ≡ S.Store.reach store.old }
     ensures succeeds { IsTrue (S.Store.steady store.old) → at + count ≤ length (S.Store.content store.old)
         → IsOk result × (S.Store.honest store.new ≡ S.Store.honest store.old) }
+    ensures none { count ≡ 0 → IsOk result × (store.new ≡ store.old) }
 {
     if count == 0 {
         return Ok(());
@@ -57,7 +59,7 @@ fn put_data(items: &[u8], count: usize, block_length: usize, buffer: &mut BytesM
 }
 
 /// Reads `count` records of one length from a place on, in one call, and appends their bytes to a buffer. First it
-/// reserves room there for them and for `tailroom` bytes more.
+/// reserves room there for them and for `tailroom` bytes more. For no record it calls no store.
 pub(crate) fn read_blocks<S: Store>(
     alloc: Global,
     store: &mut S,
@@ -83,6 +85,7 @@ pub(crate) fn read_blocks<S: Store>(
     ensures succeeds { IfOk result (λ done. IsTrue (S.Store.steady store.old)
         → place + count * (block_length + 8) ≤ length (S.Store.content store.old)
         → IsOk done × (S.Store.honest store.new ≡ S.Store.honest store.old)) }
+    ensures none { IfOk result (λ done. count ≡ 0 → IsOk done × (store.new ≡ store.old)) }
     ensures err { OnErr result (store.new ≡ store.old) }
 {
     let (many, long) = (count as usize, block_length as usize);

@@ -1,6 +1,6 @@
 //! READ of a tape.
 
-ghost use Rattle.std.specs.Prelude.{◌≡◌, ◌+◌, ◌*◌, ◌≤◌, ◌<◌, ℕ, ◌++◌, length, take, drop, min, IsTrue, IsOk, IfOk, OnOk, OnErr};
+ghost use Rattle.std.specs.Prelude.{◌≡◌, ◌+◌, ◌*◌, ◌≤◌, ◌<◌, ℕ, [], ◌++◌, length, take, drop, min, IsTrue, IsOk, IfOk, OnOk, OnErr};
 ghost use Rattle.media_store.specs.Failures.{counted, risen};
 ghost use Rattle.media_tape.specs.Items.{most_bytes};
 ghost use Rattle.media_tape.specs.Tape.{read_told, passed_length, first_data, tape_read};
@@ -17,8 +17,8 @@ use target_limits::Memory;
 
 impl<S: Store> Tape<S> {
     /// Passes the item after the position (SSC-4 "READ (6)"). Of a record it appends the bytes requested to a buffer.
-    /// First it reserves room there for them and for `tailroom` bytes more. If an allocation fails, nothing changes; if
-    /// the store fails, the tape is as before.
+    /// First it reserves room there for them and for `tailroom` bytes more. If no record comes after the position, it
+    /// calls no store. If an allocation fails, nothing changes; if the store fails, the tape is as before.
     pub fn read(
         &mut self,
         asked: u32,
@@ -45,6 +45,8 @@ impl<S: Store> Tape<S> {
         ensures back { IsTrue self.new.honest → IsTrue self.old.honest }
         ensures succeeds { IfOk result (λ done. IsTrue self.old.steady → IsTrue self.old.honest
             → IsOk done × (self.new.honest ≡ self.old.honest)) }
+        ensures unread { IfOk result (λ done. IsTrue self.old.honest → first_data self.old.after ≡ []
+            → IsOk done × (self.new.honest ≡ self.old.honest)) }
         ensures err { OnErr result (self.new ≡ self.old) }
     {
         if asked == 0 {
@@ -68,8 +70,8 @@ impl<S: Store> Tape<S> {
 
     /// Passes `count` records of one length after the position, here called blocks, and appends their bytes to a buffer
     /// (SSC-4 "READ (6)", FIXED). First it reserves room there for them and for `tailroom` bytes more. A filemark or a
-    /// record of another length ends them, and is passed. If an allocation fails, nothing changes; if the store fails,
-    /// the tape is as before, and no block is returned.
+    /// record of another length ends them, and is passed. If that comes first, it calls no store. If an allocation
+    /// fails, nothing changes; if the store fails, the tape is as before, and no block is returned.
     pub fn read_fixed(
         &mut self,
         count: u32,
@@ -98,6 +100,8 @@ impl<S: Store> Tape<S> {
         }) }
         ensures back { IsTrue self.new.honest → IsTrue self.old.honest }
         ensures succeeds { IfOk result (λ done. IsTrue self.old.steady → IsTrue self.old.honest
+            → IsOk done × (self.new.honest ≡ self.old.honest)) }
+        ensures unread { IfOk result (λ done. IsTrue self.old.honest → (fixed_told count block_length self.old).given ≡ 0
             → IsOk done × (self.new.honest ≡ self.old.honest)) }
         ensures err { OnErr result (self.new ≡ self.old) }
     {

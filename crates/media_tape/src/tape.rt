@@ -1,7 +1,6 @@
 //! The calls on a tape.
 
-ghost use Rattle.std.specs.Prelude.{◌≡◌, ◌<◌, ◌≤◌, [], length, true, IsTrue, IsOk, IfOk, IfErr, OnOk, OnErr};
-ghost use Rattle.media_store.specs.Failures.{counted, risen};
+ghost use Rattle.std.specs.Prelude.{◌≡◌, ◌<◌, ◌≤◌, [], length, true, IsTrue, IfOk, IfErr};
 ghost use Rattle.media_tape.specs.Items.{items_of, is_tape};
 ghost use Rattle.media_tape.specs.Fault.{failures_after, Explains};
 ghost use Rattle.media_tape.specs.Tape.{items, located_at, located_told, is_early};
@@ -13,7 +12,7 @@ use crate::fault::{NotOpened, TapeOpenFault};
 use crate::index::Index;
 use crate::outcome::{Direction, Located, Over, Spaced};
 use crate::walk::walk;
-use media_store::{Store, StoreFault};
+use media_store::Store;
 use std::alloc::Global;
 use std::marker::Model;
 
@@ -129,56 +128,42 @@ impl<S: Store> Tape<S> {
         self.position
     }
 
-    /// Sets the position after `number` items, or after all if there are fewer (SSC-4 "LOCATE (10)"). If it fails, the
-    /// tape is as before.
-    pub fn locate(&mut self, number: u64) -> Result<Located, StoreFault>
-        ensures told { IfOk result (λ told. IsTrue self.new.honest → told ≡ located_told number self.old) }
-        ensures tape { OnOk result (IsTrue self.new.honest → self.new ≡ located_at number self.old) }
-        ensures past { IfOk result (λ told. told ≡ located.EndOfData → 0 < number) }
-        ensures end { IsTrue self.old.honest → length (items self.old) ≤ number → IsOk result × (self.new.honest ≡ self.old.honest) }
-        ensures failed { OnErr result (self.new ≡ record self.old { failures = risen self.old.failures; honest = self.new.honest }) }
-        ensures rest { self.new ≡ record self.old {
-          before = self.new.before;
-          after = self.new.after;
-          honest = self.new.honest;
-          failures = counted result self.old.failures;
-        } }
-        ensures back { IsTrue self.new.honest → IsTrue self.old.honest }
-        ensures succeeds { IsTrue self.old.steady → IsTrue self.old.honest → IsOk result × (self.new.honest ≡ self.old.honest) }
+    /// Sets the position after `number` items, or after all if there are fewer (SSC-4 "LOCATE (10)"). It calls no
+    /// store.
+    pub fn locate(&mut self, number: u64) -> Located
+        ensures told { IsTrue self.old.honest → result ≡ located_told number self.old }
+        ensures tape { IsTrue self.old.honest → self.new ≡ located_at number self.old }
+        ensures past { result ≡ located.EndOfData → 0 < number }
+        ensures items { items self.new ≡ items self.old }
+        ensures rest { self.new ≡ record self.old { before = self.new.before; after = self.new.after } }
     {
         let count = self.index.count();
         if count < number {
             self.position = count;
-            return Ok(Located::EndOfData);
+            return Located::EndOfData;
         }
         self.position = number;
-        Ok(Located::There)
+        Located::There
     }
 
-    /// Moves the position over `count` records or filemarks, or until spacing ends before that (SSC-4 "SPACE (6)"). If
-    /// it fails, the tape is as before.
-    pub fn space(&mut self, toward: Direction, over: Over, count: u32) -> Result<Spaced, StoreFault>
-        ensures told { IfOk result (λ told. IsTrue self.new.honest → told ≡ spaced_told toward over count self.old) }
-        ensures shown { IfOk result (λ told. Ends toward over count told) }
-        ensures tape { OnOk result (IsTrue self.new.honest → self.new ≡ tape_spaced toward over count self.old) }
-        ensures failed { OnErr result (self.new ≡ record self.old { failures = risen self.old.failures; honest = self.new.honest }) }
-        ensures rest { self.new ≡ record self.old {
-          before = self.new.before;
-          after = self.new.after;
-          honest = self.new.honest;
-          failures = counted result self.old.failures;
-        } }
-        ensures back { IsTrue self.new.honest → IsTrue self.old.honest }
-        ensures succeeds { IsTrue self.old.steady → IsTrue self.old.honest → IsOk result × (self.new.honest ≡ self.old.honest) }
+    /// Moves the position over `count` records or filemarks, or until spacing ends before that (SSC-4 "SPACE (6)"). It
+    /// calls no store.
+    pub fn space(&mut self, toward: Direction, over: Over, count: u32) -> Spaced
+        ensures told { IsTrue self.old.honest → result ≡ spaced_told toward over count self.old }
+        ensures shown { Ends toward over count result }
+        ensures tape { IsTrue self.old.honest → self.new ≡ tape_spaced toward over count self.old }
+        ensures items { items self.new ≡ items self.old }
+        ensures rest { self.new ≡ record self.old { before = self.new.before; after = self.new.after } }
     {
         let ended = self.index.space(toward, over, self.position, count);
         self.position = ended.number;
-        Ok(ended.told)
+        ended.told
     }
 
-    /// Sets the position after all items (SSC-4 "SPACE (6)", end of data).
+    /// Sets the position after all items (SSC-4 "SPACE (6)", end of data). It calls no store.
     pub fn space_to_end(&mut self)
         ensures tape { IsTrue self.old.honest → self.new ≡ tape_ended self.old }
+        ensures items { items self.new ≡ items self.old }
         ensures rest { self.new ≡ record self.old { before = self.new.before; after = self.new.after } }
     {
         self.position = self.index.count();

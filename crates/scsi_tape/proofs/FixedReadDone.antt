@@ -1,6 +1,5 @@
 -- How READ of some fixed blocks came out.
 use Rattle.std.proofs.Common.{◌≡◌, ◌≢◌, ℕ, ◌≤◌, List, length, true, IsTrue, nat_lt, refl, sym, ap, ◌∙◌}
-use Rattle.std.proofs.lemmas.Bool.{false≢true}
 use Rattle.std.proofs.lemmas.List.{append-nil}
 use Rattle.media_store.specs.Failures.{risen}
 use Rattle.media_tape.specs.Tape.{TapeState}
@@ -16,7 +15,7 @@ use Rattle.scsi_tape.specs.Commands.{fixed_outcome}
 use Rattle.scsi_tape.specs.CameOut.{IsTapeDone, Shown, standing_of}
 use Rattle.scsi_tape.proofs.Came.{with_tape, as_defined, answered, read_fails, moved}
 use Rattle.scsi_tape.proofs.Records.{some_byte}
-use Rattle.scsi_tape.proofs.Shown.{empty}
+use Rattle.scsi_tape.proofs.Shown.{empty, some_read, nothing_read}
 
 -- one of no block does nothing
 pub none_read : (blocks : Blocks) (bytes : List ℕ) (unit : TapeUnitState) → blocks.count ≡ 0 → IsTapeDone (ReadFixed blocks) bytes unit unit good
@@ -35,15 +34,16 @@ module _ (blocks : Blocks) (bytes : List ℕ) (unit : TapeUnitState) (new : Tape
       → (IsTrue new.honest → read ≡ fixed_told blocks.count blocks.block_length unit.tape)
       → (IsTrue new.honest → got ≡ fixed_data blocks.count blocks.block_length unit.tape)
       → (IsTrue unit.tape.steady → IsTrue unit.tape.honest → new.honest ≡ unit.tape.honest)
+      → (IsTrue unit.tape.honest → (fixed_told blocks.count blocks.block_length unit.tape).given ≡ 0 → new.honest ≡ unit.tape.honest)
       → new ≡ record unit.tape { before = new.before; after = new.after; honest = new.honest }
       → Gives blocks.count blocks.block_length read got
       → done ≡ fixed_outcome blocks.count read got
       → length done.given ≤ most_record
       → IsTapeDone (ReadFixed blocks) bytes unit (with_tape unit new) done
-  blocks_read read got done left told given sure rest gives outcome few =
+  blocks_read read got done left told given sure unread rest gives outcome few =
       let shown : Shown = record empty { after = gives.0 } in
       answered (ReadFixed blocks) bytes unit shown (standing_of new) new done
-      (rw some refl) (λ none. absurd (false≢true (sym none ∙ rw some refl))) left
+      (rw some refl) (λ none honest. unread honest (nothing_read unit.tape.honest _ (rw some at none) honest)) left
       (λ is. outcome ∙ ap (λ (r : FixedRead). fixed_outcome blocks.count r got) (told is)
       ∙ ap (λ (xs : List ℕ). fixed_outcome blocks.count (fixed_told blocks.count blocks.block_length unit.tape) xs) (given is))
       sure
@@ -54,5 +54,8 @@ module _ (blocks : Blocks) (bytes : List ℕ) (unit : TapeUnitState) (new : Tape
   pub read_blocks_failed : new ≡ record unit.tape { failures = risen unit.tape.failures; honest = new.honest }
       → (IsTrue new.honest → IsTrue unit.tape.honest)
       → (IsTrue unit.tape.steady → IsTrue unit.tape.honest → ⊥)
+      → (IsTrue unit.tape.honest → (fixed_told blocks.count blocks.block_length unit.tape).given ≡ 0 → ⊥)
       → IsTapeDone (ReadFixed blocks) bytes unit (with_tape unit new) (check_condition unrecovered_read)
-  read_blocks_failed same back sure = read_fails (ReadFixed blocks) bytes unit new (rw some refl) same back sure
+  read_blocks_failed same back sure unread =
+      let reads = some_read unit.tape.honest (fixed_told blocks.count blocks.block_length unit.tape).given unread in
+      read_fails (ReadFixed blocks) bytes unit new (rw some reads) same back sure

@@ -1,7 +1,6 @@
 -- How READ of some bytes came out.
-use Rattle.std.proofs.Common.{◌≡◌, ◌≢◌, ℕ, zero, suc, ◌≤◌, ◌==◌, min, List, length, take, arith, Bool, true, false, IsTrue, nat_lt, refl, sym, ap, ◌∙◌}
-use Rattle.std.proofs.lemmas.Bool.{false≢true}
-use Rattle.std.proofs.lemmas.List.{take-take, take_all}
+use Rattle.std.proofs.Common.{◌≡◌, ◌≢◌, ℕ, zero, suc, ◌≤◌, ◌==◌, min, List, [], length, take, arith, Bool, true, false, IsTrue, nat_lt, refl, sym, ap, ◌∙◌}
+use Rattle.std.proofs.lemmas.List.{take-take, take_all, nil_from_length}
 use Rattle.media_store.specs.Failures.{risen}
 use Rattle.media_tape.specs.Tape.{TapeState, read_told, first_told, first_data, passed_length, tape_read}
 use Rattle.media_tape.specs.declared.outcome.Passed.{Passed}
@@ -13,10 +12,10 @@ use Rattle.scsi_cdb.specs.declared.tape.TapeCommand.TheVariants.{Read}
 use Rattle.scsi_tape.specs.TapeSense.{unrecovered_read}
 use Rattle.scsi_tape.specs.State.{TapeUnitState}
 use Rattle.scsi_tape.specs.Commands.{read_outcome, record_outcome}
-use Rattle.scsi_tape.specs.CameOut.{IsTapeDone, Shown, standing_of, showing}
+use Rattle.scsi_tape.specs.CameOut.{IsTapeDone, Shown, standing_of, showing, can_read}
 use Rattle.scsi_tape.proofs.Came.{with_tape, answered, read_fails, moved}
 use Rattle.scsi_tape.proofs.Records.{some_byte, first_same, not_zero}
-use Rattle.scsi_tape.proofs.Shown.{empty, read_shown, record_front, record_length}
+use Rattle.scsi_tape.proofs.Shown.{empty, read_shown, record_front, record_length, some_read, nothing_read}
 
 -- what a READ tells of the item that it passed, it tells of the tape shown
 told_seen : (asked : ℕ) (incorrect : IncorrectLength) (seen : Passed) (got : List ℕ) → (seen ≡ passed.Nothing → ⊥)
@@ -52,21 +51,26 @@ zero_not zero any = absurd (any refl)
 zero_not (suc asked) any = not_zero asked
 
 module _ (asked : ℕ) (incorrect : IncorrectLength) (bytes : List ℕ) (unit : TapeUnitState) (new : TapeState) where
+  -- no record comes after the position
+  nothing_there : can_read (length (first_data unit.tape.after)) unit.tape ≡ false → IsTrue unit.tape.honest → first_data unit.tape.after ≡ []
+  nothing_there none honest = nil_from_length (first_data unit.tape.after) (nothing_read unit.tape.honest _ none honest)
+
   pub read_done : (seen : Passed) (got : List ℕ) (done : Outcome) → asked ≢ 0
       → (IsTrue new.honest → new ≡ tape_read asked unit.tape)
       → (IsTrue new.honest → done ≡ read_outcome asked incorrect (read_told asked unit.tape) (first_data unit.tape.after))
       → (IsTrue unit.tape.steady → IsTrue unit.tape.honest → new.honest ≡ unit.tape.honest)
+      → (IsTrue unit.tape.honest → first_data unit.tape.after ≡ [] → new.honest ≡ unit.tape.honest)
       → new ≡ record unit.tape { before = new.before; after = new.after; honest = new.honest }
       → done ≡ read_outcome asked incorrect seen (first_data (read_shown seen got))
       → (seen ≡ passed.Nothing → ⊥)
       → length done.given ≤ most_record
       → IsTapeDone (Read asked incorrect) bytes unit (with_tape unit new) done
-  read_done seen got done any left told sure rest on_shown item few =
+  read_done seen got done any left told sure unread rest on_shown item few =
       let some : nat_lt 0 asked ≡ true = some_byte asked any in
       let none : (asked == 0) ≡ false = zero_not asked any in
       let shown : Shown = record empty { after = read_shown seen got } in
       answered (Read asked incorrect) bytes unit shown (standing_of new) new done
-      (rw some refl) (λ none. absurd (false≢true (sym none ∙ rw some refl))) left told sure
+      (rw some refl) (λ none honest. unread honest (nothing_there (rw some at none) honest)) left told sure
       (λ wrong. rw (some, none) (moved unit new rest wrong))
       (λ wrong. on_shown ∙ told_seen asked incorrect seen got item
       ∙ ap (λ (p : Passed). read_outcome asked incorrect p (first_data (read_shown seen got))) (sym (first_same asked (showing shown unit.tape) any)))
@@ -76,5 +80,9 @@ module _ (asked : ℕ) (incorrect : IncorrectLength) (bytes : List ℕ) (unit : 
       → new ≡ record unit.tape { failures = risen unit.tape.failures; honest = new.honest }
       → (IsTrue new.honest → IsTrue unit.tape.honest)
       → (IsTrue unit.tape.steady → IsTrue unit.tape.honest → ⊥)
+      → (IsTrue unit.tape.honest → first_data unit.tape.after ≡ [] → ⊥)
       → IsTapeDone (Read asked incorrect) bytes unit (with_tape unit new) (check_condition unrecovered_read)
-  read_failed any same back sure = read_fails (Read asked incorrect) bytes unit new (rw (some_byte asked any) refl) same back sure
+  read_failed any same back sure unread =
+      let bytes_there = first_data unit.tape.after in
+      let reads = some_read unit.tape.honest (length bytes_there) (λ honest none. unread honest (nil_from_length bytes_there none)) in
+      read_fails (Read asked incorrect) bytes unit new (rw (some_byte asked any) reads) same back sure

@@ -1,7 +1,7 @@
 -- What a store that lies made a tape appear: a tape on which a call tells what it told.
 use Rattle.std.proofs.Common.{◌≡◌, ℕ, zero, suc, ◌+◌, ◌≤◌, ◌<◌, min, nat_lt}
 use Rattle.std.proofs.Common.{List, [], ◌∷◌, ◌++◌, length, take, reverse, replicate, Bool, true, false, IsTrue, not, ◌||◌, if◌then◌else◌, refl, sym, ap, ◌∙◌, arith}
-use Rattle.std.proofs.lemmas.Bool.{false≢true, lt-ltb, le-ltb, le-leb, lt-leb, ltb-false}
+use Rattle.std.proofs.lemmas.Bool.{false≢true, lt-ltb, le-ltb, le-leb, lt-leb}
 use Rattle.std.proofs.lemmas.List.{take_min, take-append-le, take-take, length-append, length-replicate, length-take, append-nil, reverse-reverse}
 use Rattle.media_tape.specs.Items.{Item, Record, Filemark, size_of}
 use Rattle.media_tape.specs.Tape.{TapeState, located_told, size_told, is_early}
@@ -48,20 +48,18 @@ locate_seen number located.There tape past =
     rw (le-leb number (length (replicate number Filemark ++ [])) (omega (arith, all_marks number))) refl
 locate_seen number located.EndOfData tape past = rw (lt-leb number 0 (past refl)) refl
 
--- a LOCATE past the end of an honest tape does not read it
-pub locate_reads : (honest : Bool) (number count : ℕ) → (IsTrue honest → count ≤ number → ⊥) → (not honest || nat_lt number count) ≡ true
-locate_reads false number count below = refl
-locate_reads true number count below = by_test (nat_lt number count) refl
-  where
-    by_test : (less : Bool) → nat_lt number count ≡ less → nat_lt number count ≡ true
-    by_test true is = is
-    by_test false is = absurd (below refl (ltb-false number count is))
-
-pub locate_past : (honest : Bool) (number count : ℕ) → (not honest || nat_lt number count) ≡ false → IsTrue honest → count ≤ number
-locate_past false number count none is = absurd (false≢true is)
-locate_past true number count none is = ltb-false number count none
-
 -- ---- READ
+
+-- of an honest tape, bytes or blocks are read only if there are some
+pub some_read : (honest : Bool) (many : ℕ) → (IsTrue honest → many ≡ 0 → ⊥) → (not honest || nat_lt 0 many) ≡ true
+some_read false many none = refl
+some_read true zero none = absurd (none refl refl)
+some_read true (suc many) none = lt-ltb 0 (suc many) (omega arith)
+
+pub nothing_read : (honest : Bool) (many : ℕ) → (not honest || nat_lt 0 many) ≡ false → IsTrue honest → many ≡ 0
+nothing_read false many none is = absurd (false≢true is)
+nothing_read true zero none is = refl
+nothing_read true (suc many) none is = absurd (false≢true (sym none ∙ lt-ltb 0 (suc many) (omega arith)))
 
 abbrev pub read_shown : Passed → List ℕ → List Item
 read_shown passed.Nothing bytes = []

@@ -2,7 +2,8 @@
 use Rattle.std.specs.Prelude.{◌≡◌, ℕ, ◌+◌, ◌*◌, ◌⊎◌, ◌==◌, nat_lt, nat_le, List, [], length, Bool, true, false, ◌||◌, ◌&&◌, not, IsTrue, if◌then◌else◌}
 use Rattle.media_store.specs.Failures.{risen, NoneFailed}
 use Rattle.media_tape.specs.Items.{Item, size_of}
-use Rattle.media_tape.specs.Tape.{TapeState, items}
+use Rattle.media_tape.specs.Tape.{TapeState, first_data}
+use Rattle.media_tape.specs.Fixed.{fixed_told}
 use Rattle.scsi_sense.specs.Done.{Outcome, good, check_condition}
 use Rattle.scsi_cdb.specs.Record.{most_record}
 use Rattle.scsi_cdb.specs.declared.tape.TapeCommand.{TapeCommand}
@@ -55,20 +56,30 @@ pub record TapeTouch : Type 0 where
 abbrev pub no_touch : TapeTouch
 no_touch = record { goes_by = false; reads = false; moves = false; writes = false; syncs = false }
 
-abbrev reading : TapeTouch
-reading = record { goes_by = true; reads = true; moves = true; writes = false; syncs = false }
+-- the index of a tape serves it: no call of the store is made
+abbrev positioning : TapeTouch
+positioning = record no_touch { goes_by = true; moves = true }
 
 -- own: whether this many more bytes of items are not refused on this tape; if its store is not honest, none need be
 abbrev pub can_fit : ℕ → TapeState → Bool
 can_fit more tape = not tape.honest || nat_le (size_of tape.before + more) tape.capacity
 
--- own: a READ and a WRITE of nothing do not touch the medium. A LOCATE at or past the end does not read it, and READ
--- POSITION and SPACE to the end of data never do. A command that is refused (0D/0002) does not write
+-- own: whether this many bytes, or blocks, of what comes after the position are read; if the store of a tape is not
+-- honest, some may be
+abbrev pub can_read : ℕ → TapeState → Bool
+can_read many tape = not tape.honest || nat_lt 0 many
+
+-- own: a READ and a WRITE of nothing do not touch the medium. A READ that ends at its first item, which is no record, or
+-- of another length than its blocks, does not read it, and SPACE, LOCATE and READ POSITION never do. A command that is
+-- refused (0D/0002) does not write
 abbrev pub tape_touch : TapeCommand → TapeState → TapeTouch
 tape_touch Rewind tape = no_touch
 tape_touch ReadBlockLimits tape = no_touch
-tape_touch (Read asked incorrect) tape = if nat_lt 0 asked then reading else no_touch
-tape_touch (ReadFixed blocks) tape = if nat_lt 0 blocks.count then reading else no_touch
+tape_touch (Read asked incorrect) tape =
+    if nat_lt 0 asked then record positioning { reads = can_read (length (first_data tape.after)) tape } else no_touch
+tape_touch (ReadFixed blocks) tape =
+    if nat_lt 0 blocks.count then record positioning { reads = can_read (fixed_told blocks.count blocks.block_length tape).given tape }
+    else no_touch
 tape_touch (Write count) tape =
     if nat_lt 0 count then record no_touch { goes_by = true; writes = can_fit (count + 8) tape } else no_touch
 tape_touch (WriteFixed blocks) tape =
@@ -76,11 +87,11 @@ tape_touch (WriteFixed blocks) tape =
 tape_touch (WriteFilemarks count) tape =
     if count == 0 then record no_touch { syncs = true }
     else record no_touch { goes_by = true; writes = can_fit (8 * count) tape; syncs = can_fit (8 * count) tape }
-tape_touch (Space code distance) tape = reading
-tape_touch SpaceToEndOfData tape = record reading { reads = false }
+tape_touch (Space code distance) tape = positioning
+tape_touch SpaceToEndOfData tape = positioning
 tape_touch Erase tape = record no_touch { goes_by = true; writes = true }
 tape_touch (LoadUnload load) tape = no_touch
-tape_touch (Locate number) tape = record reading { reads = not tape.honest || nat_lt number (length (items tape)) }
+tape_touch (Locate number) tape = positioning
 tape_touch ReadPosition tape = record no_touch { goes_by = true }
 
 -- own: whether no call on it fails as long as it is honest: its store is steady, and has room for the capacity

@@ -10,7 +10,7 @@ use Rattle.scsi_cdb.specs.declared.tape.TapeCommand.TheVariants.{Read, ReadFixed
 use Rattle.scsi_tape.specs.TapeSense.{filemark, end_of_data, beginning, early_warning, overflow, incorrect_length}
 use Rattle.scsi_tape.specs.State.{opened_unit}
 use Rattle.scsi_tape.specs.Commands.{given_with, tape_outcome, tape_left, position_data}
-use Rattle.scsi_tape.specs.CameOut.{TapeCame, Dishonest, WriteFailed, tape_touch, is_tape_possible, tape_after, tape_told}
+use Rattle.scsi_tape.specs.CameOut.{TapeCame, Dishonest, ReadFailed, WriteFailed, tape_touch, is_tape_possible, tape_after, tape_told}
 
 -- a tape of 100 bytes with the early warning mark at 40, and these records and filemarks
 abbrev tape_of : List Item → List Item → TapeState
@@ -101,22 +101,35 @@ position : (position_data 3 true ≡ 0x40 ∷ 0 ∷ 0 ∷ 0 ∷ 0 ∷ 0 ∷ 0 �
     × (position_data 0 false ≡ 0x80 ∷ replicate 19 0)
 position = (refl, refl)
 
--- a LOCATE before the end of the items reads the store; one at the end does not, nor does READ POSITION. A WRITE that
--- is refused does not write to it
-touched : ((tape_touch (Locate 0) (tape_of [] (Record five ∷ []))).reads ≡ true)
-    × ((tape_touch (Locate 1) (tape_of [] (Record five ∷ []))).reads ≡ false)
+-- a READ of a record reads the store. One that ends at a filemark, at the end or at a record of another length does not,
+-- nor do SPACE, LOCATE and READ POSITION. A WRITE that is refused does not write to it
+touched : ((tape_touch (Read 8 Told) (tape_of [] (Record five ∷ []))).reads ≡ true)
+    × ((tape_touch (Read 8 Told) (tape_of [] (Filemark ∷ []))).reads ≡ false)
+    × ((tape_touch (Read 8 Told) (tape_of [] [])).reads ≡ false)
+    × ((tape_touch (ReadFixed (blocks_of_20 2)) (tape_of [] (Record twenty ∷ []))).reads ≡ true)
+    × ((tape_touch (ReadFixed (blocks_of_20 2)) (tape_of [] (Record five ∷ []))).reads ≡ false)
+    × ((tape_touch (Space LogicalBlocks (record { is_backward = false; count = 1 })) (tape_of [] (Record five ∷ []))).reads ≡ false)
+    × ((tape_touch (Locate 0) (tape_of [] (Record five ∷ []))).reads ≡ false)
     × ((tape_touch ReadPosition (tape_of [] [])).reads ≡ false)
     × ((tape_touch (Write 20) (tape_of [] [])).writes ≡ true)
     × ((tape_touch (Write 20) (tape_of (replicate 3 (Record twenty)) [])).writes ≡ false)
     × ((tape_touch (WriteFixed (blocks_of_20 4)) (tape_of [] [])).writes ≡ true)
     × ((tape_touch (WriteFixed (blocks_of_20 4)) (tape_of (replicate 3 (Record twenty)) [])).writes ≡ false)
-touched = (refl, refl, refl, refl, refl, refl, refl)
+touched = (refl, refl, refl, refl, refl, refl, refl, refl, refl, refl, refl, refl)
 
--- an inconsistent store makes a tape appear with a filemark next, instead of a record: READ reports the filemark. WRITE
--- FILEMARKS and READ POSITION are not misled if the store was honest before
+-- a store that may fail, with a record after the position
 abbrev liar : TapeState
 liar = record (tape_of [] (Record five ∷ [])) { steady = false }
 
+-- if a read fails, a READ of the record reports it; no SPACE, LOCATE or READ POSITION can come out so
+unreadable : (is_tape_possible (ReadFailed true) (Read 8 Told) [] liar ≡ true)
+    × (is_tape_possible (ReadFailed true) (Space LogicalBlocks (record { is_backward = false; count = 1 })) [] liar ≡ false)
+    × (is_tape_possible (ReadFailed true) (Locate 1) [] liar ≡ false)
+    × (is_tape_possible (ReadFailed true) ReadPosition [] liar ≡ false)
+unreadable = (refl, refl, refl, refl)
+
+-- an inconsistent store makes a tape appear with a filemark next, instead of a record: READ reports the filemark. WRITE
+-- FILEMARKS and READ POSITION are not misled if the store was honest before
 abbrev mark_shown : TapeCame
 mark_shown =
     Dishonest (record { before = []; after = Filemark ∷ []; early_mark = 40; capacity = 100 })

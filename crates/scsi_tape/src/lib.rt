@@ -17,7 +17,8 @@
 //! accordingly (`tape_touch`):
 //!
 //! - The store is not honest: the command returns what is defined for the tape that the store showed.
-//! - A read failed: the command reports UNRECOVERED READ ERROR, and the tape does not change.
+//! - A read failed: the command reports UNRECOVERED READ ERROR, and the tape does not change. Only a READ that begins
+//!   with a record that it returns can come out so, as the index serves all other commands that read or move.
 //! - A write, a cut or a sync failed: the command reports WRITE ERROR. The items before the position remain. The unit
 //!   does not work until it is opened again ([`TapeUnit::not_ready`]).
 //!

@@ -5,7 +5,7 @@ ghost use Rattle.scsi_cdb.specs.declared.tape.TapeCommand.TheVariants.{Rewind, S
 ghost use Rattle.scsi_tape.specs.Commands.{over_of, toward, space_outcome, locate_outcome};
 ghost use Rattle.scsi_tape.specs.CameOut.{IsTapeDone};
 
-use crate::sense::{beginning, end_of_data, filemark, read_failed};
+use crate::sense::{beginning, end_of_data, filemark};
 use crate::tape_unit::TapeUnit;
 use media_store::Store;
 use media_tape::{Direction, Located, Over, Spaced};
@@ -79,18 +79,15 @@ impl<S: Store> TapeUnit<S> {
         Done::good(alloc)
     }
 
-    /// Spaces over logical blocks or filemarks (SPACE (6)).
+    /// Spaces over logical blocks or filemarks (SPACE (6)). It calls no store.
     pub(crate) fn space(&mut self, alloc: Global, code: SpaceCode, distance: Distance) -> Done
         ensures done { (bytes : List ℕ) → IsTapeDone (Space code distance) bytes self.old self.new result }
         ensures given { result.given ≡ [] }
     {
-        match self
+        let ended = self
             .tape
-            .space(toward(distance), over(code), distance.count)
-        {
-            Ok(ended) => spaced(alloc, ended),
-            Err(_) => read_failed(alloc),
-        }
+            .space(toward(distance), over(code), distance.count);
+        spaced(alloc, ended)
     }
 
     /// Spaces to the end of data (SPACE (6)).
@@ -102,14 +99,12 @@ impl<S: Store> TapeUnit<S> {
         Done::good(alloc)
     }
 
-    /// Locates a logical object by its number (LOCATE (10)).
+    /// Locates a logical object by its number (LOCATE (10)). It calls no store.
     pub(crate) fn locate(&mut self, alloc: Global, number: u32) -> Done
         ensures done { (bytes : List ℕ) → IsTapeDone (Locate number) bytes self.old self.new result }
         ensures given { result.given ≡ [] }
     {
-        match self.tape.locate(u64::from(number)) {
-            Ok(ended) => located(alloc, ended),
-            Err(_) => read_failed(alloc),
-        }
+        let ended = self.tape.locate(u64::from(number));
+        located(alloc, ended)
     }
 }

@@ -36,11 +36,11 @@ fn filemarks_are_found_with_no_call_of_the_store(rt: HostRuntime) -> Result<(), 
             // The length, and all bytes at once.
             Ok(mut tape) => {
                 assert!(rt; passed >= 2);
-                assert_eq!(rt; tape.locate(FILEMARKS - 1), Ok(Located::There));
+                assert_eq!(rt; tape.locate(FILEMARKS - 1), Located::There);
                 assert_eq!(rt; tape.position(), FILEMARKS - 1);
                 assert_eq!(rt;
                     tape.space(Direction::Backward, Over::Filemarks, 999),
-                    Ok(Spaced::Whole)
+                    Spaced::Whole
                 );
                 assert_eq!(rt; tape.position(), 0);
                 // After two calls every later one fails.
@@ -144,12 +144,12 @@ fn space_each_way(
     count: u32,
 ) {
     for (toward, over) in WAYS {
-        assert_eq!(rt; tape.locate(from as u64), Ok(Located::There));
+        assert_eq!(rt; tape.locate(from as u64), Located::There);
         let told = tape.space(toward, over, count);
         let (number, wanted) = spaced(items, toward, over, from, count);
         assert_eq!(rt;
             (tape.position(), told),
-            (number as u64, Ok(wanted)),
+            (number as u64, wanted),
             "{toward:?} {over:?} {count} from {from} of {items:?}"
         );
     }

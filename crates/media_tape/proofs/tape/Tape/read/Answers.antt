@@ -65,3 +65,22 @@ returns-in-Ok-clause-succeeds g c steady honest =
     let within : sum (take old.position old.index.sizes) + 4 + c.min-given.result ≤ length (g.S.Store.content old.store) =
     omega (arith, that.within, least) in
     rw (← c.self.view_is) (refl, (c.in-Ok.ensures.succeeds (rw (← c.self.view_is) at steady) (rw c.place_of-place.ensures within)).1)
+
+pub returns-in-Ok-clause-unread : goal.returns-in-Ok-clause-unread
+returns-in-Ok-clause-unread g c honest none =
+    let that = next g c (rw (← c.self.view_is) at honest) in
+    let empty = sym that.long ∙ ap length (that.given ∙ (rw (← c.self.view_is) at none)) in
+    let least : c.min-given.result ≡ min c.args.asked (c.size_at-length.result - 8) = c.min-given.ensures in
+    let kept = c.in-Ok.ensures.none (omega (arith, empty, least)) in
+    rw (← c.self.view_is) (refl, ap g.S.Store.honest kept.1)
+
+pub returns-in-Err-clause-unread : goal.returns-in-Err-clause-unread
+returns-in-Err-clause-unread g c honest none =
+    let old = c.self.inside in
+    let that = is_next (g.S.Store.content old.store) old.index.sizes old.is_torn old.position c.size_at-length.result
+    (c.self.invariant.are_in (rw (← c.self.view_is) at honest))
+    (omega (arith, c.self.invariant.within, c.count.ensures, c.if-self-count.false)) (sym c.size_at-length.ensures.size) in
+    let empty = sym that.long ∙ ap length (that.given ∙ (rw (← c.self.view_is) at none)) in
+    let least : c.min-given.result ≡ min c.args.asked (c.size_at-length.result - 8) = c.min-given.ensures in
+    let kept = c.in-Err.ensures.none (omega (arith, empty, least)) in
+    rw (← c.self.view_is) (kept.0, ap g.S.Store.honest kept.1)

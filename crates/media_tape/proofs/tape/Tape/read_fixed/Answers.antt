@@ -103,3 +103,20 @@ invariant_of-self-in-Ok g c =
       fits = c.self.invariant.fits;
       are_in = λ honest. rw c.in_ok-done.ensures.content (c.self.invariant.are_in (c.in_ok-done.ensures.back honest));
     }
+
+pub returns-in-Ok-clause-unread : goal.returns-in-Ok-clause-unread
+returns-in-Ok-clause-unread g c honest none =
+    let told = (of_items g c (rw (← c.self.view_is) at honest)).told in
+    let given = ap (λ (r : FixedRead). r.given) told ∙ (rw (← c.self.view_is) at none) in
+    let kept = (rw c.in-Ok.is at c.in_ok-done.ensures.none) given in
+    rw (← c.self.view_is) (refl, ap g.S.Store.honest kept.1)
+
+pub returns-in-Err-clause-unread : goal.returns-in-Err-clause-unread
+returns-in-Err-clause-unread g c honest none =
+    let old = c.self.inside in
+    let is = is_read (g.S.Store.content old.store) old.index.sizes old.is_torn c.args.count c.args.block_length old.position c.place_of-place.result
+    c.blocks-read.result (c.self.invariant.are_in (rw (← c.self.view_is) at honest)) c.self.invariant.within c.place_of-place.ensures
+    c.blocks-read.ensures.read in
+    let given = ap (λ (r : FixedRead). r.given) is.told ∙ (rw (← c.self.view_is) at none) in
+    let kept = (rw c.in-Err.is at c.in_ok-done.ensures.none) given in
+    rw (← c.self.view_is) (kept.0, ap g.S.Store.honest kept.1)

@@ -1,4 +1,5 @@
 use Rattle.std.proofs.Common.{take, drop, map, sum, sym, ap, ◌∙◌, arith}
+use Rattle.std.proofs.lemmas.List.{take-append-drop}
 use Rattle.media_tape.specs.Items.{items_of}
 use Rattle.media_tape.specs.Tape.{TapeState}
 use Rattle.media_tape.specs.Space.{Way}
@@ -13,7 +14,7 @@ returns-clause-told g c honest =
     let old = c.self.inside in
     let tape = c.args.self.now in
     let bytes = take (sum old.index.sizes) (g.S.Store.content old.store) in
-    let are = c.self.invariant.are_in honest in
+    let are = c.self.invariant.are_in (rw (← c.self.view_is) at honest) in
     c.space-ended.ensures.told ∙ ap (λ (w : Way). w.told) (ways_ahead c.args.toward c.args.over c.args.count old.position old.index.sizes tape (items_of bytes)
     (ap (λ (t : TapeState). t.before) (sym c.self.view_is)) (ap (λ (t : TapeState). t.after) (sym c.self.view_is)) are.sized (items_of-have bytes))
 
@@ -29,10 +30,16 @@ returns-clause-tape g c honest =
     let number = c.space-ended.result.number in
     let content = g.S.Store.content old.store in
     let items = items_of (take (sum old.index.sizes) content) in
-    let are = c.self.invariant.are_in honest in
+    let are = c.self.invariant.are_in (rw (← c.self.view_is) at honest) in
     ap (λ (t : TapeState). record t { before = take number items; after = drop number items }) c.self.view_is
     ∙ spaced_is c.args.toward c.args.over c.args.count old.position number old.index.sizes tape items
     (ap (λ (t : TapeState). t.before) (sym c.self.view_is)) (ap (λ (t : TapeState). t.after) (sym c.self.view_is)) are.sized
     (items_of-have (take (sum old.index.sizes) content))
     (omega (arith, c.self.invariant.within, many_shown content old.index.sizes old.is_torn are))
     c.space-ended.ensures.number
+
+pub returns-clause-items : goal.returns-clause-items
+returns-clause-items g c =
+    let old = c.self.inside in
+    let all = items_of (take (sum old.index.sizes) (g.S.Store.content old.store)) in
+    rw (← c.self.view_is) (take-append-drop c.space-ended.result.number all ∙ sym (take-append-drop old.position all))

@@ -40,6 +40,7 @@ returns-clause-done g c =
           (λ honest. w.told.ensures.told ∙ told_given asked incorrect got items _ w.in-Ok.passed (told.passed honest)
           (ap (λ (xs : List ℕ). drop 48 xs) (told.given honest) ∙ drop_at front (take asked items) 48 header))
           (λ steady honest. (told.succeeds steady honest).1)
+          (λ honest none. (told.unread honest none).1)
           told.rest
           (w.told.ensures.told ∙ told_shown asked incorrect got w.in-Ok.passed long)
           (λ none. any (told.nothing none))
@@ -47,5 +48,6 @@ returns-clause-done g c =
       | in-Err w ↦ rw (w.result-is, w.read_failed.ensures) (λ (bytes : List ℕ).
           let failed = rw w.in-Err.is at c.in_ok-passed.ensures in
           read_failed asked incorrect bytes unit new any failed.failed failed.back
-          (λ steady honest. false≢true (failed.succeeds steady honest).0))
+          (λ steady honest. false≢true (failed.succeeds steady honest).0)
+          (λ honest none. false≢true (failed.unread honest none).0))
     ])

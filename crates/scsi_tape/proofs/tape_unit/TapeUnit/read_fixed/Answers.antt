@@ -41,11 +41,13 @@ returns-clause-done g c =
           (λ honest. ap (λ (xs : List ℕ). drop 48 xs) (told.given honest)
           ∙ drop_at front (fixed_data blocks.count blocks.block_length unit.tape) 48 header)
           (λ steady honest. (told.succeeds steady honest).1)
+          (λ honest none. (told.unread honest none).1)
           told.rest gives
           (rw c.count-count.ensures.value at w.told_of_blocks.ensures.told)
           w.told_of_blocks.ensures.given)
       | in-Err w ↦ rw (w.result-is, w.read_failed.ensures) (λ (bytes : List ℕ).
-          let failed = rw w.in-Err.is at c.in_ok-done.ensures in
+          let failed = rw (w.in-Err.is, c.count-count.ensures.value, c.block_length.ensures.value) at c.in_ok-done.ensures in
           read_blocks_failed blocks bytes unit new any failed.failed failed.back
-          (λ steady honest. false≢true (failed.succeeds steady honest).0))
+          (λ steady honest. false≢true (failed.succeeds steady honest).0)
+          (λ honest none. false≢true (failed.unread honest none).0))
     ])
