@@ -87,6 +87,8 @@ impl<S: Store> Store for FailStore<S> {
 
     ghost reach = { λ store. S.Store.reach store.store };
 
+    ghost atomic = { λ store. S.Store.atomic store.store };
+
     fn len(&mut self) -> Result<u64, StoreFault>
         ensures len { IfOk result (λ n. IsTrue (S.Store.honest (store_of self.new))
             → n ≡ length (S.Store.content (store_of self.old))) }
@@ -98,6 +100,7 @@ impl<S: Store> Store for FailStore<S> {
         ensures synced { (S.Store.synced (store_of self.new) && not (is_torn self.new))
             ≡ (S.Store.synced (store_of self.old) && not (is_torn self.old)) }
         ensures reach { S.Store.reach (store_of self.new) ≡ S.Store.reach (store_of self.old) }
+        ensures atomic { S.Store.atomic (store_of self.new) ≡ S.Store.atomic (store_of self.old) }
         ensures failures { failures_of self.new ≡ counted_calls result (failures_of self.old) }
         ensures counted { HasCounted Call.Len self.old self.new }
         ensures refused { is_refused Call.Len self.old ≡ true → IsErr result × (store_of self.new ≡ store_of self.old) }
@@ -123,6 +126,7 @@ impl<S: Store> Store for FailStore<S> {
         ensures synced { (S.Store.synced (store_of self.new) && not (is_torn self.new))
             ≡ (S.Store.synced (store_of self.old) && not (is_torn self.old)) }
         ensures reach { S.Store.reach (store_of self.new) ≡ S.Store.reach (store_of self.old) }
+        ensures atomic { S.Store.atomic (store_of self.new) ≡ S.Store.atomic (store_of self.old) }
         ensures failures { failures_of self.new ≡ counted_calls result (failures_of self.old) }
         ensures counted { HasCounted Call.ReadAt self.old self.new }
         ensures refused { is_refused Call.ReadAt self.old ≡ true → IsErr result × (store_of self.new ≡ store_of self.old) }
@@ -142,9 +146,12 @@ impl<S: Store> Store for FailStore<S> {
         ensures written { OnOk result (S.Store.content (store_of self.new)
             ≡ written at bytes.now (S.Store.content (store_of self.old))) }
         ensures torn { OnErr result (KeepsOutside at (length bytes.now) (S.Store.content (store_of self.old)) (S.Store.content (store_of self.new))) }
+        ensures undone { OnErr result (IsTrue (S.Store.atomic (store_of self.old))
+            → S.Store.content (store_of self.new) ≡ S.Store.content (store_of self.old)) }
         ensures honest { S.Store.honest (store_of self.new) ≡ S.Store.honest (store_of self.old) }
         ensures synced { (S.Store.synced (store_of self.new) && not (is_torn self.new)) ≡ false }
         ensures reach { S.Store.reach (store_of self.new) ≡ S.Store.reach (store_of self.old) }
+        ensures atomic { S.Store.atomic (store_of self.new) ≡ S.Store.atomic (store_of self.old) }
         ensures failures { failures_of self.new ≡ counted_calls result (failures_of self.old) }
         ensures counted { HasCounted Call.WriteAt self.old self.new }
         ensures refused { is_refused Call.WriteAt self.old ≡ true → IsErr result × (store_of self.new ≡ store_of self.old) }
@@ -166,9 +173,12 @@ impl<S: Store> Store for FailStore<S> {
     fn set_len(&mut self, len: u64) -> Result<(), StoreFault>
         ensures resized { OnOk result (S.Store.content (store_of self.new) ≡ resized len (S.Store.content (store_of self.old))) }
         ensures torn { OnErr result (KeepsFront len (S.Store.content (store_of self.old)) (S.Store.content (store_of self.new))) }
+        ensures undone { OnErr result (IsTrue (S.Store.atomic (store_of self.old))
+            → S.Store.content (store_of self.new) ≡ S.Store.content (store_of self.old)) }
         ensures honest { S.Store.honest (store_of self.new) ≡ S.Store.honest (store_of self.old) }
         ensures synced { (S.Store.synced (store_of self.new) && not (is_torn self.new)) ≡ false }
         ensures reach { S.Store.reach (store_of self.new) ≡ S.Store.reach (store_of self.old) }
+        ensures atomic { S.Store.atomic (store_of self.new) ≡ S.Store.atomic (store_of self.old) }
         ensures failures { failures_of self.new ≡ counted_calls result (failures_of self.old) }
         ensures counted { HasCounted Call.SetLen self.old self.new }
         ensures refused { is_refused Call.SetLen self.old ≡ true → IsErr result × (store_of self.new ≡ store_of self.old) }
@@ -193,6 +203,7 @@ impl<S: Store> Store for FailStore<S> {
         ensures synced { (S.Store.synced (store_of self.new) && not (is_torn self.new)) ≡ (if is_ok result then true
             else (S.Store.synced (store_of self.old) && not (is_torn self.old))) }
         ensures reach { S.Store.reach (store_of self.new) ≡ S.Store.reach (store_of self.old) }
+        ensures atomic { S.Store.atomic (store_of self.new) ≡ S.Store.atomic (store_of self.old) }
         ensures failures { failures_of self.new ≡ counted_calls result (failures_of self.old) }
         ensures counted { HasCounted Call.Sync self.old self.new }
         ensures refused { is_refused Call.Sync self.old ≡ true → IsErr result × (store_of self.new ≡ store_of self.old) }

@@ -71,6 +71,8 @@ impl<C: FileCalls, S: Start> Store for FileStore<C, S> {
 
     ghost reach = { λ _. 0 };
 
+    ghost atomic = { λ _. false };
+
     fn len(&mut self) -> Result<u64, StoreFault>
         ensures len { IfOk result (λ n. IsTrue self.new.honest → n ≡ length self.old.content) }
         ensures agreed { IfOk result (λ n. n ≡ length self.old.content → self.new.honest ≡ self.old.honest) }

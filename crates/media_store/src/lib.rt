@@ -15,7 +15,8 @@
 //! - [`LyingStore`] is another store that gives wrong bytes once.
 //!
 //! Promised of every store: a call that fails raises the count of failures by one, and no other does.
-//! A failed write changes nothing outside its range, a failed read nothing at all.
+//! A failed write changes nothing outside its range, a failed read nothing at all. If a store is `atomic`, as one in
+//! memory is, no failed call changes a byte.
 #![tactic(auto)]
 
 mod again;

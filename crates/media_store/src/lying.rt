@@ -53,6 +53,8 @@ impl<S: Store> Store for LyingStore<S> {
 
     ghost reach = { λ store. S.Store.reach store.store };
 
+    ghost atomic = { λ store. S.Store.atomic store.store };
+
     fn len(&mut self) -> Result<u64, StoreFault>
         ensures len { IfOk result (λ n. IsTrue (S.Store.honest (store_of self.new) && not (has_lied self.new))
             → n ≡ length (S.Store.content (store_of self.old))) }
@@ -66,6 +68,7 @@ impl<S: Store> Store for LyingStore<S> {
         ensures content { S.Store.content (store_of self.new) ≡ S.Store.content (store_of self.old) }
         ensures synced { S.Store.synced (store_of self.new) ≡ S.Store.synced (store_of self.old) }
         ensures reach { S.Store.reach (store_of self.new) ≡ S.Store.reach (store_of self.old) }
+        ensures atomic { S.Store.atomic (store_of self.new) ≡ S.Store.atomic (store_of self.old) }
         ensures failures { S.Store.failures (store_of self.new) ≡ counted_calls result (S.Store.failures (store_of self.old)) }
         ensures kept { HasKept self.old self.new }
     {
@@ -83,6 +86,7 @@ impl<S: Store> Store for LyingStore<S> {
         ensures content { S.Store.content (store_of self.new) ≡ S.Store.content (store_of self.old) }
         ensures synced { S.Store.synced (store_of self.new) ≡ S.Store.synced (store_of self.old) }
         ensures reach { S.Store.reach (store_of self.new) ≡ S.Store.reach (store_of self.old) }
+        ensures atomic { S.Store.atomic (store_of self.new) ≡ S.Store.atomic (store_of self.old) }
         ensures failures { S.Store.failures (store_of self.new) ≡ counted_calls result (S.Store.failures (store_of self.old)) }
         ensures told { HasTold (length buf.old) (is_ok result) self.old self.new }
         ensures lie { OnOk result (IsTrue (S.Store.honest (store_of self.new))

@@ -118,6 +118,8 @@ impl Store for MemStore {
 
     ghost reach = { λ store. store.most };
 
+    ghost atomic = { λ _. true };
+
     fn len(&mut self) -> Result<u64, StoreFault>
         ensures value { result ≡ Ok (length self.old.content) }
         ensures after { self.new ≡ self.old }

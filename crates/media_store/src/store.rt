@@ -34,6 +34,10 @@ pub trait Store {
     /// How many bytes a steady store has room for.
     ghost reach: { Self → ℕ };
 
+    /// Whether a call that fails leaves the content as it was. So what is said of this content after a failure holds of
+    /// the content before any call that may fail.
+    ghost atomic: { Self → Bool };
+
     /// How many bytes there are.
     fn len(&mut self) -> Result<u64, StoreFault>
         ensures len { IfOk result (λ n. IsTrue (honest self.new) → n ≡ length (content self.old)) }
@@ -45,6 +49,7 @@ pub trait Store {
         ensures failures { failures self.new ≡ counted result (failures self.old) }
         ensures steady { steady self.new ≡ steady self.old }
         ensures reach { reach self.new ≡ reach self.old }
+        ensures atomic { atomic self.new ≡ atomic self.old }
         ensures succeeds { IsTrue (steady self.old) → IsOk result × (honest self.new ≡ honest self.old) };
 
     /// Fills a buffer with the bytes from an offset on. It fails where there are fewer.
@@ -58,6 +63,7 @@ pub trait Store {
         ensures failures { failures self.new ≡ counted result (failures self.old) }
         ensures steady { steady self.new ≡ steady self.old }
         ensures reach { reach self.new ≡ reach self.old }
+        ensures atomic { atomic self.new ≡ atomic self.old }
         ensures succeeds { IsTrue (steady self.old) → at + length buf.old ≤ length (content self.old)
             → IsOk result × (honest self.new ≡ honest self.old) };
 
@@ -66,11 +72,13 @@ pub trait Store {
     fn write_at(&mut self, at: u64, bytes: &[u8]) -> Result<(), StoreFault>
         ensures written { OnOk result (content self.new ≡ written at bytes.now (content self.old)) }
         ensures torn { OnErr result (KeepsOutside at (length bytes.now) (content self.old) (content self.new)) }
+        ensures undone { OnErr result (IsTrue (atomic self.old) → content self.new ≡ content self.old) }
         ensures honest { honest self.new ≡ honest self.old }
         ensures synced { synced self.new ≡ false }
         ensures failures { failures self.new ≡ counted result (failures self.old) }
         ensures steady { steady self.new ≡ steady self.old }
         ensures reach { reach self.new ≡ reach self.old }
+        ensures atomic { atomic self.new ≡ atomic self.old }
         ensures succeeds { IsTrue (steady self.old) → at + length bytes.now ≤ length (content self.old) → IsOk result }
         ensures grows { IsTrue (steady self.old) → at + length bytes.now ≤ reach self.old → IsOk result };
 
@@ -79,11 +87,13 @@ pub trait Store {
     fn set_len(&mut self, len: u64) -> Result<(), StoreFault>
         ensures resized { OnOk result (content self.new ≡ resized len (content self.old)) }
         ensures torn { OnErr result (KeepsFront len (content self.old) (content self.new)) }
+        ensures undone { OnErr result (IsTrue (atomic self.old) → content self.new ≡ content self.old) }
         ensures honest { honest self.new ≡ honest self.old }
         ensures synced { synced self.new ≡ false }
         ensures failures { failures self.new ≡ counted result (failures self.old) }
         ensures steady { steady self.new ≡ steady self.old }
         ensures reach { reach self.new ≡ reach self.old }
+        ensures atomic { atomic self.new ≡ atomic self.old }
         ensures succeeds { IsTrue (steady self.old) → len ≤ length (content self.old) → IsOk result }
         ensures grows { IsTrue (steady self.old) → len ≤ reach self.old → IsOk result };
 
@@ -95,5 +105,6 @@ pub trait Store {
         ensures failures { failures self.new ≡ counted result (failures self.old) }
         ensures steady { steady self.new ≡ steady self.old }
         ensures reach { reach self.new ≡ reach self.old }
+        ensures atomic { atomic self.new ≡ atomic self.old }
         ensures succeeds { IsTrue (steady self.old) → IsOk result };
 }

@@ -28,6 +28,8 @@ impl<F: Store> Store for MediumStore<F> {
 
     ghost reach = { by_kind (λ store. store.most) F.Store.reach };
 
+    ghost atomic = { by_kind (λ _. true) F.Store.atomic };
+
     fn len(&mut self) -> Result<u64, StoreFault> {
         match self {
             MediumStore::Memory(store) => store.len(),
