@@ -44,7 +44,7 @@ pub nothing_behind : (place : ℕ) (new : List ℕ) (is_torn : Bool) → place �
 unfolding items_in
 nothing_behind place new is_torn within whole = record { long = omega arith; is = refl; whole = λ none. whole none ∙ omega arith }
 
-or_false : (a b : Bool) → a || b ≡ false → (a ≡ false) × (b ≡ false)
+pub or_false : (a b : Bool) → a || b ≡ false → (a ≡ false) × (b ≡ false)
 or_false a b none = grind arith
 
 pub written_there : (content sizes new others : List ℕ) (was_torn : Bool) (position : ℕ) (more : List Item) → AreIn content sizes was_torn

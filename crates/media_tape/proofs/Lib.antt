@@ -1,6 +1,7 @@
 pub mod Items
 pub mod Found
 pub mod Writes
+pub mod Between
 pub mod Spelled
 pub mod Commands
 pub mod Alike

@@ -1,8 +1,8 @@
 -- What writes from a place on leave of a content, and what they put there.
 use Rattle.std.proofs.Common.{◌≡◌, ℕ, ◌+◌, ◌-◌, ◌≤◌, nat_lt, true, List, [], ◌∷◌, ◌++◌, length, take, drop, replicate, refl, sym}
-use Rattle.std.proofs.Common.{subst, ◌∙◌, arith, rules}
+use Rattle.std.proofs.Common.{min, ap, subst, ◌∙◌, arith, rules}
 use Rattle.std.proofs.lemmas.List.{append-nil, take-take, take_all, drop_all, take-append-le, length-append, length-take}
-use Rattle.media_store.specs.Content.{resized, written}
+use Rattle.media_store.specs.Content.{resized, written, KeepsOutside}
 use Rattle.media_tape.specs.Writing.{KeepsBefore}
 
 pub KeepsBefore-trans : (place : ℕ) (xs ys zs : List ℕ) → KeepsBefore place xs ys → KeepsBefore place ys zs → KeepsBefore place xs zs
@@ -30,6 +30,13 @@ KeepsBefore-written place at (byte ∷ bytes) content below within =
 
 pub KeepsBefore-put : (place at : ℕ) (bytes old new : List ℕ) → place ≤ at → new ≡ written at bytes old → KeepsBefore place old new
 KeepsBefore-put place at bytes old new below is = subst (KeepsBefore place old) (sym is) (KeepsBefore-written place at bytes old below)
+
+-- a write that failed
+pub KeepsBefore-torn : (place at n : ℕ) (old new : List ℕ) → place ≤ at → KeepsOutside at n old new → KeepsBefore place old new
+KeepsBefore-torn place at n old new below torn within = (
+  omega (arith, torn.no_shorter),
+  sym (take-take place (min at (length old)) new (omega arith)) ∙ ap (take place) torn.before ∙ take-take place at old below,
+)
 
 -- bytes behind all others
 pub written-behind : (at : ℕ) (bytes content : List ℕ) → length content ≡ at → written at bytes content ≡ content ++ bytes

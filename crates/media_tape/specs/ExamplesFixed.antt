@@ -19,6 +19,7 @@ tape_of before after = record {
   honest = true;
   steady = true;
   reach = 100;
+  atomic = true;
 }
 
 abbrev block : ℕ → List ℕ

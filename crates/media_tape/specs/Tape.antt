@@ -27,6 +27,8 @@ pub record TapeState : Type 0 where
   pub honest : Bool
   pub steady : Bool
   pub reach : ℕ
+  -- a call of it that fails changes no byte
+  pub atomic : Bool
 
 abbrev pub items : TapeState → List Item
 items tape = tape.before ++ tape.after

@@ -1,5 +1,5 @@
 -- What is written to a store, and what remains of it if a write to its end failed.
-use Rattle.std.specs.Prelude.{◌≡◌, ℕ, ◌*◌, ◌≤◌, ◌<◌, nat_lt, Bool, true, false, List, length, take, map, replicate, if◌then◌else◌}
+use Rattle.std.specs.Prelude.{◌≡◌, ℕ, ◌*◌, ◌≤◌, ◌<◌, ◌⊎◌, min, nat_lt, Bool, true, false, List, ◌++◌, length, take, map, replicate, if◌then◌else◌}
 use Rattle.media_tape.specs.Index.{mark_size, most_size}
 use Rattle.media_tape.specs.Items.{size, items_of}
 use Rattle.media_tape.specs.Tape.{TapeState, wrote_if_told, synced_if_told, written_synced, marked_synced}
@@ -13,6 +13,15 @@ use Rattle.media_tape.specs.declared.write.Objects.TheVariants as object
 -- own: the bytes before a place are as before, if it lies within them
 abbrev pub KeepsBefore : ℕ → List ℕ → List ℕ → Type 0
 KeepsBefore place old new = place ≤ length old → (place ≤ length new) × (take place new ≡ take place old)
+
+-- own: zeros after a content, in parts of 4096 bytes, but no more than these
+abbrev pub InParts : ℕ → List ℕ → List ℕ → Type 0
+InParts size old new = (parts : ℕ) × (new ≡ old ++ replicate (min (4096 * parts) size) 0)
+
+-- own: what a store holds between the calls of a write from a place on: what it held before, or the items before the
+-- place, and after them some whole filemarks
+abbrev pub StandsBetween : ℕ → List ℕ → List ℕ → Type 0
+StandsBetween place old new = (new ≡ old) ⊎ ((many : ℕ) × (new ≡ take place old ++ replicate (8 * many) 0))
 
 -- ---- own: objects that are written at once
 

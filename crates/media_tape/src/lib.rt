@@ -28,6 +28,10 @@
 //! - a write or a cut leaves the items before the position;
 //! - if an allocation failed, nothing changes.
 //!
+//! Between two calls of the store the tape is whole: what stands after the position is cut off before anything is
+//! written there. The clauses `between` say so of a store whose failed calls change no byte (`atomic`). On it a write or
+//! a cut that fails leaves whole items, whichever call failed.
+//!
 //! A call reports a fault only if the store's count of failures rose in it. No call of the store fails if it is honest
 //! and steady, and has room for the capacity, as one in memory is.
 #![tactic(auto)]

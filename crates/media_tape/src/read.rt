@@ -32,6 +32,7 @@ pub(crate) fn read_behind<S: Store>(
     ensures failures { S.Store.failures store.new ≡ counted result (S.Store.failures store.old) }
     ensures steady { S.Store.steady store.new ≡ S.Store.steady store.old }
     ensures reach { S.Store.reach store.new ≡ S.Store.reach store.old }
+    ensures atomic { S.Store.atomic store.new ≡ S.Store.atomic store.old }
     ensures succeeds { IsTrue (S.Store.steady store.old) → at + count ≤ length (S.Store.content store.old)
         → IsOk result × (S.Store.honest store.new ≡ S.Store.honest store.old) }
     ensures none { count ≡ 0 → IsOk result × (store.new ≡ store.old) }
@@ -82,6 +83,7 @@ pub(crate) fn read_blocks<S: Store>(
     ensures failures { IfOk result (λ done. S.Store.failures store.new ≡ counted done (S.Store.failures store.old)) }
     ensures steady { S.Store.steady store.new ≡ S.Store.steady store.old }
     ensures reach { S.Store.reach store.new ≡ S.Store.reach store.old }
+    ensures atomic { S.Store.atomic store.new ≡ S.Store.atomic store.old }
     ensures succeeds { IfOk result (λ done. IsTrue (S.Store.steady store.old)
         → place + count * (block_length + 8) ≤ length (S.Store.content store.old)
         → IsOk done × (S.Store.honest store.new ≡ S.Store.honest store.old)) }

@@ -51,6 +51,7 @@ impl<S: Store> Model for Tape<S> {
       honest = S.Store.honest tape.store;
       steady = S.Store.steady tape.store;
       reach = S.Store.reach tape.store;
+      atomic = S.Store.atomic tape.store;
     } };
 
     ghost invariant = { λ tape. IsIndexed (S.Store.honest tape.store) (S.Store.content tape.store) tape.index.sizes tape.is_torn tape.position tape.capacity };
@@ -75,6 +76,7 @@ impl<S: Store> Tape<S> {
         ensures failures { IfOk result (λ tape. tape.failures ≡ S.Store.failures store) }
         ensures steady { IfOk result (λ tape. tape.steady ≡ S.Store.steady store) }
         ensures reach { IfOk result (λ tape. tape.reach ≡ S.Store.reach store) }
+        ensures atomic { IfOk result (λ tape. tape.atomic ≡ S.Store.atomic store) }
         ensures back { IfOk result (λ tape. IsTrue tape.honest → IsTrue (S.Store.honest store)) }
         ensures stays { IfOk result (λ tape. IsTrue (S.Store.steady store) → IsTrue (S.Store.honest store) → IsTrue tape.honest) }
         ensures succeeds { IsTrue (S.Store.steady store) → IsTrue (S.Store.honest store) → is_tape (S.Store.content store) ≡ true

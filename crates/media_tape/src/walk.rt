@@ -28,6 +28,7 @@ pub(crate) fn walk<S: Store>(alloc: Global, store: &mut S, end: u64) -> Result<I
     ensures failed { IfErr result (λ fault. S.Store.failures store.new ≡ failures_after fault (S.Store.failures store.old)) }
     ensures steady { S.Store.steady store.new ≡ S.Store.steady store.old }
     ensures reach { S.Store.reach store.new ≡ S.Store.reach store.old }
+    ensures atomic { S.Store.atomic store.new ≡ S.Store.atomic store.old }
     ensures stays { IsTrue (S.Store.steady store.old) → end ≤ length (S.Store.content store.old)
         → S.Store.honest store.new ≡ S.Store.honest store.old }
     ensures succeeds { IfErr result (λ fault. IsTrue (S.Store.steady store.old) → end ≤ length (S.Store.content store.old)

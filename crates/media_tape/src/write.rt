@@ -4,7 +4,7 @@ ghost use Rattle.std.specs.Prelude.{◌≡◌, ◌+◌, ◌*◌, ◌≤◌, ◌<
 ghost use Rattle.media_store.specs.Failures.{counted};
 ghost use Rattle.media_tape.specs.Items.{most_bytes, spelling};
 ghost use Rattle.media_tape.specs.Fixed.{blocks_of};
-ghost use Rattle.media_tape.specs.Writing.{KeepsBefore, bytes_of, count_of, each_size, is_synced};
+ghost use Rattle.media_tape.specs.Writing.{KeepsBefore, StandsBetween, bytes_of, count_of, each_size, is_synced};
 
 use crate::item::LENGTHS;
 use crate::run::MARK_SIZE;
@@ -88,12 +88,14 @@ pub(crate) fn cut_at<S: Store>(store: &mut S, place: u64, is_longer: bool) -> Re
         → (is_longer ≡ false → length (S.Store.content store.old) ≡ place)
         → S.Store.content store.new ≡ take place (S.Store.content store.old)) }
     ensures keeps { KeepsBefore place (S.Store.content store.old) (S.Store.content store.new) }
+    ensures undone { OnErr result (IsTrue (S.Store.atomic store.old) → S.Store.content store.new ≡ S.Store.content store.old) }
     ensures honest { S.Store.honest store.new ≡ S.Store.honest store.old }
     ensures synced { is_longer ≡ true → S.Store.synced store.new ≡ false }
     ensures unsynced { OnErr result (S.Store.synced store.new ≡ false) }
     ensures failures { S.Store.failures store.new ≡ counted result (S.Store.failures store.old) }
     ensures steady { S.Store.steady store.new ≡ S.Store.steady store.old }
     ensures reach { S.Store.reach store.new ≡ S.Store.reach store.old }
+    ensures atomic { S.Store.atomic store.new ≡ S.Store.atomic store.old }
     ensures within { IsTrue (S.Store.steady store.old) → place ≤ length (S.Store.content store.old) → IsOk result }
     ensures succeeds { IsTrue (S.Store.steady store.old) → place ≤ S.Store.reach store.old → IsOk result }
 {
@@ -117,12 +119,16 @@ pub(crate) fn write_objects<S: Store>(
         → (is_longer ≡ false → length (S.Store.content store.old) ≡ place)
         → S.Store.content store.new ≡ take place (S.Store.content store.old) ++ bytes_of objects.now) }
     ensures keeps { KeepsBefore place (S.Store.content store.old) (S.Store.content store.new) }
+    ensures between { OnErr result (IsTrue (S.Store.atomic store.old) → place ≤ length (S.Store.content store.old)
+        → (is_longer ≡ false → length (S.Store.content store.old) ≡ place)
+        → StandsBetween place (S.Store.content store.old) (S.Store.content store.new)) }
     ensures honest { S.Store.honest store.new ≡ S.Store.honest store.old }
     ensures synced { OnOk result (S.Store.synced store.new ≡ is_synced objects.now) }
     ensures unsynced { OnErr result (S.Store.synced store.new ≡ false) }
     ensures failures { S.Store.failures store.new ≡ counted result (S.Store.failures store.old) }
     ensures steady { S.Store.steady store.new ≡ S.Store.steady store.old }
     ensures reach { S.Store.reach store.new ≡ S.Store.reach store.old }
+    ensures atomic { S.Store.atomic store.new ≡ S.Store.atomic store.old }
     ensures succeeds { IsTrue (S.Store.steady store.old) → place + length (bytes_of objects.now) ≤ S.Store.reach store.old
         → IsOk result }
 {

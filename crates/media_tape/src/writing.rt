@@ -2,7 +2,7 @@
 
 ghost use Rattle.std.specs.Prelude.{◌≡◌, ◌≢◌, ◌+◌, ◌*◌, ◌≤◌, ◌<◌, [], length, nat_lt, true, false, if◌then◌else◌, ◌||◌, IsTrue, IsOk, IfOk, OnOk, OnErr};
 ghost use Rattle.media_store.specs.Failures.{counted, risen};
-ghost use Rattle.media_tape.specs.Items.{most_bytes, size_of};
+ghost use Rattle.media_tape.specs.Items.{most_bytes, size_of, is_tape};
 ghost use Rattle.media_tape.specs.Tape.{size_told, write_told, tape_written, written_synced, marks_told, marked_synced, tape_marked, lost, erased};
 ghost use Rattle.media_tape.specs.Fixed.{fixed_written_told, tape_written_fixed, fixed_synced, IsPart};
 ghost use Rattle.media_tape.specs.Writing.{AreWhole, bytes_of, part_told, put_if_told, put_synced};
@@ -55,6 +55,8 @@ impl<S: Store> Tape<S> {
         ensures told { IfOk result (λ done. IfOk done (λ told. IsTrue self.old.honest → told ≡ write_told bytes.now self.old)) }
         ensures tape { IfOk result (λ done. OnOk done (IsTrue self.old.honest → self.new ≡ tape_written bytes.now self.old)) }
         ensures failed { IfOk result (λ done. OnErr done (IsTrue self.old.honest → self.new ≡ lost self.new.tail false self.old)) }
+        ensures between { IfOk result (λ done. OnErr done (IsTrue self.old.honest → IsTrue self.old.atomic → is_tape self.old.tail ≡ true
+            → is_tape self.new.tail ≡ true)) }
         ensures refused { IfOk result (λ done. IfOk done (λ told. told ≡ written.Refused → self.new ≡ self.old)) }
         ensures synced { IfOk result (λ done. IfOk done (λ told. bytes.now ≢ [] → self.new.synced ≡ written_synced told self.old.synced)) }
         ensures unsynced { IfOk result (λ done. OnErr done (self.new.synced ≡ false)) }
@@ -101,6 +103,8 @@ impl<S: Store> Tape<S> {
         ensures tape { IfOk result (λ done. OnOk done (IsTrue self.old.honest
             → self.new ≡ tape_written_fixed count block_length bytes.now self.old)) }
         ensures failed { IfOk result (λ done. OnErr done (IsTrue self.old.honest → self.new ≡ lost self.new.tail false self.old)) }
+        ensures between { IfOk result (λ done. OnErr done (IsTrue self.old.honest → IsTrue self.old.atomic → is_tape self.old.tail ≡ true
+            → is_tape self.new.tail ≡ true)) }
         ensures part { IfOk result (λ done. IfOk done (λ told. IsPart count told)) }
         ensures refused { IfOk result (λ done. IfOk done (λ told. told ≡ fixed_written.Part 0 → self.new ≡ self.old)) }
         ensures synced { IfOk result (λ done. IfOk done (λ told. bytes.now ≢ [] → self.new.synced ≡ fixed_synced told self.old.synced)) }
@@ -147,6 +151,8 @@ impl<S: Store> Tape<S> {
         ensures told { IfOk result (λ done. IfOk done (λ told. IsTrue self.old.honest → told ≡ marks_told count self.old)) }
         ensures tape { IfOk result (λ done. OnOk done (IsTrue self.old.honest → self.new ≡ tape_marked count self.old)) }
         ensures failed { IfOk result (λ done. OnErr done (IsTrue self.old.honest → count ≢ 0 → self.new ≡ lost self.new.tail false self.old)) }
+        ensures between { IfOk result (λ done. OnErr done (IsTrue self.old.honest → IsTrue self.old.atomic → is_tape self.old.tail ≡ true
+            → is_tape self.new.tail ≡ true)) }
         ensures none { IfOk result (λ done. IfOk done (λ told. count ≡ 0
             → (told ≡ written.Whole) × (self.new ≡ record self.old { synced = true }))) }
         ensures none_failed { IfOk result (λ done. OnErr done (count ≡ 0 → self.new ≡ record self.old { failures = risen self.old.failures })) }
@@ -182,6 +188,8 @@ impl<S: Store> Tape<S> {
         ensures tape { IfOk result (λ done. OnOk done (IsTrue self.old.honest
             → self.new ≡ put_if_told objects.now (size_told (length (bytes_of objects.now)) self.old) self.old)) }
         ensures failed { IfOk result (λ done. OnErr done (IsTrue self.old.honest → self.new ≡ lost self.new.tail false self.old)) }
+        ensures between { IfOk result (λ done. OnErr done (IsTrue self.old.honest → IsTrue self.old.atomic → is_tape self.old.tail ≡ true
+            → is_tape self.new.tail ≡ true)) }
         ensures refused { IfOk result (λ done. IfOk done (λ told. told ≡ written.Refused → self.new ≡ self.old)) }
         ensures synced { IfOk result (λ done. IfOk done (λ told. self.new.synced ≡ put_synced objects.now told self.old.synced)) }
         ensures unsynced { IfOk result (λ done. OnErr done (self.new.synced ≡ false)) }
@@ -236,6 +244,8 @@ impl<S: Store> Tape<S> {
     pub fn erase(&mut self) -> Result<(), StoreFault>
         ensures tape { OnOk result (IsTrue self.old.honest → self.new ≡ erased self.old) }
         ensures failed { OnErr result (IsTrue self.old.honest → self.new ≡ lost self.new.tail false self.old) }
+        ensures between { OnErr result (IsTrue self.old.honest → IsTrue self.old.atomic → is_tape self.old.tail ≡ true
+            → is_tape self.new.tail ≡ true) }
         ensures honest { self.new.honest ≡ self.old.honest }
         ensures rest { self.new ≡ record self.old {
           before = self.new.before;

@@ -2,7 +2,7 @@
 
 ghost use Rattle.std.specs.Prelude.{◌≡◌, ◌+◌, ◌≤◌, ◌<◌, ◌^◌, ◌++◌, true, false, length, replicate, IsTrue, IsOk, OnOk, OnErr};
 ghost use Rattle.media_store.specs.Failures.{counted};
-ghost use Rattle.media_tape.specs.Writing.{KeepsBefore};
+ghost use Rattle.media_tape.specs.Writing.{KeepsBefore, InParts};
 
 use media_store::{Store, StoreFault};
 
@@ -15,6 +15,8 @@ pub(crate) fn write_zeros<S: Store>(store: &mut S, place: u64, size: u64) -> Res
     requires some { 0 < size }
     ensures written { OnOk result (length (S.Store.content store.old) ≡ place
         → S.Store.content store.new ≡ S.Store.content store.old ++ replicate size 0) }
+    ensures between { OnErr result (IsTrue (S.Store.atomic store.old) → length (S.Store.content store.old) ≡ place
+        → InParts size (S.Store.content store.old) (S.Store.content store.new)) }
     ensures keeps { KeepsBefore place (S.Store.content store.old) (S.Store.content store.new) }
     ensures honest { S.Store.honest store.new ≡ S.Store.honest store.old }
     ensures synced { OnOk result (S.Store.synced store.new ≡ true) }
@@ -22,6 +24,7 @@ pub(crate) fn write_zeros<S: Store>(store: &mut S, place: u64, size: u64) -> Res
     ensures failures { S.Store.failures store.new ≡ counted result (S.Store.failures store.old) }
     ensures steady { S.Store.steady store.new ≡ S.Store.steady store.old }
     ensures reach { S.Store.reach store.new ≡ S.Store.reach store.old }
+    ensures atomic { S.Store.atomic store.new ≡ S.Store.atomic store.old }
     ensures succeeds { IsTrue (S.Store.steady store.old) → place + size ≤ S.Store.reach store.old → IsOk result }
 {
     let zeros = [0; PART as usize];

@@ -26,6 +26,7 @@ tape_of before after = record {
   honest = true;
   steady = true;
   reach = 100;
+  atomic = true;
 }
 
 abbrev five : List ℕ

@@ -132,6 +132,7 @@ empty = record {
   honest = true;
   steady = true;
   reach = 100000;
+  atomic = true;
 }
 
 abbrev pub empty_tape : DeviceState

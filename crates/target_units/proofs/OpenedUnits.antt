@@ -65,8 +65,8 @@ nothing_is_a_tape = refl
 -- a tape that was opened over nothing
 pub empty_opened : (capacity early : ℕ) (tape : TapeState) → tape.before ≡ [] → tape.after ≡ [] → tape.tail ≡ [] → tape.is_loaded ≡ true
     → tape.capacity ≡ capacity → tape.early_mark ≡ early → tape.synced ≡ false → tape.failures ≡ 0 → tape.honest ≡ true → tape.steady ≡ true
-    → tape.reach ≡ capacity → tape ≡ empty_tape capacity early
-empty_opened capacity early tape before after tail loaded most mark synced failures honest steady reach =
+    → tape.reach ≡ capacity → tape.atomic ≡ true → tape ≡ empty_tape capacity early
+empty_opened capacity early tape before after tail loaded most mark synced failures honest steady reach atomic =
     ap (λ (x : List Item). record tape { before = x }) before
     ∙ ap (λ (x : List Item). record tape { before = []; after = x }) after
     ∙ ap (λ (x : List ℕ). record tape { before = []; after = []; tail = x }) tail
@@ -77,7 +77,8 @@ empty_opened capacity early tape before after tail loaded most mark synced failu
     ∙ ap (λ (x : ℕ). record tape { before = []; after = []; tail = []; is_loaded = true; capacity = capacity; early_mark = early; synced = false; failures = x }) failures
     ∙ ap (λ (x : Bool). record tape { before = []; after = []; tail = []; is_loaded = true; capacity = capacity; early_mark = early; synced = false; failures = 0; honest = x }) honest
     ∙ ap (λ (x : Bool). record tape { before = []; after = []; tail = []; is_loaded = true; capacity = capacity; early_mark = early; synced = false; failures = 0; honest = true; steady = x }) steady
-    ∙ ap (λ (x : ℕ). record (empty_tape capacity early) { reach = x }) reach
+    ∙ ap (λ (x : ℕ). record (empty_tape capacity early) { reach = x; atomic = tape.atomic }) reach
+    ∙ ap (λ (x : Bool). record (empty_tape capacity early) { atomic = x }) atomic
 
 -- a unit over its medium
 pub unit_over : (held : Held) (entry : UnitEntry) (lun : ℕ) (medium : DeviceState) (unit : UnitState) → unit ≡ free_unit lun entry.serial medium

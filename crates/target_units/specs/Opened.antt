@@ -31,6 +31,7 @@ empty_tape capacity early = record {
   honest = true;
   steady = true;
   reach = capacity;
+  atomic = true;
 }
 
 -- own: a disk in a file when it is opened. If the file reported its length correctly, its blocks are those that it held

@@ -23,6 +23,7 @@ loop-window-preserved g c =
       failures = told.failures ∙ kept.failures;
       steady = told.steady ∙ kept.steady;
       reach = told.reach ∙ kept.reach;
+      atomic = told.atomic ∙ kept.atomic;
       back = λ honest. kept.back (told.back honest);
       stays = λ steady long. (told.succeeds (kept.steady ∙ steady) (rw kept.content long)).1 ∙ kept.stays steady long;
       window = told.window;

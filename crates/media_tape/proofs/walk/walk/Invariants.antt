@@ -11,6 +11,7 @@ invariant-loop-window g l = record {
   failures : g.S.Store.failures l.store ≡ g.S.Store.failures l.initial.store;
   steady : g.S.Store.steady l.store ≡ g.S.Store.steady l.initial.store;
   reach : g.S.Store.reach l.store ≡ g.S.Store.reach l.initial.store;
+  atomic : g.S.Store.atomic l.store ≡ g.S.Store.atomic l.initial.store;
   back : IsTrue (g.S.Store.honest l.store) → IsTrue (g.S.Store.honest l.initial.store);
   stays : IsTrue (g.S.Store.steady l.initial.store) → l.end ≤ length (g.S.Store.content l.initial.store)
       → g.S.Store.honest l.store ≡ g.S.Store.honest l.initial.store;

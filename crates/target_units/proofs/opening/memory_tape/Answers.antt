@@ -23,4 +23,4 @@ returns-in-Ok g c =
     empty_opened c.args.capacity c.args.early c.in-Ok.tape (told.before honest)
     (told.after honest ∙ ap (λ (s : MemoryState). items_of s.content) made ∙ nothing_stands) (told.tail honest) told.set.0 told.set.1 told.set.2
     (told.synced ∙ ap (λ (s : MemoryState). s.synced) made) (told.failures ∙ ap (λ (s : MemoryState). s.failures) made) honest told.steady
-    (told.reach ∙ ap (λ (s : MemoryState). s.most) made)
+    (told.reach ∙ ap (λ (s : MemoryState). s.most) made) told.atomic

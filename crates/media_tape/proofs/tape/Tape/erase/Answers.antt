@@ -1,8 +1,9 @@
-use Rattle.std.proofs.Common.{◌≡◌, ◌≤◌, length, take, sum, ap, refl, arith, ◌∙◌, true, false, IsTrue}
+use Rattle.std.proofs.Common.{◌≡◌, ◌≤◌, length, take, sum, ap, refl, arith, ◌∙◌, true, false, IsTrue, inl}
 use Rattle.std.proofs.lemmas.List.{append-nil, length-take-le}
 use Rattle.std.proofs.lemmas.List.Sums.{sum_by-take-le}
 use Rattle.media_tape.proofs.Indexed.{cut_left, cut_indexed}
 use Rattle.media_store.proofs.Outcomes.{OnErr-always}
+use Rattle.media_tape.proofs.Between.{between}
 use Rattle.media_tape.proofs.tape.Tape.erase.Given as given
 use Rattle.media_tape.proofs.tape.Tape.erase.Goals as goal
 
@@ -23,7 +24,14 @@ returns-in_err-cut_at-clause-failed g c =
     (c.self.invariant.are_in honest) c.self.invariant.within keeps (λ none. absurd cc) in
     let kept = c.cut_at.ensures in
     rw (c.truncate.ensures.sizes, are.before, append-nil (take old.position _), are.after, c.in_err-cut_at.ensures.unsynced)
-    (rw (c.in_err-cut_at.ensures.failures, kept.honest, kept.steady, kept.reach) refl)))
+    (rw (c.in_err-cut_at.ensures.failures, kept.honest, kept.steady, kept.reach, kept.atomic) refl)))
+
+pub returns-in_err-cut_at-clause-between : goal.returns-in_err-cut_at-clause-between
+returns-in_err-cut_at-clause-between g c =
+    let old = c.self.inside in
+    rw (← c.self.view_is) (OnErr-always c.from_residual.result (λ honest atomic clean.
+    rw c.truncate.ensures.sizes (between (g.S.Store.content old.store) old.index.sizes (g.S.Store.content c.cut_at.new.store) old.is_torn old.position
+    (c.self.invariant.are_in honest) c.self.invariant.within clean (λ below ends. inl (c.in_err-cut_at.ensures.undone atomic)))))
 
 whole : (g : given.Over) (c : goal.After-self-2-1 g) → IsTrue (g.S.Store.honest c.self.inside.store)
     → length (g.S.Store.content c.cut_at.new.store) ≡ sum (take c.self.inside.position c.self.inside.index.sizes)
@@ -52,4 +60,4 @@ returns-clause-tape g c honest =
     (c.self.invariant.are_in was) c.self.invariant.within keeps (λ none. whole g c was) in
     let kept = c.cut_at.ensures in
     rw (← c.self.view_is, c.truncate.ensures.sizes, are.before, are.after, are.tail refl, c.in_ok-cut_at.ensures.synced refl)
-    (rw (c.in_ok-cut_at.ensures.failures, kept.honest, kept.steady, kept.reach) refl)
+    (rw (c.in_ok-cut_at.ensures.failures, kept.honest, kept.steady, kept.reach, kept.atomic) refl)

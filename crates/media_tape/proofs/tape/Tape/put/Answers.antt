@@ -11,6 +11,7 @@ use Rattle.media_tape.proofs.Alike.{sum-replicate}
 use Rattle.media_tape.proofs.Sizes.{sum-sizes}
 use Rattle.media_tape.proofs.Indexed.{placed, HasEnd, written_there, left, left_indexed, cut_left, cut_indexed}
 use Rattle.media_tape.proofs.Commands.{refused_told, put_refused, fitting_told, put_fitting}
+use Rattle.media_tape.proofs.Between.{between}
 use Rattle.media_tape.proofs.tape.Tape.put.Given as given
 use Rattle.media_tape.proofs.tape.Tape.put.Goals as goal
 
@@ -121,7 +122,8 @@ returns-in-Ok-clause-tape g c honest =
     let told = fitting_told (length (bytes_of objects)) tape (fits g c honest) in
     let kept = c.in-Ok.ensures in
     rw (told, (put_fitting objects (nat_lt tape.early_mark (size_of tape.before + length (bytes_of objects))) tape.synced tape).0)
-    (rw (← c.self.view_is, sizes_are g c, done.before, done.after, done.tail refl, kept.synced, kept.failures, kept.honest, kept.steady, kept.reach) refl)
+    (rw (← c.self.view_is, sizes_are g c, done.before, done.after, done.tail refl)
+    (rw (kept.synced, kept.failures, kept.honest, kept.steady, kept.reach, kept.atomic) refl))
 
 pub invariant_of-self-in-Err : goal.invariant_of-self-in-Err
 invariant_of-self-in-Err g c =
@@ -139,7 +141,7 @@ returns-in-Err-clause-failed g c honest =
     (c.self.invariant.are_in (rw (← c.self.view_is) at honest)) c.self.invariant.within keeps (λ none. absurd cc) in
     let kept = c.in-Err.ensures in
     rw (← c.self.view_is, c.truncate.ensures.sizes, c.in_ok-reserve_one.ensures.sizes, are.before, append-nil (take old.position _), are.after)
-    (rw (kept.unsynced, kept.failures, kept.honest, kept.steady, kept.reach) refl)
+    (rw (kept.unsynced, kept.failures, kept.honest, kept.steady, kept.reach, kept.atomic) refl)
 
 pub returns-in-Err-clause-fits : goal.returns-in-Err-clause-fits
 returns-in-Err-clause-fits g c honest =
@@ -148,3 +150,13 @@ returns-in-Err-clause-fits g c honest =
     let below = sum_by-take-le (λ n. n) old.index.sizes old.position in
     rw (← c.self.view_is)
     (omega (arith, here, c.place_of-place.ensures, c.size-size.ensures, c.if-self-place.false, c.self.invariant.fits, below))
+
+pub returns-in-Err-clause-between : goal.returns-in-Err-clause-between
+returns-in-Err-clause-between g c honest atomic whole =
+    let old = c.self.inside in
+    let stands = rw (c.place_of-place.ensures, c.is_longer-is_longer.ensures, c.count.ensures, c.in_ok-reserve_one.ensures.sizes) at
+    c.in-Err.ensures.between in
+    let is = between (g.S.Store.content old.store) old.index.sizes (g.S.Store.content c.write_objects.new.store) old.is_torn old.position
+    (c.self.invariant.are_in (rw (← c.self.view_is) at honest)) c.self.invariant.within (rw (← c.self.view_is) at whole)
+    (stands (rw (← c.self.view_is) at atomic)) in
+    rw (c.truncate.ensures.sizes, c.in_ok-reserve_one.ensures.sizes) is

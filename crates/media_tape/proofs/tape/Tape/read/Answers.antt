@@ -55,7 +55,7 @@ returns-in-Ok-clause-tape g c honest =
     let some : (c.args.asked == 0) ≡ false = search rules in
     let kept = c.in-Ok.ensures in
     rw (← c.self.view_is, some, kept.content, take-add old.position 1 items, ← drop-drop 1 old.position items)
-    (rw (kept.synced, kept.failures, honest, kept.back honest, kept.steady, kept.reach) refl)
+    (rw (kept.synced, kept.failures, honest, kept.back honest, kept.steady, kept.reach, kept.atomic) refl)
 
 pub returns-in-Ok-clause-succeeds : goal.returns-in-Ok-clause-succeeds
 returns-in-Ok-clause-succeeds g c steady honest =

@@ -76,7 +76,7 @@ returns-in-Ok-clause-tape g c honest =
     let kept = c.in_ok-done.ensures in
     let failures = rw c.in-Ok.is at kept.failures in
     rw (← c.self.view_is, kept.content, c.passed_blocks.ensures, is.told, take-add old.position passed items, ← drop-drop passed old.position items)
-    (rw (kept.synced, failures, honest, back, kept.steady, kept.reach) refl)
+    (rw (kept.synced, failures, honest, back, kept.steady, kept.reach, kept.atomic) refl)
 
 pub returns-in-Ok-clause-succeeds : goal.returns-in-Ok-clause-succeeds
 returns-in-Ok-clause-succeeds g c steady honest =
