@@ -16,7 +16,7 @@ failing = (refl, refl, refl)
 going_on : (has_failed (NotSynced true) ≡ false) × (has_failed (Read 2 (3 ∷ []) 4) ≡ false) × (has_failed (Wrote 2 [] 0) ≡ false)
 going_on = (refl, refl, refl)
 
--- a read behind the end, a write, and a sync that was interrupted and then failed
+-- a read after the end, a write, and a sync that was interrupted and then failed
 two_failed : failed_calls (NotSynced false ∷ NotSynced true ∷ Wrote 1 (5 ∷ []) 1 ∷ Read 3 [] 1 ∷ opened) ≡ 2
 two_failed = refl
 
@@ -56,8 +56,8 @@ read_whole = record {
   ended = record { made = Read 2 (3 ∷ []) 1 ∷ NotRead 2 1 true ∷ Read 0 (1 ∷ 2 ∷ []) 3 ∷ []; calls = refl; asked = refl; ended = refl };
 }
 
-read_behind_the_end : HasRead origin 2 (3 ∷ 9 ∷ []) false opened (Read 3 [] 1 ∷ Read 2 (3 ∷ []) 2 ∷ opened)
-read_behind_the_end = record {
+read_after_the_end : HasRead origin 2 (3 ∷ 9 ∷ []) false opened (Read 3 [] 1 ∷ Read 2 (3 ∷ []) 2 ∷ opened)
+read_after_the_end = record {
   count = 1;
   within = leb-true 1 2 refl;
   whole = λ ok. ap (λ b. if b then 2 else 1) ok;

@@ -8,14 +8,14 @@ use Rattle.media_store.specs.declared.fail.FailStore.{FailStore}
 abbrev pub store_of : {S : Type 0} → FailStore S → S
 store_of failing = failing.store
 
--- own: how many calls it failed, and whether a write or a cut was refused behind which nothing was synced
+-- own: how many calls it failed, and whether a write or a cut was refused after which nothing was synced
 abbrev pub failures_of : {S : Type 0} → FailStore S → ℕ
 failures_of failing = failing.failures
 
 abbrev pub is_torn : {S : Type 0} → FailStore S → Bool
 is_torn failing = failing.torn
 
--- own: it refuses these calls from this many on, and has refused none
+-- own: it refuses these calls after this number of them, and has refused none
 pub record IsFresh {S : Type 0} (only : Option Call) (left : ℕ) (failing : FailStore S) : Type 0 where
   pub only_is : failing.only ≡ only
   pub left_is : failing.left ≡ left

@@ -21,7 +21,7 @@ module _ {S : Type 0} {g : Ghosts S} where
   abbrev pub left_of : LyingStore S g → ℕ
   left_of lying = lying.left
 
-  -- own: whether a read into a buffer of so many bytes is the one at which it lies, where it succeeds
+  -- own: whether a read into a buffer of this length is the one at which it lies, if it succeeds
   abbrev pub is_lie : ℕ → LyingStore S g → Bool
   is_lie length lying = nat_lt 0 length && not lying.has_lied && lying.left == 0
 

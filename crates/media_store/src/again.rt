@@ -7,7 +7,7 @@ use crate::fault::StoreFault;
 use crate::file_calls::FileCalls;
 use crate::interruption::{TRIES, is_interrupted};
 
-/// Where the end is.
+/// Returns where the end is.
 pub(crate) fn measure<C: FileCalls>(calls: &mut C) -> Result<u64, StoreFault>
     ensures { Tries Measured NotMeasured result (C.FileCalls.calls calls.old) (C.FileCalls.calls calls.new) }
 {

@@ -27,13 +27,13 @@ pub struct FailStore<S: Store> {
     only: Option<Call>,
     /// How many of these calls are still passed on.
     left: u64,
-    /// Whether a write or a cut was refused, and nothing was synced behind it.
+    /// Whether a write or a cut was refused, and nothing was synced after it.
     torn: bool,
     failures: u64,
 }
 
 impl<S: Store> FailStore<S> {
-    /// Passes on so many calls, of this one kind where one is named, and refuses those behind them.
+    /// Passes on `left` calls, of this one kind if one is named, and refuses those after them.
     pub fn new(store: S, only: Option<Call>, left: u64) -> FailStore<S>
         ensures store { store_of result ≡ store }
         ensures fresh { IsFresh only left result }
@@ -47,7 +47,7 @@ impl<S: Store> FailStore<S> {
         }
     }
 
-    /// The other store.
+    /// Returns the other store.
     pub fn store(&self) -> &S
         ensures { result.now ≡ store_of self.now }
     {
@@ -55,7 +55,7 @@ impl<S: Store> FailStore<S> {
     }
 }
 
-/// Counts a call. Whether it is refused, since none is left.
+/// Counts a call. Returns whether it is refused, since none is left.
 fn refuses(only: Option<Call>, call: Call, left: &mut u64) -> bool
     ensures refused { result ≡ (is_counted only call && left.old == 0) }
     ensures left { left.new ≡ (if is_counted only call then left.old - 1 else left.old) }

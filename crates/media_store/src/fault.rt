@@ -10,7 +10,7 @@ use thiserror::Error;
 #[error("the store failed")]
 pub struct StoreFault;
 
-/// The fault of a call, which is counted.
+/// Counts a call that failed, and returns its fault.
 pub(crate) fn count(failures: &mut u64) -> StoreFault
     ensures { failures.new ≡ risen failures.old }
 {
@@ -18,7 +18,7 @@ pub(crate) fn count(failures: &mut u64) -> StoreFault
     StoreFault
 }
 
-/// The result of a call, which is counted where it failed.
+/// Counts a call if it failed, and returns its result.
 pub(crate) fn counted<T, E: Drop>(
     outcome: Result<T, E>,
     failures: &mut u64,

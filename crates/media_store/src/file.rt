@@ -16,13 +16,13 @@ use crate::store::Store;
 use crate::whole::{read_whole, write_whole};
 use std::marker::{Model, PhantomData};
 
-/// The bytes of an open file, or of a block device. Each call is one call of the system, or a few
-/// where the system does a part only or a signal interrupts it.
+/// The bytes of an open file, or of a block device. Each call is one call of the system, or a few if the system does a
+/// part only or a signal interrupts it.
 ///
 /// All is read from the calls so far. The content is what the file at the path that was opened held then, as `S`
 /// says, after these calls. It is honest as long as every length and every byte that the system told agrees with
-/// that content, and synced where a sync has succeeded behind all that changed it. A call of the store fails only
-/// where one of the system did that no signal interrupted, or where it is given up, and is counted from that note.
+/// that content, and synced if a sync has succeeded after all that changed it. A call of the store fails only if one of
+/// the system did that no signal interrupted, or if it is given up, and is counted from that note.
 #[derive(Drop)]
 pub struct FileStore<C: FileCalls, S: Start> {
     calls: C,
@@ -46,7 +46,7 @@ impl<C: FileCalls, S: Start> Model for FileStore<C, S> {
 }
 
 impl<C: FileCalls, S: Start> FileStore<C, S> {
-    /// The store of a file that was opened for reading and writing, at the path that its calls bear.
+    /// Returns the store of a file that was opened for reading and writing, at the path in its calls.
     pub fn new(calls: C) -> FileStore<C, S>
         ensures { (path : List ℕ) → C.FileCalls.calls calls ≡ Opened path ∷ []
             → result ≡ record { calls = Opened path ∷ []; content = S.Start.held path; honest = true; synced = false; failures = 0 } }

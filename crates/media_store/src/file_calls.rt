@@ -11,16 +11,16 @@ pub trait FileCalls {
     /// The calls so far with their answers, the newest first. The oldest is the opening of the file.
     ghost calls: { Self → List FileCall };
 
-    /// Where the end is.
+    /// Returns where the end is.
     fn end(&mut self) -> io::Result<u64>
         ensures { calls self.new ≡ measuring result ∷ calls self.old };
 
-    /// Reads some bytes from an offset on into the front of a buffer. How many, or 0 at the end.
+    /// Reads some bytes from an offset on into the front of a buffer. Returns the number of bytes, 0 at the end.
     fn read_some(&mut self, at: u64, buf: &mut [u8]) -> io::Result<usize>
         ensures count { IfOk result (λ count. count ≤ length buf.new) }
         ensures noted { calls self.new ≡ reading at buf.new result ∷ calls self.old };
 
-    /// Writes a front of the bytes from an offset on. How many.
+    /// Writes a front of the bytes from an offset on. Returns the number of bytes.
     fn write_some(&mut self, at: u64, bytes: &[u8]) -> io::Result<usize>
         ensures count { IfOk result (λ count. count ≤ length bytes.now) }
         ensures noted { calls self.new ≡ writing at bytes.now result ∷ calls self.old };

@@ -6,7 +6,7 @@ ghost use Rattle.media_store.specs.Calls.{was_interrupted};
 use std::io;
 use std::io::ErrorKind;
 
-/// How many calls of the system one call of a store makes at most.
+/// The most calls of the system that one call of a store makes.
 pub(crate) const TRIES: u64 = u64::MAX;
 
 /// Returns whether an error says that a signal interrupted the call.

@@ -22,7 +22,7 @@ pub struct LyingStore<S: Store> {
 impl<S: Store> LyingStore<S> {
     ghost use Rattle.media_store.specs.Lying.{store_of, has_lied, left_of};
 
-    /// Lies at the read behind so many true ones. The other store is one whose reads agree with its
+    /// Lies at the read after `left` true ones. The other store is one whose reads agree with its
     /// content, or a lie could hide a lie.
     pub fn new(store: S, left: u64) -> LyingStore<S>
         requires { S.Store.steady store ≡ true }

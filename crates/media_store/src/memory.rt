@@ -32,7 +32,7 @@ impl Model for MemStore {
 }
 
 impl MemStore {
-    /// A store of so many zero bytes that may grow up to `most` bytes.
+    /// Returns a store of `len` zero bytes that may grow up to `most` bytes.
     pub fn new(alloc: Global, len: usize, most: usize) -> Result<MemStore, AllocError>
         requires { len ≤ most }
         ensures { IfOk result (λ store. store ≡ record { content = replicate len 0; most = most; synced = false; failures = 0 }) }
@@ -67,7 +67,7 @@ fn overwrite(content: &mut Vec<u8>, at: usize, bytes: &[u8])
     content[at..at + bytes.len()].copy_from_slice(bytes);
 }
 
-/// Writes bytes behind all that stand there, where there is room for them.
+/// Writes bytes after all that stand there, if there is room for them.
 fn append(content: &mut Vec<u8>, bytes: &[u8])
     requires { length content.old.items + length bytes.now ≤ vec_capacity content.old }
     ensures written { content.new.items ≡ content.old.items ++ bytes.now }
@@ -98,7 +98,7 @@ fn write(content: &mut Vec<u8>, at: usize, bytes: &[u8])
     overwrite(content, at, bytes);
 }
 
-/// Whether a range of this length lies below an end.
+/// Returns whether a range of this length lies below an end.
 fn is_below(at: u64, length: usize, end: usize) -> bool
     ensures { IsTrue result ↔ (at + length ≤ end) }
 {

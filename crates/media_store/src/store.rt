@@ -38,7 +38,7 @@ pub trait Store {
     /// the content before any call that may fail.
     ghost atomic: { Self → Bool };
 
-    /// How many bytes there are.
+    /// Returns the number of bytes.
     fn len(&mut self) -> Result<u64, StoreFault>
         ensures len { IfOk result (λ n. IsTrue (honest self.new) → n ≡ length (content self.old)) }
         ensures agreed { IfOk result (λ n. n ≡ length (content self.old) → honest self.new ≡ honest self.old) }
