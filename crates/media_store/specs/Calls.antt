@@ -5,20 +5,23 @@ use Rattle.std.specs.declared.io.Error.{Error}
 use Rattle.std.specs.declared.io.ErrorKind.{ErrorKind}
 use Rattle.std.specs.declared.io.ErrorKind.TheVariants as kinds
 use Rattle.call_record.specs.Noted.{Noted}
-use Rattle.media_store.specs.declared.system_file.TheConstants.{END, READ, WRITE, RESIZE, SYNC, OPEN}
+use Rattle.media_store.specs.declared.system_file.TheConstants.{END, READ, WRITE, RESIZE, SYNC, OPEN, LOCK}
 
 -- own: a call with its answer; offsets, lengths and counts are in bytes. One that failed says whether a signal
 -- interrupted it
 pub data FileCall : Type 0 where
-  -- the file at this path was opened
+  -- the file at this path was opened, or was not
   Opened : (path : List ℕ) → FileCall
+  NotOpened : (path : List ℕ) → FileCall
+  -- the file was not locked; a lock that was taken has no note
+  NotLocked : FileCall
   -- where the end is, or that it was not told
   Measured : (len : ℕ) → FileCall
   NotMeasured : (interrupted : Bool) → FileCall
-  -- these bytes, of so many, came from an offset on, or a read of so many failed
+  -- these bytes, of the number asked for, came from an offset on, or a read of that number failed
   Read : (at : ℕ) (bytes : List ℕ) (count : ℕ) → FileCall
   NotRead : (at count : ℕ) (interrupted : Bool) → FileCall
-  -- these bytes, of so many, were taken at an offset, or a write of so many failed
+  -- these bytes, of the number offered, were taken at an offset, or a write of that number failed
   Wrote : (at : ℕ) (bytes : List ℕ) (count : ℕ) → FileCall
   NotWritten : (at count : ℕ) (interrupted : Bool) → FileCall
   -- the file has this length, or may have it
@@ -71,13 +74,15 @@ succeeded kind number count bytes =
     else if kind == OPEN then Opened bytes
     else GaveUp
 
-abbrev pub failed : ℕ → ℕ → ℕ → Bool → FileCall
-failed kind number count interrupted =
+abbrev pub failed : ℕ → ℕ → ℕ → List ℕ → Bool → FileCall
+failed kind number count bytes interrupted =
     if kind == END then NotMeasured interrupted
     else if kind == READ then NotRead number count interrupted
     else if kind == WRITE then NotWritten number count interrupted
     else if kind == RESIZE then NotResized number interrupted
     else if kind == SYNC then NotSynced interrupted
+    else if kind == OPEN then NotOpened bytes
+    else if kind == LOCK then NotLocked
     else GaveUp
 
 abbrev pub call_of : Noted → FileCall
@@ -86,7 +91,7 @@ call_of noted =
     let number = slice_index noted.numbers 1 in
     let count = slice_index noted.numbers 2 in
     if slice_index_or noted.flags 0 false then succeeded kind number count noted.bytes
-    else failed kind number count (slice_index_or noted.flags 1 false)
+    else failed kind number count noted.bytes (slice_index_or noted.flags 1 false)
 
 -- own: the calls of a record, the newest first
 abbrev pub calls_of : List Noted → List FileCall

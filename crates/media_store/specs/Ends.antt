@@ -1,11 +1,13 @@
 -- At which call of the system a call of a store ends, and how many calls of the store failed.
 use Rattle.std.specs.Prelude.{◌≡◌, ℕ, ◌+◌, ◌-◌, ◌^◌, nat_lt, nat_le, ◌==◌, Bool, true, false, not, ◌&&◌, ◌||◌, IsTrue, List, [], ◌∷◌, ◌++◌, length, if◌then◌else◌}
-use Rattle.media_store.specs.Calls.{FileCall, NotMeasured, Read, NotRead, Wrote, NotWritten, NotResized, NotSynced, GaveUp}
+use Rattle.media_store.specs.Calls.{FileCall, NotOpened, NotLocked, NotMeasured, Read, NotRead, Wrote, NotWritten, NotResized, NotSynced, GaveUp}
 use Rattle.media_store.specs.Failures.{risen}
 
--- own: whether a call of the system fails the call of the store. One that a signal interrupted is made again. A read or
+-- own: whether a call of the system fails the opening or the call of the store. One that a signal interrupted is made again. A read or
 -- write of a part goes on, but not one of no byte: there are no more, or each further write might take none
 abbrev pub has_failed : FileCall → Bool
+has_failed (NotOpened path) = true
+has_failed NotLocked = true
 has_failed (NotMeasured interrupted) = not interrupted
 has_failed (Read at bytes count) = length bytes == 0 && nat_lt 0 count
 has_failed (NotRead at count interrupted) = not interrupted

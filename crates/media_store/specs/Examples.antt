@@ -2,20 +2,20 @@
 use Rattle.std.specs.Prelude.{◌≡◌, ◌-◌, ◌^◌, ◌==◌, true, false, List, [], ◌∷◌, slice_index, if◌then◌else◌, refl}
 use Rattle.media_store.specs.Content.{resized, written}
 use Rattle.media_store.specs.Failures.{risen}
-use Rattle.media_store.specs.Calls.{FileCall, Opened, Measured, Read, Wrote, NotWritten, NotResized, Synced, NotSynced, GaveUp, call_of}
+use Rattle.media_store.specs.Calls.{FileCall, Opened, Measured, Read, Wrote, NotWritten, NotResized, Synced, NotSynced, GaveUp, NotOpened, NotLocked, call_of}
 use Rattle.media_store.specs.Replay.{Origin, content_of, is_honest, is_synced}
 
--- within the content, over its end, and behind it
+-- within the content, over its end, and after it
 written_within : written 1 (8 ∷ 9 ∷ []) (1 ∷ 2 ∷ 3 ∷ 4 ∷ []) ≡ 1 ∷ 8 ∷ 9 ∷ 4 ∷ []
 written_within = refl
 
 written_over_the_end : written 3 (8 ∷ 9 ∷ []) (1 ∷ 2 ∷ 3 ∷ 4 ∷ []) ≡ 1 ∷ 2 ∷ 3 ∷ 8 ∷ 9 ∷ []
 written_over_the_end = refl
 
-written_behind_the_end : written 3 (8 ∷ 9 ∷ []) (1 ∷ []) ≡ 1 ∷ 0 ∷ 0 ∷ 8 ∷ 9 ∷ []
-written_behind_the_end = refl
+written_after_the_end : written 3 (8 ∷ 9 ∷ []) (1 ∷ []) ≡ 1 ∷ 0 ∷ 0 ∷ 8 ∷ 9 ∷ []
+written_after_the_end = refl
 
--- no byte changes nothing, behind the end too
+-- no byte changes nothing, after the end too
 written_nothing : written 3 [] (1 ∷ []) ≡ 1 ∷ []
 written_nothing = refl
 
@@ -40,7 +40,7 @@ opened = Opened (47 ∷ []) ∷ []
 written_and_read : is_honest origin (Read 1 (5 ∷ 3 ∷ []) 2 ∷ Wrote 1 (5 ∷ []) 1 ∷ Read 0 (1 ∷ 2 ∷ []) 2 ∷ Measured 3 ∷ opened) ≡ true
 written_and_read = refl
 
--- the old byte is read, one byte is read behind the end, the length is wrong
+-- the old byte is read, one byte is read after the end, the length is wrong
 lies : (is_honest origin (Read 1 (2 ∷ 3 ∷ []) 2 ∷ Wrote 1 (5 ∷ []) 1 ∷ opened) ≡ false)
     × (is_honest origin (Read 2 (3 ∷ 0 ∷ []) 2 ∷ opened) ≡ false) × (is_honest origin (Measured 4 ∷ opened) ≡ false)
 lies = (refl, refl, refl)
@@ -54,7 +54,7 @@ torn : (content_of origin (NotWritten 1 2 false ∷ opened) ≡ 1 ∷ 8 ∷ 9 �
     × (content_of origin (NotResized 1 false ∷ opened) ≡ 1 ∷ 2 ∷ 3 ∷ [])
 torn = (refl, refl, refl)
 
--- a sync that succeeds stands behind the write; it failed; a write was tried behind it; a sync fails behind it
+-- a sync that succeeds comes after the write; it failed; a write was tried after it; a sync fails after it
 synced : (is_synced (Synced ∷ Wrote 1 (5 ∷ []) 1 ∷ opened) ≡ true) × (is_synced (NotSynced false ∷ Wrote 1 (5 ∷ []) 1 ∷ opened) ≡ false)
     × (is_synced (NotWritten 1 2 false ∷ Synced ∷ opened) ≡ false) × (is_synced (NotSynced false ∷ Synced ∷ opened) ≡ true)
 synced = (refl, refl, refl, refl)
@@ -66,4 +66,6 @@ notes : (call_of (record { numbers = 1 ∷ 7 ∷ 4 ∷ []; bytes = 5 ∷ 6 ∷ [
     × (call_of (record { numbers = 4 ∷ []; bytes = []; flags = false ∷ true ∷ [] }) ≡ NotSynced true)
     × (call_of (record { numbers = 5 ∷ []; bytes = 47 ∷ []; flags = true ∷ [] }) ≡ Opened (47 ∷ []))
     × (call_of (record { numbers = 6 ∷ []; bytes = []; flags = false ∷ [] }) ≡ GaveUp)
-notes = (refl, refl, refl, refl, refl, refl)
+    × (call_of (record { numbers = 5 ∷ []; bytes = 47 ∷ []; flags = false ∷ [] }) ≡ NotOpened (47 ∷ []))
+    × (call_of (record { numbers = 7 ∷ []; bytes = []; flags = false ∷ [] }) ≡ NotLocked)
+notes = (refl, refl, refl, refl, refl, refl, refl, refl)

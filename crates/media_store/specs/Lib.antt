@@ -2,6 +2,7 @@ pub mod Content
 pub mod Failures
 pub mod Honesty
 pub mod Calls
+pub mod Opening
 pub mod Replay
 pub mod Ends
 pub mod Whole
@@ -11,3 +12,4 @@ pub mod Failing
 pub mod Lying
 pub mod Examples
 pub mod ExamplesCalls
+pub mod ExamplesOpening

@@ -8,9 +8,9 @@
 //!   length that it was made for.
 //! - [`FileStore`] keeps them in a file. Each call of the system is noted with its answer ([`FileCalls`]),
 //!   so its content is what the file held when it was opened ([`Start`]), after these calls; it is
-//!   honest exactly as long as the answers agree with that, and synced where a sync that succeeded stands behind all
-//!   that changed the file. It fails only where a call of the system did that no signal interrupted,
-//!   and counts its failures from these notes.
+//!   honest exactly as long as the answers agree with that, and synced if a sync succeeded after all that changed the
+//!   file. It fails only if a call of the system did that no signal interrupted, and counts its failures from these
+//!   notes. A file that is not opened or not locked has a note of that ([`UnopenedFile`]).
 //! - [`FailStore`] is another store that fails from some call on, and is as honest as that store.
 //! - [`LyingStore`] is another store that gives wrong bytes once.
 //!
@@ -40,4 +40,4 @@ pub use lying::LyingStore;
 pub use memory::MemStore;
 pub use start::{Start, Unknown};
 pub use store::Store;
-pub use system_file::SystemFile;
+pub use system_file::{SystemFile, UnopenedFile};

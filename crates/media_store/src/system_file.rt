@@ -1,9 +1,10 @@
-//! The calls on a file of the operating system. Each method makes its one call and then notes it with
-//! its answer. The clauses pin the notes to the answers; that the call made is the one that is noted, a
-//! reader has to see here.
+//! The calls on a file of the operating system. Each method makes one call of the kit and then notes it with its
+//! answer. The kit makes an open, a cut and a sync again that a signal interrupts, without a note. The clauses pin the
+//! notes to the answers; that the call made is the one that is noted, a reader has to see here.
 
-ghost use Rattle.std.specs.Prelude.{◌≡◌, ◌∷◌, [], IfOk};
-ghost use Rattle.media_store.specs.Calls.{Opened};
+ghost use Rattle.std.specs.Prelude.{◌≡◌, ◌∷◌, [], IfOk, IfErr};
+ghost use Rattle.media_store.specs.Calls.{Opened, calls_of};
+ghost use Rattle.media_store.specs.Opening.{IsRefused};
 
 use crate::file_calls::FileCalls;
 use crate::interruption::is_interrupted;
@@ -29,6 +30,17 @@ const OPEN: u64 = 5;
 
 const GIVE_UP: u64 = 6;
 
+const LOCK: u64 = 7;
+
+/// A file that was not opened, or not locked.
+#[derive(Drop)]
+pub struct UnopenedFile {
+    /// The error of the call that failed.
+    pub error: io::Error,
+    /// The calls for it.
+    pub noted: Record,
+}
+
 /// An open file, or a block device. It is seen as the list of the calls on it, the newest first, from its
 /// opening on.
 #[derive(Drop)]
@@ -47,18 +59,32 @@ impl Model for SystemFile {
 }
 
 impl SystemFile {
-    /// Opens the file at a path for reading and writing, and locks it (flock(2)) for as long as it is open.
-    /// None is made.
+    /// Opens the file at a path for reading and writing, and locks it (flock(2)) for as long as it is open. It is not
+    /// created.
     ///
-    /// It fails also where the file is locked by another open, of this program or another, by whatever path.
-    pub fn open(rt: &impl Files<File = File>, path: &str) -> io::Result<SystemFile>
-        ensures { IfOk result (λ opened. opened ≡ Opened path.now ∷ []) }
+    /// Fails also if another open of this program or another has locked the file, by whatever path. The note of the
+    /// call that failed is returned with its error.
+    pub fn open(rt: &impl Files<File = File>, path: &str) -> Result<SystemFile, UnopenedFile>
+        ensures opened { IfOk result (λ opened. opened ≡ Opened path.now ∷ []) }
+        ensures refused { IfErr result (λ unopened. IsRefused path.now (calls_of unopened.noted.calls)) }
     {
-        let file = OpenOptions::new().read(true).write(true).open(rt, path)?;
         let mut noted = Record::new();
+        let file = match OpenOptions::new().read(true).write(true).open(rt, path) {
+            Ok(file) => file,
+            Err(error) => {
+                noted.note(&[OPEN], path.as_bytes(), &[false]);
+                return Err(UnopenedFile { error, noted });
+            }
+        };
         noted.note(&[OPEN], path.as_bytes(), &[true]);
-        file.try_lock()?;
-        Ok(SystemFile { file, noted })
+        match file.try_lock() {
+            Ok(()) => Ok(SystemFile { file, noted }),
+            Err(error) => {
+                noted.note(&[LOCK], &[], &[false]);
+                let error = error.into();
+                Err(UnopenedFile { error, noted })
+            }
+        }
     }
 }
 

@@ -11,7 +11,7 @@ const PATH: &str = "media_store_test";
 #[test]
 fn file_gives_back_what_was_written(rt: HostRuntime) -> Result<(), Fail> {
     fs::write(&rt, PATH, b"".as_slice())?;
-    let opened = SystemFile::open(&rt, PATH)?;
+    let opened = SystemFile::open(&rt, PATH).map_err(|unopened| unopened.error)?;
     let mut store: FileStore<SystemFile, Unknown> = FileStore::new(opened);
     assert_eq!(rt; store.len(), Ok(0));
     assert_eq!(rt; store.write_at(3, b"abc"), Ok(()));

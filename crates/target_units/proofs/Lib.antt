@@ -1,1 +1,2 @@
 pub mod OpenedUnits
+pub mod RefusedUnits

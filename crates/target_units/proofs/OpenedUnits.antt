@@ -1,9 +1,10 @@
 -- Units of a configuration as they are opened, one after the other.
-use Rattle.std.proofs.Common.{◌≡◌, ℕ, zero, suc, ◌-◌, ◌*◌, ◌/◌, ◌%◌, ◌<◌, List, [], ◌∷◌, ◌++◌, map, refl, sym, ap, subst, ◌∙◌, Bool, true, false, ◌&&◌, ◌||◌, IsTrue, arith}
-use Rattle.std.specs.Prelude.{replicate, String, string_bytes}
+use Rattle.std.proofs.Common.{◌≡◌, ℕ, zero, suc, ◌-◌, ◌*◌, ◌/◌, ◌%◌, ◌<◌, List, [], ◌∷◌, ◌++◌, map, refl, sym, ap, subst, ◌∙◌, Bool, true, false, ◌&&◌, IsTrue, arith}
+use Rattle.std.specs.Prelude.{replicate, String, string_bytes, Contains}
 use Rattle.std.specs.declared.alloc.Global.{Global}
 use Rattle.std.specs.List.{list_all}
 use Rattle.std.proofs.lemmas.Bool.{lt-ltb, eq-eqb}
+use Rattle.std.proofs.lemmas.List.Elements.{Contains-append_right}
 use Rattle.std.proofs.lemmas.List.{take-replicate, drop-replicate, length-replicate, map-append}
 use Rattle.media_tape.specs.Items.{Item, items_in, items_of, is_tape}
 use Rattle.media_tape.specs.Tape.{TapeState}
@@ -16,7 +17,6 @@ use Rattle.target_config.specs.declared.configuration.TargetConfiguration.{Targe
 use Rattle.target_config.specs.Configuration.{UnitEntry, TargetEntry, natural, names_of, unit_view, units_view, target_view, targets_view}
 use Rattle.target_config.specs.Limits.{unit_keeps, target_keeps}
 use Rattle.target_units.specs.Opened.{Held, zero_disk, empty_tape, IsMediumOf, IsUnitOf, AreEach}
-use Rattle.target_units.specs.Unopened.{has_file_unit, has_file_unit_at}
 
 -- the blocks of zeros are blocks of zeros
 zero_blocks : (count : ℕ) → blocks_of count (replicate (block_length * count) 0) ≡ replicate count (replicate block_length 0)
@@ -109,30 +109,36 @@ both : (a b : Bool) → (a && b) ≡ true → (a ≡ true) × (b ≡ true)
 both true b e = (refl, e)
 both false b e = absurd cc
 
-true_or : (a b : Bool) → b ≡ true → (a || b) ≡ true
-true_or true b e = refl
-true_or false b e = e
+-- what comes first is contained
+pub contains_first : {X : Type 0} (x : X) (xs : List X) → Contains (x ∷ xs) x
+contains_first x xs = (0, omega arith, refl)
 
--- the units behind one keep their limits, and have no LUN that those from it on lack
-pub units_next : (now rest : List UnitConfiguration) (unit : UnitConfiguration) (all : List UnitConfiguration) → now ≡ unit ∷ rest
-    → list_all unit_keeps (units_view now) ≡ true
-    → ((lun : ℕ) → has_file_unit lun (units_view now) ≡ true → has_file_unit lun (units_view all) ≡ true)
-    → (list_all unit_keeps (units_view rest) ≡ true) × ((lun : ℕ) → has_file_unit lun (units_view rest) ≡ true → has_file_unit lun (units_view all) ≡ true)
+-- the units after one keep their limits, and are units of the target
+pub units_next : (now rest : List UnitConfiguration) (unit : UnitConfiguration) (all : List UnitEntry) → now ≡ unit ∷ rest
+    → list_all unit_keeps (units_view now) ≡ true → ((entry : UnitEntry) → Contains (units_view now) entry → Contains all entry)
+    → (list_all unit_keeps (units_view rest) ≡ true) × ((entry : UnitEntry) → Contains (units_view rest) entry → Contains all entry)
 units_next now rest unit all taken kept named = (
   (both (unit_keeps (unit_view unit)) (list_all unit_keeps (units_view rest)) (rw taken at kept)).1,
-  λ lun found. named lun (rw taken (true_or _ (has_file_unit lun (units_view rest)) found)),
+  λ entry found. named entry (rw taken (Contains-append_right (unit_view unit ∷ []) (units_view rest) entry found)),
 )
 
 -- the same of targets
 pub targets_next : (now rest : List TargetConfiguration) (target : TargetConfiguration) (all : List TargetEntry) → now ≡ target ∷ rest
-    → list_all target_keeps (targets_view now) ≡ true
-    → ((name : List ℕ) (lun : ℕ) → has_file_unit_at name lun (targets_view now) ≡ true → has_file_unit_at name lun all ≡ true)
-    → (list_all target_keeps (targets_view rest) ≡ true) × ((name : List ℕ) (lun : ℕ) → has_file_unit_at name lun (targets_view rest) ≡ true
-    → has_file_unit_at name lun all ≡ true)
+    → list_all target_keeps (targets_view now) ≡ true → ((entry : TargetEntry) → Contains (targets_view now) entry → Contains all entry)
+    → (list_all target_keeps (targets_view rest) ≡ true) × ((entry : TargetEntry) → Contains (targets_view rest) entry → Contains all entry)
 targets_next now rest target all taken kept named = (
   (both (target_keeps (target_view target)) (list_all target_keeps (targets_view rest)) (rw taken at kept)).1,
-  λ name lun found. named name lun (rw taken (true_or _ (has_file_unit_at name lun (targets_view rest)) found)),
+  λ entry found. named entry (rw taken (Contains-append_right (target_view target ∷ []) (targets_view rest) entry found)),
 )
+
+-- the first of the units, or targets, that are left is one of all
+pub unit_now : (now rest : List UnitConfiguration) (unit : UnitConfiguration) (all : List UnitEntry) → now ≡ unit ∷ rest
+    → ((entry : UnitEntry) → Contains (units_view now) entry → Contains all entry) → Contains all (unit_view unit)
+unit_now now rest unit all taken named = named (unit_view unit) (rw taken (contains_first (unit_view unit) (units_view rest)))
+
+pub target_now : (now rest : List TargetConfiguration) (target : TargetConfiguration) (all : List TargetEntry) → now ≡ target ∷ rest
+    → ((entry : TargetEntry) → Contains (targets_view now) entry → Contains all entry) → Contains all (target_view target)
+target_now now rest target all taken named = named (target_view target) (rw taken (contains_first (target_view target) (targets_view rest)))
 
 -- one more name
 pub names_next : (targets : List TargetConfiguration) (target : TargetConfiguration) (names now : List (String Global)) → now ≡ names

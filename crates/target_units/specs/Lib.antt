@@ -1,3 +1,5 @@
 pub mod Store
 pub mod Opened
+pub mod Refusal
 pub mod Unopened
+pub mod ExamplesUnopened

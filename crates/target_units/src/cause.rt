@@ -1,8 +1,10 @@
 //! What is wrong with the file of a unit.
 
+ghost use Rattle.target_units.specs.Unopened.{IsErrorOf};
+
 use std::io::{self, ErrorKind};
 
-/// What is wrong with the file of a unit that is not opened. No clause says which it is.
+/// What is wrong with the file of a unit that is not opened.
 #[derive(Clone, Copy, Debug, PartialEq, Eq)]
 pub enum DeviceCause {
     /// The system does not open it for reading and writing. The error has this number (errno(3)), if it has one.
@@ -21,7 +23,9 @@ pub enum DeviceCause {
 
 impl DeviceCause {
     /// Returns the cause for an error that the system reports when the file is opened.
-    pub(crate) fn of_error(error: &io::Error) -> DeviceCause {
+    pub(crate) fn of_error(error: &io::Error) -> DeviceCause
+        ensures { IsErrorOf error.now result }
+    {
         match error.kind() {
             ErrorKind::WouldBlock => DeviceCause::Locked,
             _ => DeviceCause::Unopened {

@@ -8,17 +8,19 @@
 //! ```
 //!
 //! Promised, and proved: [`open`] returns the targets of a configuration with these units, each free of initiators.
-//! Otherwise it returns a fault that names a unit in a file, or an allocation failed. That this file cannot be opened,
-//! or holds no such medium, is only tested. What each file holds when it is opened is a parameter of the contracts
-//! (`Start`).
+//! Otherwise it returns a fault that names a unit in a file, or an allocation failed. What is left of this file says
+//! which call of the system failed, or which rule of its medium it breaks ([`Refused`]). What each file holds when it is
+//! opened is a parameter of the contracts (`Start`).
 #![tactic(auto)]
 
 mod cause;
 mod fault;
 mod opening;
+mod refused;
 mod store;
 
 pub use cause::DeviceCause;
 pub use fault::OpenFault;
 pub use opening::{OpenedTargets, open};
+pub use refused::Refused;
 pub use store::{MediumStore, SystemStore};
