@@ -4,6 +4,7 @@ pub mod Results
 pub mod Script
 pub mod Entries
 pub mod Calls
+pub mod Binding
 pub mod ReadBuffer
 pub mod Flags
 pub mod Turns

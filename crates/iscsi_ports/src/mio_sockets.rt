@@ -2,7 +2,8 @@
 //!
 //! No contract says what a socket gives and takes, so whether each note is true is seen here by eye.
 
-ghost use Rattle.std.specs.Prelude.{◌≡◌, ◌≢◌, ◌≤◌, ◌-◌, ◌∷◌, [], ℕ, true, false, not, ◌==◌, length, slice_index_or, Option, Some, None, is_none, option_map, Ok, IsSome, IfOk, OnOk, OnErr};
+ghost use Rattle.std.specs.Prelude.{◌≡◌, ◌≢◌, ◌≤◌, ◌-◌, ◌∷◌, [], ℕ, true, false, not, ◌==◌, length, slice_index_or, Option, Some, None, is_none, option_map, Ok, IsSome, IfOk, IfErr, OnOk, OnErr};
+ghost use Rattle.iscsi_ports.specs.Binding.{not_located, ExplainsFault};
 ghost use Rattle.std.specs.Net.Socket.{socket_ip, socket_port};
 ghost use Rattle.std.specs.Result.{IsErrOf};
 ghost use Rattle.std.specs.Net.Grammar.{IsSocketText};
@@ -32,6 +33,7 @@ use crate::socket_failure::{SocketFailure, socket_failure};
 use crate::spares::Spares;
 use crate::stream_calls::write_to;
 use crate::watching::{watch, watched};
+use call_record::Record;
 use mio::net::{TcpListener, TcpStream};
 use mio::{Events, Poll};
 use std::alloc::Global;
@@ -42,6 +44,18 @@ use target_limits::CONNECTIONS;
 
 /// How many events one poll takes from the system.
 const EVENTS: usize = 128;
+
+/// The numbers of the notes of what failed at the start: no listener was made, and it is not known where it listens.
+const NOT_BOUND: u64 = 0;
+
+const NOT_LOCATED: u64 = 1;
+
+/// Makes a poll, and a listener that it watches, at an address.
+fn bound(net: &impl Net, address: SocketAddr) -> io::Result<(Poll, TcpListener)> {
+    let poll = Poll::new(net)?;
+    let listener = watched(net, &poll, address)?;
+    Ok((poll, listener))
+}
 
 /// A listening socket and the connections that it accepted.
 #[derive(Drop)]
@@ -65,17 +79,28 @@ pub struct MioSockets {
 }
 
 impl MioSockets {
-    /// Listens on the address that a text spells, and notes it.
-    pub(crate) fn listen(net: &impl Net, alloc: Global, text: &str) -> Result<MioSockets, BindFault>
+    /// Listens on the address that a text spells, and notes it. If no listener is made, that is noted in `refused`.
+    pub(crate) fn listen(
+        net: &impl Net,
+        alloc: Global,
+        text: &str,
+        refused: &mut Record,
+    ) -> Result<MioSockets, BindFault>
         ensures asked { IfOk result (λ sockets. ⟦<MioSockets as SocketCalls>⟧.calls sockets ≡ Listening text.now ∷ []) }
         ensures spelled { IfOk result (λ sockets. (address : SocketAddr) × IsSocketText text.now address) }
         ensures unspelled { ((address : SocketAddr) → ¬ (IsSocketText text.now address)) → IsErrOf result (BindFault.Socket None) }
+        ensures explained { IfErr result (ExplainsFault text.now refused.old.calls refused.new.calls) }
     {
         let Ok(address) = text.parse::<SocketAddr>() else {
             return Err(BindFault::Socket { code: None });
         };
-        let poll = Poll::new(net).map_err(|error| bind_fault(&error))?;
-        let listener = watched(net, &poll, address).map_err(|error| bind_fault(&error))?;
+        let (poll, listener) = match bound(net, address) {
+            Ok(made) => made,
+            Err(error) => {
+                refused.note(&[NOT_BOUND], text.as_bytes(), &[]);
+                return Err(bind_fault(&error));
+            }
+        };
         let mut notes = CallNotes::new();
         notes.listening(text);
         Ok(MioSockets {
@@ -90,15 +115,24 @@ impl MioSockets {
         })
     }
 
-    /// The address that is listened on, with its port, which is noted too.
-    pub(crate) fn address(&mut self) -> io::Result<SocketAddr>
+    /// Returns the address that is listened on, with its port, which is noted too. If the system does not tell it, that
+    /// is noted in `refused`.
+    pub(crate) fn address(&mut self, refused: &mut Record) -> io::Result<SocketAddr>
         ensures told { IfOk result (λ address. ⟦<MioSockets as SocketCalls>⟧.calls self.new
             ≡ Located (ip_octets (socket_ip address)) (socket_port address) ∷ ⟦<MioSockets as SocketCalls>⟧.calls self.old) }
         ensures same { OnErr result (⟦<MioSockets as SocketCalls>⟧.calls self.new ≡ ⟦<MioSockets as SocketCalls>⟧.calls self.old) }
+        ensures unknown { OnErr result (refused.new.calls ≡ not_located ∷ refused.old.calls) }
     {
-        let address = self.listener.local_addr()?;
-        self.notes.located(address);
-        Ok(address)
+        match self.listener.local_addr() {
+            Ok(address) => {
+                self.notes.located(address);
+                Ok(address)
+            }
+            Err(error) => {
+                refused.note(&[NOT_LOCATED], &[], &[]);
+                Err(error)
+            }
+        }
     }
 
     /// What is ahead of a connection is dropped, and noted with its close.

@@ -1,6 +1,7 @@
 //! Ports over sockets.
 
-ghost use Rattle.std.specs.Prelude.{◌≡◌, ◌<◌, ◌≤◌, ◌∷◌, ◌++◌, ℕ, List, [], Bool, true, false, length, Option, None, option_map, Result, IfOk, OnOk, OnErr};
+ghost use Rattle.std.specs.Prelude.{◌≡◌, ◌<◌, ◌≤◌, ◌∷◌, ◌++◌, ℕ, List, [], Bool, true, false, length, Option, None, option_map, Result, IfOk, IfErr, OnOk, OnErr};
+ghost use Rattle.iscsi_ports.specs.Binding.{not_located, ExplainsFault};
 ghost use Rattle.std.specs.Duration.{as_nanos};
 ghost use Rattle.std.specs.Io.{WritesAtMost};
 ghost use Rattle.std.specs.Net.Socket.{socket_ip, socket_port};
@@ -30,6 +31,7 @@ use crate::results::{Accepted, IoResult, Named, PortFault};
 use crate::socket_calls::SocketCalls;
 use crate::socket_failure::SocketFailure;
 use crate::stopwatch::Stopwatch;
+use call_record::Record;
 use std::alloc::Global;
 use std::io;
 use std::net::{Net, SocketAddr};
@@ -78,20 +80,22 @@ impl SocketPorts<MioSockets> {
     /// Listens on an address with a port, as `127.0.0.1:3260` or `[::1]:3260`; port 0 takes a free
     /// one. A poll waits for so many milliseconds, or without limit.
     ///
-    /// `Socket`: the text spells no address, or the system does not let it be listened on.
+    /// `Socket`: the text spells no address, or the system does not let it be listened on, which is noted in `refused`.
     pub fn new(
         net: &impl Net,
         alloc: Global,
         address: &str,
         wait: Option<u64>,
+        refused: &mut Record,
     ) -> Result<MioPorts, BindFault>
         ensures log { IfOk result (λ ports. ⟦<SocketPorts<MioSockets> as Ports>⟧.log ports ≡ Listened address.now ∷ []) }
         ensures tells { IfOk result (λ ports. ⟦<SocketPorts<MioSockets> as Ports>⟧.tells ports ≡ true) }
         ensures in_time { IfOk result (λ ports. AsksInTime (⟦<MioSockets as SocketCalls>⟧.calls ports.sockets) ports) }
         ensures spelled { IfOk result (λ ports. (value : SocketAddr) × IsSocketText address.now value) }
         ensures unspelled { ((value : SocketAddr) → ¬ (IsSocketText address.now value)) → IsErrOf result (BindFault.Socket None) }
+        ensures explained { IfErr result (ExplainsFault address.now refused.old.calls refused.new.calls) }
     {
-        let sockets = MioSockets::listen(net, alloc, address)?;
+        let sockets = MioSockets::listen(net, alloc, address, refused)?;
         Ok(SocketPorts {
             sockets,
             readiness: Readiness::new(),
@@ -107,15 +111,17 @@ impl SocketPorts<MioSockets> {
         })
     }
 
-    /// The address that is listened on, with its port. What the system told is noted beside the calls.
-    pub fn address(&mut self) -> io::Result<SocketAddr>
+    /// Returns the address that is listened on, with its port. What the system told is noted beside the calls, and in
+    /// `refused` if it told nothing.
+    pub fn address(&mut self, refused: &mut Record) -> io::Result<SocketAddr>
         ensures told { IfOk result (λ address. ⟦<SocketPorts<MioSockets> as Ports>⟧.log self.new
             ≡ ⟦<SocketPorts<MioSockets> as Ports>⟧.log self.old ++ Located (ip_octets (socket_ip address)) (socket_port address) ∷ []) }
+        ensures unknown { OnErr result (refused.new.calls ≡ not_located ∷ refused.old.calls) }
         ensures tells { ⟦<SocketPorts<MioSockets> as Ports>⟧.tells self.new ≡ true }
         ensures in_time { AsksInTime (⟦<MioSockets as SocketCalls>⟧.calls self.old.sockets) self.old
             → AsksInTime (⟦<MioSockets as SocketCalls>⟧.calls self.new.sockets) self.new }
     {
-        self.sockets.address()
+        self.sockets.address(refused)
     }
 }
 
