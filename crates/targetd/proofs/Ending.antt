@@ -20,6 +20,9 @@ use Rattle.iscsi_target.specs.Stands.{Stands}
 use Rattle.iscsi_target.proofs.Standing.{stands_sent}
 use Rattle.iscsi_target.specs.Machine.{Machine, IsSound, IsSure, new_machine}
 use Rattle.iscsi_target.specs.Bounded.{Bounded}
+use Rattle.iscsi_ports.specs.Binding.{IsUnbound, ExplainsFault, not_located}
+use Rattle.iscsi_ports.specs.declared.bind_fault.BindFault.{BindFault}
+use Rattle.iscsi_ports.specs.declared.bind_fault.BindFault.TheVariants as binds
 use Rattle.iscsi_ports.specs.Log.{Entry, written}
 use Rattle.iscsi_serve.specs.Served.{MayHappen, MayComeOut, StaysServed, ComesOutServed}
 use Rattle.iscsi_serve.specs.declared.fault.ServeFault.{ServeFault}
@@ -33,31 +36,35 @@ use Rattle.target_replay.specs.declared.fault.ReplayFault.{ReplayFault}
 use Rattle.target_replay.specs.declared.fault.ReplayFault.TheVariants as replays
 use Rattle.targetd.specs.declared.fault.Fault.{Fault}
 use Rattle.targetd.specs.declared.fault.Fault.TheVariants as faults
-use Rattle.targetd.specs.Fault.{config_fault, replay_fault}
+use Rattle.targetd.specs.Fault.{config_fault, replay_fault, bind_fault}
 use Rattle.target_config.specs.Loading.{Loads, told_of}
 use Rattle.target_units.specs.Opened.{Held, IsMediumOf, IsUnitOf, AreEach, AreUnitsOf}
+use Rattle.target_units.specs.Refusal.{Refusal}
 use Rattle.targetd.specs.Help.{RefusesWords}
+use Rattle.targetd.specs.Logging.{OpensLog}
 use Rattle.targetd.specs.Serve.{listening_line, HasServed, Serves}
 use Rattle.targetd.specs.Run.{FailsEarly, LeftState, ServedState, listening, known_of, setting_of, IsReplay, IsServing, ServesAt, Runs}
 
 -- ---- before a target is made
 
-pub early_memory : (configured : Result Document ConfigFault) → FailsEarly configured faults.OutOfMemory
-early_memory (Ok document) = tt
-early_memory (Err fault) = inl refl
+pub early_memory : (held : Held) (refused : Refusal) (configured : Result Document ConfigFault) → FailsEarly held refused configured faults.OutOfMemory
+early_memory held refused (Ok document) = tt
+early_memory held refused (Err fault) = inl refl
 
-early_by : (configured : Result Document ConfigFault) (fault : ConfigFault) → configured ≡ Err fault → FailsEarly configured (config_fault fault)
-early_by configured fault e = rw e (inr refl)
+early_by : (held : Held) (refused : Refusal) (configured : Result Document ConfigFault) (fault : ConfigFault) → configured ≡ Err fault
+    → FailsEarly held refused configured (config_fault fault)
+early_by held refused configured fault e = rw e (inr refl)
 
-pub early_fault : (configured : Result Document ConfigFault) (fault : ConfigFault) → (fault ≢ why.OutOfMemory → configured ≡ Err fault)
-    → FailsEarly configured (config_fault fault)
-early_fault configured why.OutOfMemory e = early_memory configured
-early_fault configured why.Unreadable e = early_by configured why.Unreadable (e (λ x. cc))
-early_fault configured why.NotToml e = early_by configured why.NotToml (e (λ x. cc))
-early_fault configured why.Field e = early_by configured why.Field (e (λ x. cc))
-early_fault configured why.Limit e = early_by configured why.Limit (e (λ x. cc))
-early_fault configured why.Twice e = early_by configured why.Twice (e (λ x. cc))
-early_fault configured why.NoLunZero e = early_by configured why.NoLunZero (e (λ x. cc))
+pub early_fault : (held : Held) (refused : Refusal) (configured : Result Document ConfigFault) (fault : ConfigFault)
+    → (fault ≢ why.OutOfMemory → configured ≡ Err fault)
+    → FailsEarly held refused configured (config_fault fault)
+early_fault held refused configured why.OutOfMemory e = early_memory held refused configured
+early_fault held refused configured why.Unreadable e = early_by held refused configured why.Unreadable (e (λ x. cc))
+early_fault held refused configured why.NotToml e = early_by held refused configured why.NotToml (e (λ x. cc))
+early_fault held refused configured why.Field e = early_by held refused configured why.Field (e (λ x. cc))
+early_fault held refused configured why.Limit e = early_by held refused configured why.Limit (e (λ x. cc))
+early_fault held refused configured why.Twice e = early_by held refused configured why.Twice (e (λ x. cc))
+early_fault held refused configured why.NoLunZero e = early_by held refused configured why.NoLunZero (e (λ x. cc))
 
 -- ---- units in memory cannot fail
 
@@ -155,7 +162,30 @@ pub serving_starves : (held : Held) (left : LeftState) (w : Option (List ℕ)) (
     (result : Result (Unit {0}) Fault) → IsErrAnd result (λ seen. seen ≡ faults.OutOfMemory) → ServesAt held left w w count configured result
 serving_starves held left w count configured (Ok end) is = absurd is
 serving_starves held left w count configured (Err seen) is =
-    inl (Keeps-refl w, inr (subst (FailsEarly configured) (sym is) (early_memory configured)))
+    inl (Keeps-refl w, inr (subst (FailsEarly held left.refused configured) (sym is) (early_memory held left.refused configured)))
+
+-- why there are no ports, as the program tells it
+pub unbound_told : (text : List ℕ) (old new : List Noted) (why : BindFault) → ExplainsFault text old new why
+    → ((bind_fault why ≡ faults.Socket) × IsUnbound text old new) ⊎ (bind_fault why ≡ faults.OutOfMemory)
+unbound_told text old new (binds.Socket code) is = inl (refl, is)
+unbound_told text old new binds.Memory is = inr refl
+
+-- the address was not listened on
+pub serving_unbound : (held : Held) (left : LeftState) (w : Option (List ℕ)) (count : ℕ) (configured : Result Document ConfigFault) (document : Document)
+    (result : Result (Unit {0}) Fault) (fault : Fault) → configured ≡ Ok document → IsErrAnd result (λ seen. seen ≡ fault)
+    → ((fault ≡ faults.Socket) × IsUnbound document.listen [] left.unbound) ⊎ (fault ≡ faults.OutOfMemory)
+    → ServesAt held left w w count configured result
+serving_unbound held left w count configured document (Ok end) fault read is why = absurd is
+serving_unbound held left w count configured document (Err seen) fault read is (inl unbound) =
+    rw read (inl (Keeps-refl w, inl (is ∙ unbound.0, inl unbound.1)))
+serving_unbound held left w count configured document (Err seen) fault read is (inr starved) =
+    inl (Keeps-refl w, inr (subst (FailsEarly held left.refused configured) (sym (is ∙ starved)) (early_memory held left.refused configured)))
+
+-- the system did not tell where the program listens
+pub serving_unlocated : (held : Held) (left : LeftState) (w : Option (List ℕ)) (count : ℕ) (configured : Result Document ConfigFault) (document : Document)
+    (earlier : List Noted) → configured ≡ Ok document → left.unbound ≡ not_located ∷ earlier
+    → ServesAt held left w w count configured (Err faults.Socket)
+serving_unlocated held left w count configured document earlier read told = rw read (inl (Keeps-refl w, inl (refl, inr (earlier, told))))
 
 pub fails_to_print : (line : List ℕ) (count : ℕ) (tells : Bool) (log : List Entry) (target : Machine) (w0 w1 : Option (List ℕ))
     (result : Result (Unit {0}) Fault) (fault : ReplayFault) (text : List ℕ)
@@ -203,8 +233,9 @@ pub serving : (held : Held) (left : LeftState) (w0 w1 : Option (List ℕ)) (docu
     (address : SocketAddr) (log : List Entry) (first : Machine) (served : ServedState)
     (result : Result (Unit {0}) Fault) → AreUnitsOf held document.targets units → left.served ≡ Some served → log ≡ listening document.listen address
     → first ≡ new_machine (known_of document) units → Bounded first
+    → OpensLog document.log [] left.logged log served.log w0 w1
     → Serves (listening_line address) count true log served.log first served.target w0 w1 result → IsServing held left w0 w1 document count result
-serving held left w0 w1 document count units address log first served result opened is asked made bounded serves =
+serving held left w0 w1 document count units address log first served result opened is asked made bounded logged serves =
     let told = listening document.listen address in
     let target = new_machine (known_of document) units in
     let s = setting_of document units in
@@ -221,6 +252,7 @@ serving held left w0 w1 document count units address log first served result ope
           (targets_sure held document.targets units opened in_memory));
       address = address;
       serves = from_listening;
+      logged = subst (λ (es : List Entry). OpensLog document.log [] left.logged es served.log w0 w1) asked logged;
       whole = λ sound. been_served MayHappen s told served.log served.target refl nothing (stays_behind _ _ _ _ _ _ _ _ result from_listening sound);
       came = been_served (MayComeOut served.target) s told served.log served.target refl nothing (came_behind _ _ _ _ _ _ _ _ result from_listening);
       bounded = bounded_behind _ _ _ _ _ _ _ _ _ result from_listening (subst Bounded made bounded);

@@ -1,2 +1,3 @@
 pub mod Made
 pub mod Ending
+pub mod LogOpened

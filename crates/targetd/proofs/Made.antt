@@ -8,6 +8,7 @@ use Rattle.iscsi_target.specs.Known.{known_in}
 use Rattle.iscsi_target.specs.declared.config.Config.{Config}
 use Rattle.target_config.specs.Configuration.{Document, TargetEntry, names_of}
 use Rattle.target_units.specs.Opened.{Held, AreUnitsOf}
+use Rattle.target_units.specs.Refusal.{Refusal}
 use Rattle.target_units.specs.Unopened.{IsUnopened as AreUnopened}
 use Rattle.target_units.specs.declared.fault.OpenFault.{OpenFault}
 use Rattle.target_units.specs.declared.fault.OpenFault.TheVariants as opens
@@ -35,6 +36,7 @@ known_is config document names listen = rw (names, listen) refl
 
 -- ---- why nothing is made
 
-pub unopened_told : (targets : List TargetEntry) (why : OpenFault) → AreUnopened targets why → IsUnopened targets (opening_fault why)
-unopened_told targets (opens.Device name lun cause) is = is
-unopened_told targets opens.Memory is = tt
+pub unopened_told : (held : Held) (targets : List TargetEntry) (refused : Refusal) (why : OpenFault) → AreUnopened held targets refused why
+    → IsUnopened held targets refused (opening_fault why)
+unopened_told held targets refused (opens.Device name lun cause) is = (cause, is)
+unopened_told held targets refused opens.Memory is = tt

@@ -11,6 +11,7 @@ use Rattle.iscsi_login.specs.Directory.{KnownTargets}
 use Rattle.iscsi_target.specs.World.{Setting}
 use Rattle.iscsi_target.specs.Machine.{Machine, WhereSound, IsSound, new_machine}
 use Rattle.iscsi_target.specs.Bounded.{Bounded}
+use Rattle.iscsi_ports.specs.Binding.{IsUnbound, not_located}
 use Rattle.iscsi_ports.specs.Log.{Entry, Listened, Located}
 use Rattle.iscsi_ports.specs.Calls.{ip_octets}
 use Rattle.iscsi_serve.specs.Served.{MayHappen, MayComeOut, HasBeenServed}
@@ -25,7 +26,9 @@ use Rattle.targetd.specs.declared.fault.Fault.TheVariants.{Socket, Streams, OutO
 use Rattle.targetd.specs.Fault.{config_fault, replay_fault}
 use Rattle.target_config.specs.Loading.{told_of}
 use Rattle.target_units.specs.Opened.{Held, AreUnitsOf}
+use Rattle.target_units.specs.Refusal.{Refusal}
 use Rattle.targetd.specs.Unopened.{IsUnopened}
+use Rattle.targetd.specs.Logging.{OpensLog}
 use Rattle.targetd.specs.Help.{RefusesWords}
 use Rattle.targetd.specs.Serve.{listening_line, Serves}
 
@@ -51,18 +54,29 @@ pub record ServedState : Type 0 where
   pub log : List Entry
   pub target : Machine
 
--- what remains after a run: what stands in for standard streams, what was reported about the configuration's file, a
--- replay's target, and what serving left
+-- what remains after a run: what stands in for standard streams, and what was reported about the configuration's file.
+-- Then what is left of a unit's file that was not opened, what was reported about an address that is not listened on and
+-- about the log, a replay's target, and what serving left
 pub record LeftState : Type 0 where
   pub streams : StreamsState
   pub told : List Noted
+  pub refused : Refusal
+  pub unbound : List Noted
+  pub logged : List Noted
   pub replayed : Option Machine
   pub served : Option ServedState
 
--- why a run ends before it has made a target: its configuration, a unit in a file, or an allocation that failed
-abbrev pub FailsEarly : Result Document ConfigFault → Fault → Type 0
-FailsEarly (Ok document) fault = IsUnopened document.targets fault
-FailsEarly (Err why) fault = (fault ≡ OutOfMemory) ⊎ (fault ≡ config_fault why)
+-- why a run ends before it has made a target: its configuration, the file of a unit that was refused, or an allocation
+-- that failed
+abbrev pub FailsEarly : Held → Refusal → Result Document ConfigFault → Fault → Type 0
+FailsEarly held refused (Ok document) fault = IsUnopened held document.targets refused fault
+FailsEarly held refused (Err why) fault = (fault ≡ OutOfMemory) ⊎ (fault ≡ config_fault why)
+
+-- why nothing is listened on at the configured address: the text spells none, or a call of the system failed, which
+-- is noted: one that makes the listener, or the one that tells where it listens
+abbrev pub FailsToListen : Result Document ConfigFault → List Noted → Type 0
+FailsToListen (Ok document) unbound = IsUnbound document.listen [] unbound ⊎ ((earlier : List Noted) × (unbound ≡ not_located ∷ earlier))
+FailsToListen (Err why) unbound = ⊥
 
 module _ (held : Held) (left : LeftState) (printed printed_then : Option (List ℕ)) where
   -- Serving these units from a new target. Its ports were asked for the configured address, and reported where they
@@ -77,6 +91,8 @@ module _ (held : Held) (left : LeftState) (printed printed_then : Option (List �
     pub address : SocketAddr
     pub serves : Serves (listening_line address) count true (listening document.listen address) served.log
         (new_machine (known_of document) units) served.target printed printed_then result
+    -- the log that is configured was opened before
+    pub logged : OpensLog document.log [] left.logged (listening document.listen address) served.log printed printed_then
     -- In all, of a sound target: what was written on an open connection, and then what waits, is what the World of the
     -- log's events answers. On a connection that is over, what was written is a prefix of them.
     pub whole : IsSound served.target → HasBeenServed MayHappen (setting_of document units) served.log served.target
@@ -89,10 +105,14 @@ module _ (held : Held) (left : LeftState) (printed printed_then : Option (List �
   IsServingAt count (Ok document) result = IsServing document count result
   IsServingAt count (Err why) result = ⊥
 
+  -- why serving ends before it listens
+  abbrev pub FailsBefore : Result Document ConfigFault → Fault → Type 0
+  FailsBefore configured fault = ((fault ≡ Socket) × FailsToListen configured left.unbound) ⊎ FailsEarly held left.refused configured fault
+
   -- how serving this configuration ends: before it listens, or as its turns end
   abbrev pub ServesAt : ℕ → Result Document ConfigFault → Result (Unit {0}) Fault → Type 0
   ServesAt count configured result =
-      (Keeps printed printed_then × IsErrAnd result (λ fault. (fault ≡ Socket) ⊎ FailsEarly configured fault)) ⊎ IsServingAt count configured result
+      (Keeps printed printed_then × IsErrAnd result (FailsBefore configured)) ⊎ IsServingAt count configured result
 
 module _ (held : Held) (left : LeftState) (unread unread_then printed printed_then : Option (List ℕ)) where
   -- nothing was read or printed
@@ -127,7 +147,7 @@ module _ (held : Held) (left : LeftState) (unread unread_then printed printed_th
 
   -- how a replay with this configuration ends: before its first line, or as its lines end
   abbrev pub Replays : Result Document ConfigFault → Result (Unit {0}) Fault → Type 0
-  Replays configured result = (IsUntouched × IsErrAnd result (FailsEarly configured)) ⊎ IsReplayAt configured result
+  Replays configured result = (IsUntouched × IsErrAnd result (FailsEarly held left.refused configured)) ⊎ IsReplayAt configured result
 
   -- an allocation failed before anything was read or printed
   abbrev pub IsStarved : Result (Unit {0}) Fault → Type 0

@@ -7,7 +7,7 @@ use iscsi_ports::MioPorts;
 use iscsi_target::Target;
 use media_store::Start;
 use standard_streams::Streams;
-use target_units::SystemStore;
+use target_units::{Refused, SystemStore};
 
 /// Ports that were served, and the target that served them.
 #[derive(Drop)]
@@ -23,6 +23,12 @@ pub struct Left<S: Start> {
     pub streams: Streams,
     /// What the system reported about the configuration's file.
     pub told: Record,
+    /// What is left of the file of a unit that was not opened.
+    pub refused: Refused<S>,
+    /// What the system reported about an address that is not listened on.
+    pub unbound: Record,
+    /// What the system reported about the log.
+    pub logged: Record,
     /// The target of a replay.
     pub replayed: Option<Target<SystemStore<S>>>,
     pub served: Option<Served<S>>,
@@ -38,8 +44,22 @@ impl<S: Start> Left<S> {
         Left {
             streams: Streams::none(),
             told: Record::new(),
+            refused: Refused::Nothing,
+            unbound: Record::new(),
+            logged: Record::new(),
             replayed: None,
             served: None,
         }
+    }
+
+    /// Forgets what was noted of an address and of the log.
+    pub fn forget_start(&mut self)
+        ensures told { self.new.told.calls ≡ self.old.told.calls }
+        ensures streams { self.new.streams ≡ self.old.streams }
+        ensures unbound { self.new.unbound.calls ≡ [] }
+        ensures logged { self.new.logged.calls ≡ [] }
+    {
+        self.unbound = Record::new();
+        self.logged = Record::new();
     }
 }

@@ -1,6 +1,7 @@
 //! A whole run: its words, its configuration, its target, and its lines or its turns.
 
 ghost use Rattle.std.specs.Prelude.{◌≡◌, ◌⊎◌, ◌∷◌, [], IfOk, IfErr, OnOk, OnErr, IsOkUnless, map, string_bytes};
+ghost use Rattle.iscsi_ports.specs.Binding.{IsUnbound};
 ghost use Rattle.iscsi_ports.specs.Log.{Listened};
 ghost use Rattle.standard_streams.specs.Streams.{AreTaken, AreLacking};
 ghost use Rattle.command_line.specs.Help.{calls_for_help};
@@ -15,6 +16,7 @@ use crate::help::refuse_words;
 use crate::left::{Left, Served};
 use crate::logging::serve_logged;
 use crate::opening::{Setup, open, open_telling};
+use call_record::Record;
 use command_line::{Mode, WordsFault, as_texts, mode_of};
 use iscsi_ports::{MioPorts, Ports};
 use iscsi_target::Target;
@@ -57,7 +59,7 @@ fn replay_at<S: Start, R: Read, W: Write>(
 {
     let alloc = rt.alloc();
     let configuration = file_config(alloc, contents)?;
-    let Setup { config, units, .. } = open(rt, configuration)?;
+    let Setup { config, units, .. } = open(rt, configuration, &mut left.refused)?;
     let target = Target::new(alloc, config, units)?;
     let mut engine = Engine::new(alloc, target);
     let ended = replay(&mut engine, reader, writer);
@@ -66,16 +68,18 @@ fn replay_at<S: Start, R: Read, W: Write>(
     Ok(())
 }
 
-/// Listens on an address. If that fails, writes the reason to the log.
+/// Listens on an address. If that fails, writes the reason to the log. The call that failed is noted in `unbound`.
 fn listen(
     rt: &(impl Files<File = File> + AllocGlobal + Net + Clock),
     address: &str,
     causes: &Causes,
+    unbound: &mut Record,
 ) -> Result<MioPorts, Fault>
     ensures log { IfOk result (λ ports. ⟦<MioPorts as Ports>⟧.log ports ≡ Listened address.now ∷ []) }
-    ensures fault { IfErr result (λ fault. (fault ≡ Fault.Socket) ⊎ (fault ≡ Fault.OutOfMemory)) }
+    ensures fault { IfErr result (λ fault. ((fault ≡ Fault.Socket) × IsUnbound address.now unbound.old.calls unbound.new.calls)
+        ⊎ (fault ≡ Fault.OutOfMemory)) }
 {
-    match MioPorts::new(rt, rt.alloc(), address, None) {
+    match MioPorts::new(rt, rt.alloc(), address, None, unbound) {
         Ok(ports) => Ok(ports),
         Err(fault) => {
             causes.tell_unbound(rt, rt.alloc(), address, fault);
@@ -97,16 +101,26 @@ fn serve_at<S: Start, W: Write>(
     ensures ends { ServesAt S.held (left_view ⟦<MioPorts as Ports>⟧.log left.new) (W.contents writer.old) (W.contents writer.new) count
         (file_config_of contents.now) result }
 {
+    left.forget_start();
     let alloc = rt.alloc();
     let configuration = file_config(alloc, contents)?;
     let causes = Causes::of(alloc, &configuration);
-    let Setup { config, log, units } = open_telling(rt, configuration, &causes)?;
-    let mut ports = listen(rt, config.listen.as_str(), &causes)?;
-    let Ok(address) = ports.address() else {
+    let Setup { config, log, units } = open_telling(rt, configuration, &mut left.refused, &causes)?;
+    let mut ports = listen(rt, config.listen.as_str(), &causes, &mut left.unbound)?;
+    let Ok(address) = ports.address(&mut left.unbound) else {
         return Err(Fault::Socket);
     };
     let mut target = Target::new(alloc, config, units)?;
-    let (ports, ended) = serve_logged(rt, address, ports, log, &mut target, count, writer);
+    let (ports, ended) = serve_logged(
+        rt,
+        address,
+        ports,
+        log,
+        &mut left.logged,
+        &mut target,
+        count,
+        writer,
+    );
     left.served = Some(Served { ports, target });
     ended
 }
