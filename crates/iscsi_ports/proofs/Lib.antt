@@ -4,3 +4,4 @@ mod Seeing
 mod Accounts
 mod Buffers
 mod LingeringPlaces
+mod Waiting

@@ -4,7 +4,6 @@ use Rattle.std.specs.Prelude.{nat_lt, ◌&&◌, not, option_map, slice_index_or}
 use Rattle.std.specs.List.{list_all}
 use Rattle.std.proofs.lemmas.Bool.{false≢true, ne_eqb, cases_eq, cases_lt}
 use Rattle.iscsi_ports.specs.Asking.{gave}
-use Rattle.iscsi_ports.specs.Polls.{IsNoLonger, wait_for}
 use Rattle.iscsi_ports.specs.Lingering.{place_of, LingeringCall, Draining, DrainingRead, Left, left_of, left_in, left_after, bytes_after, IsDrained, AreDrained, answer_in, taken_below, turns_later, turns_left}
 use Rattle.iscsi_ports.specs.declared.lingering.LingeringSocket.{LingeringSocket}
 use Rattle.iscsi_ports.specs.declared.socket_failure.SocketFailure.{SocketFailure}
@@ -143,16 +142,6 @@ drained_at_once before after calls_before calls_after has_more at_once so none =
   more = λ d lt gives stays. absurd (false≢true (sym none ∙ so.more d lt gives stays));
   ahead = so.ahead;
 }
-
--- ---- for how long a poll waits
-
-pub shortly_no_longer : (wait : Option ℕ) → IsNoLonger (wait_for false true wait) wait
-shortly_no_longer None = tt
-shortly_no_longer (Some limit) = omega arith
-
-pub shortly_a_second : (wait : Option ℕ) → IsNoLonger (wait_for false true wait) (Some 1000000000)
-shortly_a_second None = omega arith
-shortly_a_second (Some limit) = omega arith
 
 -- ---- for how long one stays
 

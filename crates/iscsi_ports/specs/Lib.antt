@@ -13,5 +13,6 @@ pub mod Events
 pub mod Polls
 pub mod Asking
 pub mod Lingering
+pub mod Spares
 pub mod ExamplesReadBuffer
 pub mod ExamplesScript

@@ -2,7 +2,7 @@
 //!
 //! No contract says what a socket gives and takes, so whether each note is true is seen here by eye.
 
-ghost use Rattle.std.specs.Prelude.{◌≡◌, ◌≢◌, ◌≤◌, ◌-◌, ◌∷◌, [], ℕ, true, false, not, ◌==◌, length, slice_index_or, Option, Some, None, is_none, option_map, Ok, IsSome, IfOk, IfErr, OnOk, OnErr};
+ghost use Rattle.std.specs.Prelude.{◌≡◌, ◌≢◌, ◌<◌, ◌≤◌, ◌-◌, ◌∷◌, [], ℕ, true, false, not, ◌==◌, length, slice_index_or, Option, Some, None, is_none, option_map, Ok, IsSome, IfOk, IfErr, OnOk, OnErr};
 ghost use Rattle.iscsi_ports.specs.Binding.{not_located, ExplainsFault};
 ghost use Rattle.std.specs.Net.Socket.{socket_ip, socket_port};
 ghost use Rattle.std.specs.Result.{IsErrOf};
@@ -14,6 +14,7 @@ ghost use Rattle.iscsi_ports.specs.Events.{IsNamed};
 ghost use Rattle.mio.specs.Events.{items};
 ghost use Rattle.iscsi_ports.specs.ReadBuffer.{IsAccounted, AreDropped, ahead_on};
 ghost use Rattle.iscsi_ports.specs.Polls.{IsNoLonger, waited_in};
+ghost use Rattle.iscsi_ports.specs.Spares as spares;
 ghost use Rattle.std.specs.Duration.{as_nanos};
 ghost use Rattle.std.specs.List.{list_all};
 
@@ -162,13 +163,18 @@ impl SocketCalls for MioSockets {
         wait: Option<Duration>,
     ) -> Result<(), SocketFailure>
         ensures noted { (handed : Option ℕ) × IsNoLonger handed (option_map as_nanos wait)
-            × (list_all is_none self.old.lingering.places.items ≡ true → handed ≡ option_map as_nanos wait)
+            × (list_all is_none self.old.lingering.places.items ≡ true → length self.old.spares.buffers.items ≡ 0
+            → handed ≡ option_map as_nanos wait)
             × (⟦<MioSockets as SocketCalls>⟧.calls self.new
             ≡ Polling handed (named_by result readiness.new.named) ∷ ⟦<MioSockets as SocketCalls>⟧.calls self.old) }
         ensures turn { OnOk result (IsNamed (⟦<MioSockets as SocketCalls>⟧.events self.new) readiness.old readiness.new) }
         ensures unseen { OnErr result (readiness.new ≡ readiness.old) }
         ensures shortly { list_all is_none self.old.lingering.places.items ≡ false
             → IsNoLonger (waited_in (⟦<MioSockets as SocketCalls>⟧.calls self.new)) (Some 1000000000) }
+        ensures shortly_with_spares { 0 < length self.old.spares.buffers.items
+            → IsNoLonger (waited_in (⟦<MioSockets as SocketCalls>⟧.calls self.new)) (Some 1000000000) }
+        ensures idle { OnOk result (spares.is_idle (waited_in (⟦<MioSockets as SocketCalls>⟧.calls self.new))
+            (not (length (items self.new.events) == 0)) ≡ true → length self.new.spares.buffers.items ≡ 0) }
         ensures lingering { OnOk result ((d : ℕ) → turns_left (place_of d self.new.lingering.places.items)
             ≤ turns_left (place_of d self.old.lingering.places.items) - 1) }
         ensures lingers { OnOk result (Lingers (waited_in (⟦<MioSockets as SocketCalls>⟧.calls self.new))
@@ -179,14 +185,17 @@ impl SocketCalls for MioSockets {
             (is_at_once (waited_in (⟦<MioSockets as SocketCalls>⟧.calls self.new)))) }
     {
         let wait = self.lingering.drain(wait);
+        let wait = self.spares.wait_beside(wait);
         if let Err(error) = self.poll.poll(&mut self.events, wait) {
             let failure = socket_failure(&error);
             self.notes.poll_failed(wait, failure);
             return Err(failure);
         }
         name_ready(readiness, &self.events);
-        let turns = turns_of(wait, !self.events.is_empty());
+        let met_event = !self.events.is_empty();
+        let turns = turns_of(wait, met_event);
         self.lingering.count_turns(turns);
+        self.spares.drop_idle(wait, met_event);
         self.notes.polled(wait, &readiness.named);
         Ok(())
     }

@@ -1,26 +1,33 @@
 //! Buffers that are kept for the next reads.
+//!
+//! A buffer that is kept lies above memory that was freed since, which then stays with the process. So all are dropped once
+//! the process is idle: a poll waits no longer than a second while one is kept, and drops them if it met no event.
 
-ghost use Rattle.std.specs.Prelude.{◌≡◌, ◌≢◌, ◌≤◌, ◌<◌, [], length, IsSome};
+ghost use Rattle.std.specs.Prelude.{◌≡◌, ◌≢◌, ◌≤◌, ◌<◌, [], true, false, length, option_map, IsSome};
+ghost use Rattle.std.specs.Duration.{as_nanos};
 ghost use Rattle.iscsi_ports.specs.ReadBuffer.{bytes_in};
+ghost use Rattle.iscsi_ports.specs.Spares as spares;
 
+use crate::asking::shortly;
 use crate::read_buffer::{ReadBuffer, count_ahead};
 use std::alloc::{AllocError, Global};
+use std::time::Duration;
 
-/// So many are kept at most.
+/// The most buffers that are kept.
 const MOST_KEPT: usize = 16;
 
-/// After so many reads those are dropped that none of them needed.
+/// The number of reads after which those buffers are dropped that none of these reads needed.
 const PERIOD: u32 = 1_024;
 
 /// As many buffers as reads needed at once of late, and 16 at most.
 #[derive(Drop)]
 pub(crate) struct Spares {
     buffers: Vec<ReadBuffer>,
-    /// So many are kept: one more each time that none was left.
+    /// The number that is kept: one more each time that none was left.
     wanted: usize,
-    /// In this period so many were left at least.
+    /// The least number that was left in this period.
     unused: usize,
-    /// So many reads were made in this period.
+    /// The number of reads in this period.
     reads: u32,
     alloc: Global,
     ghost kept: { length buffers.items ≤ wanted },
@@ -28,8 +35,15 @@ pub(crate) struct Spares {
     ghost period: { reads < 1024 },
 }
 
+/// Returns whether a poll was idle: it waited for as long as this, and met no event.
+fn is_idle(waited: Option<Duration>, met_event: bool) -> bool
+    ensures { result ≡ spares.is_idle (option_map as_nanos waited) met_event }
+{
+    !met_event && waited != Some(Duration::ZERO)
+}
+
 impl Spares {
-    /// None.
+    /// Makes room for the buffers, of which none is there yet.
     pub(crate) fn new(alloc: Global) -> Result<Spares, AllocError> {
         Ok(Spares {
             buffers: Vec::with_capacity(alloc, MOST_KEPT)?,
@@ -40,7 +54,7 @@ impl Spares {
         })
     }
 
-    /// Counts a read, and ends the period behind its last one.
+    /// Counts a read, and ends the period after its last one.
     fn count_read(&mut self) {
         if self.reads + 1 < PERIOD {
             self.reads += 1;
@@ -52,7 +66,7 @@ impl Spares {
         self.unused = self.buffers.len();
     }
 
-    /// A buffer to read into: one that is kept, or a new one. None where an allocation fails.
+    /// Returns a buffer to read into: one that is kept, or a new one. None if an allocation fails.
     pub(crate) fn take(&mut self) -> Option<ReadBuffer>
         ensures { self.old.buffers.items ≢ [] → IsSome result }
     {
@@ -75,9 +89,33 @@ impl Spares {
             self.buffers.push_reserved(buffer);
         }
     }
+
+    /// Returns for how long a poll waits that would wait for this long: no longer than a second while a buffer is kept.
+    pub(crate) fn wait_beside(&self, wait: Option<Duration>) -> Option<Duration>
+        ensures { option_map as_nanos result ≡ spares.wait_beside (length self.now.buffers.items) (option_map as_nanos wait) }
+    {
+        if self.buffers.is_empty() {
+            return wait;
+        }
+        shortly(wait)
+    }
+
+    /// Drops all buffers after a poll that waited for as long as this, if it was idle, and forgets how many were needed.
+    pub(crate) fn drop_idle(&mut self, waited: Option<Duration>, met_event: bool)
+        ensures idle { spares.is_idle (option_map as_nanos waited) met_event ≡ true → length self.new.buffers.items ≡ 0 }
+        ensures other { spares.is_idle (option_map as_nanos waited) met_event ≡ false → self.new ≡ self.old }
+    {
+        if !is_idle(waited, met_event) {
+            return;
+        }
+        self.buffers.clear();
+        self.wanted = 0;
+        self.unused = 0;
+        self.reads = 0;
+    }
 }
 
-/// Where nothing is ahead any more, the buffer is kept for a later read.
+/// Keeps the buffer for a later read, if nothing is ahead any more.
 pub(crate) fn give_back(place: &mut Option<ReadBuffer>, spares: &mut Spares)
     ensures { bytes_in place.new ≡ bytes_in place.old }
 {

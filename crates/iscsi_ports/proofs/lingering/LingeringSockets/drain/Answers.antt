@@ -2,7 +2,8 @@ use Rattle.iscsi_ports.specs.Lingering.{is_at_once}
 use Rattle.std.proofs.Common.{rules}
 use Rattle.std.specs.Prelude.{option_map}
 use Rattle.std.specs.Duration.{as_nanos}
-use Rattle.iscsi_ports.proofs.LingeringPlaces.{none_drained, drained_at_once, shortly_no_longer, shortly_a_second}
+use Rattle.iscsi_ports.proofs.LingeringPlaces.{none_drained, drained_at_once}
+use Rattle.iscsi_ports.proofs.Waiting.{shortly_no_longer, shortly_a_second}
 use Rattle.iscsi_ports.proofs.lingering.LingeringSockets.drain.Goals as goal
 
 pub returns-then-is_empty-clause-drains : goal.returns-then-is_empty-clause-drains
