@@ -12,15 +12,15 @@ use Rattle.iscsi_ports.specs.declared.stopwatch.Stopwatch.{Stopwatch}
 use Rattle.iscsi_ports.specs.declared.socket_failure.SocketFailure.{SocketFailure}
 use Rattle.iscsi_ports.specs.declared.socket_failure.SocketFailure.TheVariants.{WouldWait, Refused}
 
--- own: a poll is due to ask the system where so many were answered, or so many bytes carried, without asking it
+-- own: a poll is due to ask the system once as many polls were answered as may be, or 262144 bytes carried, without asking it
 abbrev pub is_due : ℕ → ℕ → ℕ → Bool
 is_due unasked most_unasked carried = nat_le most_unasked unasked || nat_le 262144 carried
 
--- own: bytes that are ahead were just read, or something was done just behind a poll that asked
+-- own: bytes that are ahead were just read, or something was done right after a poll that asked
 abbrev pub is_to_go_on : Bool → Bool → ℕ → Bool
 is_to_go_on holding busy unasked = holding || (busy && nat_lt unasked 1)
 
--- own: behind a read or a write of so many bytes; no more than 262144 are counted
+-- own: after a read or a write of this number of bytes; no more than 262144 are counted
 abbrev pub carried_after : Result ℕ SocketFailure → ℕ → ℕ
 carried_after (Ok count) carried = min (carried + count) 262144
 carried_after (Err failure) carried = carried
@@ -34,7 +34,7 @@ longer most_unasked = min (2 * most_unasked + 1) 63
 abbrev pub is_put_off : Bool → ℕ → ℕ → Bool
 is_put_off has_read ahead offered = has_read && nat_le 48 ahead && nat_lt offered 262144
 
--- own: behind a write that would have waited the next poll asks
+-- own: after a write that would have waited the next poll asks
 abbrev pub most_after : {T : Type 0} → Result T SocketFailure → ℕ → ℕ
 most_after (Err WouldWait) most_unasked = 0
 most_after answer most_unasked = most_unasked
@@ -49,7 +49,7 @@ abbrev pub is_refused : {T : Type 0} → Result T SocketFailure → Bool
 is_refused (Err Refused) = true
 is_refused answer = false
 
--- ---- the ports behind a call, but for the sockets: how it changes these, and what they answer, the clauses say
+-- ---- the ports after a call, but for the sockets: how it changes these, and what they answer, the clauses say
 
 module _ {K : Type 0} where
   -- own: a poll asks the system where it is due, where it cannot go on, or where a millisecond has passed since it was asked

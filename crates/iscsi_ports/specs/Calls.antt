@@ -38,19 +38,19 @@ failure_of _ code = if is_broken code then Broken else Refused
 pub data Call : Type 0 where
   -- a listener was made at the address that this text spells
   Listening : (text : List ℕ) → Call
-  -- a poll, for how many nanoseconds it waits, or without limit, and who may be ready behind it
+  -- a poll, for how many nanoseconds it waits, or without limit, and who may be ready after it
   Polling : (wait : Option ℕ) (answer : Result Named SocketFailure) → Call
   -- none was made of the system: this is who is known to be ready
   Naming : (named : Named) → Call
   -- an accept under this number, the token by which the system watches the connection, if it does, and whether it is kept
   Accepting : (c : ℕ) (token : Option ℕ) (answer : Result Bool SocketFailure) → Call
-  -- a read, for one who has so much room, and the bytes that came: those that have no room are ahead
+  -- a read, for one who has this room, and the bytes that came: those that have no room are ahead
   Reading : (c room : ℕ) (answer : Result (List ℕ) SocketFailure) → Call
-  -- none was made: these bytes were ahead, and are handed on to one who has so much room
+  -- none was made: these bytes were ahead, and are handed on to one who has this room
   Handing : (c room : ℕ) (piece : List ℕ) → Call
-  -- a write of so many bytes, and those that were taken
+  -- a write of this number of bytes, and those that were taken
   Writing : (c offered : ℕ) (answer : Result (List ℕ) SocketFailure) → Call
-  -- none was made: a write of so many bytes is put off
+  -- none was made: a write of this number of bytes is put off
   PuttingOff : (c offered : ℕ) → Call
   -- a close, and the bytes that were ahead, which are dropped
   Closing : (c : ℕ) (dropped : List ℕ) → Call

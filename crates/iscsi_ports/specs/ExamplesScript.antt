@@ -7,7 +7,7 @@ use Rattle.iscsi_ports.specs.declared.script.Course.{Course}
 
 -- two calls go as they can, the third takes nothing, and each later one takes one byte
 course : Course
-course = record { first = 2; next = steps.Moves 0; behind = steps.Moves 1 }
+course = record { first = 2; next = steps.Moves 0; later = steps.Moves 1 }
 
 second : told_at course 1 48 ≡ told.Bytes 48
 unfolding course

@@ -71,7 +71,7 @@ turns_later count None = None
 turns_later count (Some socket) =
     if nat_lt 0 (socket.turns - count) then Some (record socket { turns = socket.turns - count }) else None
 
--- own: for so many turns it stays at most
+-- own: for this number of turns it stays at most
 abbrev pub turns_left : Option LingeringSocket → ℕ
 turns_left None = 0
 turns_left (Some socket) = socket.turns

@@ -22,7 +22,7 @@ waited_in [] = None
 waited_in (Polling wait answer ∷ earlier) = wait
 waited_in (call ∷ earlier) = waited_in earlier
 
--- own: so many polls in a row were last answered without asking
+-- own: the number of polls in a row that were last answered without asking
 abbrev pub unasked_in : List Call → ℕ
 unasked_in [] = 0
 unasked_in (Naming named ∷ earlier) = unasked_in earlier + 1

@@ -70,14 +70,14 @@ abbrev pub would_wait : {T : Type 0} → Result T SocketFailure → Bool
 would_wait (Err WouldWait) = true
 would_wait answer = false
 
--- own: a read into so much room took all that the system had. It ends at the mark of urgent data, which may have more
--- behind it (tcp(7)).
+-- own: a read into this room took all that the system had. It ends at the mark of urgent data, which more may follow
+-- (tcp(7)).
 abbrev pub took_all : Result ℕ SocketFailure → ℕ → Bool → Bool
 took_all (Ok count) room is_urgent = nat_lt count room && not is_urgent
 took_all (Err WouldWait) room is_urgent = true
 took_all (Err failure) room is_urgent = false
 
--- own: one that would wait is behind all urgent data
+-- own: one that would wait comes after all urgent data
 abbrev pub after_taking : ℕ → Result ℕ SocketFailure → ℕ → Readiness → Readiness
 after_taking c answer room readiness = record readiness {
   readable = slice_set readiness.readable c
@@ -142,8 +142,7 @@ given_in_all (Err failure) ahead = Err failure
 abbrev pub asks_for : ℕ → ℕ → Bool
 asks_for room ahead = nat_lt 0 room && not (nat_lt 0 ahead)
 
--- own: behind a read with so much room, before which so much was ahead and behind which so much is, by a buffer of this
--- capacity
+-- own: after a read with this room, by what was ahead before it and what is ahead after it, by a buffer of this capacity
 abbrev pub read_by : ℕ → ℕ → ℕ → ℕ → ℕ → Result ℕ SocketFailure → Readiness → Readiness
 read_by capacity c room was_ahead ahead answer readiness =
     if asks_for room was_ahead then after_taking c (given_in_all answer ahead) capacity readiness else readiness

@@ -12,7 +12,7 @@ use Rattle.iscsi_ports.specs.declared.script.Script.{Script}
 abbrev pub most_moved : ℕ
 most_moved = 18446744073709551615
 
--- by a step, of a call that can move so many bytes
+-- by a step, of a call that can move this number of bytes
 abbrev pub step_told : Step → ℕ → IoResult
 step_told (steps.Moves count) most = told.Bytes (min count most)
 step_told steps.End most = told.End
@@ -21,13 +21,13 @@ step_told steps.Fault most = told.Fault
 -- by a course, of its n-th call from 0
 abbrev pub told_at : Course → ℕ → ℕ → IoResult
 told_at course n most =
-    if nat_lt n course.first then told.Bytes most else step_told (if n == course.first then course.next else course.behind) most
+    if nat_lt n course.first then told.Bytes most else step_told (if n == course.first then course.next else course.later) most
 
--- each call of the one is the call of the other that comes behind it
+-- each call of the one is the call of the other that comes after it
 abbrev pub IsBehind : Course → Course → Type 0
 IsBehind course course_then = (n most : ℕ) → told_at course_then n most ≡ told_at course (n + 1) most
 
--- a read with so much room tells the end where nothing is left, if there is one, and else goes by its course
+-- a read with this room tells the end if nothing is left, if there is one, and else goes by its course
 abbrev pub read_told : Script → ℕ → IoResult
 read_told script room =
     if script.ends && length script.input.items == 0 then told.End

@@ -37,7 +37,7 @@ impl<T: Drop> From<AllocFailed<T>> for BindFault {
     }
 }
 
-/// Returns what an error of the system is told as.
+/// Returns the fault that an error of the system stands for.
 pub(crate) fn bind_fault(error: &io::Error) -> BindFault
     ensures memory { error_kind error.now ≡ ErrorKind.OutOfMemory → result ≡ faults.Memory }
     ensures other { error_kind error.now ≢ ErrorKind.OutOfMemory → result ≡ faults.Socket (raw_os_error error.now) }

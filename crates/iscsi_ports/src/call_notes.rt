@@ -48,14 +48,14 @@ impl Model for CallNotes {
     ghost view = { λ notes. calls_of notes.record.calls };
 }
 
-/// A flag as a number of a note.
+/// Returns a flag as a number of a note.
 fn bit(flag: bool) -> u64
     ensures { (result == 1) ≡ flag }
 {
     if flag { 1 } else { 0 }
 }
 
-/// A time as numbers of a note: whether there is one, its seconds, and the nanoseconds that are more.
+/// Returns a time as numbers of a note: whether there is one, its seconds, and the nanoseconds that are more.
 fn wait_numbers(wait: Option<Duration>) -> (u64, u64, u64)
     ensures { time_of result.0 result.1 result.2 ≡ option_map as_nanos wait }
 {
@@ -65,7 +65,7 @@ fn wait_numbers(wait: Option<Duration>) -> (u64, u64, u64)
     }
 }
 
-/// A token as a flag and a number of a note: whether there is one, and which.
+/// Returns a token as a flag and a number of a note: whether there is one, and which.
 fn token_numbers(token: Option<usize>) -> (bool, u64)
     ensures { token_of result.0 result.1 ≡ token }
 {
@@ -76,7 +76,7 @@ fn token_numbers(token: Option<usize>) -> (bool, u64)
 }
 
 impl CallNotes {
-    /// Nothing was called.
+    /// Returns notes of no call.
     pub(crate) fn new() -> CallNotes
         ensures { result ≡ [] }
     {
@@ -85,7 +85,7 @@ impl CallNotes {
         }
     }
 
-    /// A listener was made at the address that this text spells.
+    /// Notes that a listener was made at the address that this text spells.
     pub(crate) fn listening(&mut self, address: &str)
         ensures { self.new ≡ Listening address.now ∷ self.old }
     {
@@ -93,7 +93,7 @@ impl CallNotes {
             .note(&[CallKind::Listening as u64], address.as_bytes(), &[]);
     }
 
-    /// The address that is listened on was asked for.
+    /// Notes the address that is listened on, as the system told it.
     pub(crate) fn located(&mut self, address: SocketAddr)
         ensures { self.new ≡ Located (ip_octets (socket_ip address)) (socket_port address) ∷ self.old }
     {
@@ -104,7 +104,7 @@ impl CallNotes {
         }
     }
 
-    /// A poll that waited for so long made known who may be ready.
+    /// Notes that a poll which waited for as long as this made known who may be ready.
     pub(crate) fn polled(&mut self, wait: Option<Duration>, named: &Named)
         ensures { self.new ≡ Polling (option_map as_nanos wait) (Ok named.now) ∷ self.old }
     {
@@ -121,7 +121,7 @@ impl CallNotes {
         self.record.note(&numbers, &[], &named.connections);
     }
 
-    /// A poll failed.
+    /// Notes that a poll failed.
     pub(crate) fn poll_failed(&mut self, wait: Option<Duration>, failure: SocketFailure)
         ensures { self.new ≡ Polling (option_map as_nanos wait) (Err failure) ∷ self.old }
     {
@@ -137,7 +137,7 @@ impl CallNotes {
         self.record.note(&numbers, &[], &[]);
     }
 
-    /// The system was not asked: this is who is known to be ready.
+    /// Notes whom a poll names that did not ask the system.
     pub(crate) fn named(&mut self, named: &Named)
         ensures { self.new ≡ Naming named.now ∷ self.old }
     {
@@ -145,8 +145,8 @@ impl CallNotes {
         self.record.note(&numbers, &[], &named.connections);
     }
 
-    /// A connection was accepted under a number: the token by which the system watches it, if it does, and
-    /// whether it is kept.
+    /// Notes that a connection was accepted under a number, with the token by which the system watches it, if it does,
+    /// and whether it is kept.
     pub(crate) fn accepted(&mut self, c: usize, token: Option<usize>, is_kept: bool)
         ensures { self.new ≡ Accepting c token (Ok is_kept) ∷ self.old }
     {
@@ -155,7 +155,7 @@ impl CallNotes {
         self.record.note(&numbers, &[], &[is_kept, is_watched]);
     }
 
-    /// An accept failed.
+    /// Notes that an accept failed.
     pub(crate) fn accept_failed(&mut self, c: usize, failure: SocketFailure)
         ensures { self.new ≡ Accepting c None (Err failure) ∷ self.old }
     {
@@ -163,7 +163,7 @@ impl CallNotes {
         self.record.note(&numbers, &[], &[]);
     }
 
-    /// A read for one who has so much room gave these bytes.
+    /// Notes that a read for one who has this room gave these bytes.
     pub(crate) fn read(&mut self, c: usize, room: usize, piece: &[u8])
         ensures { self.new ≡ Reading c room (Ok piece.now) ∷ self.old }
     {
@@ -171,7 +171,7 @@ impl CallNotes {
         self.record.note(&numbers, piece, &[]);
     }
 
-    /// A read failed.
+    /// Notes that a read failed.
     pub(crate) fn read_failed(&mut self, c: usize, room: usize, failure: SocketFailure)
         ensures { self.new ≡ Reading c room (Err failure) ∷ self.old }
     {
@@ -180,7 +180,7 @@ impl CallNotes {
         self.record.note(&numbers, &[], &[]);
     }
 
-    /// These bytes were ahead, and are handed on to one who has so much room.
+    /// Notes that these bytes, which were ahead, are handed on to one who has this room.
     pub(crate) fn handed(&mut self, c: usize, room: usize, piece: &[u8])
         ensures { self.new ≡ Handing c room piece.now ∷ self.old }
     {
@@ -188,7 +188,7 @@ impl CallNotes {
         self.record.note(&numbers, piece, &[]);
     }
 
-    /// A write of so many bytes took these.
+    /// Notes that a write which was offered this number of bytes took these.
     pub(crate) fn wrote(&mut self, c: usize, offered: usize, piece: &[u8])
         ensures { self.new ≡ Writing c offered (Ok piece.now) ∷ self.old }
     {
@@ -196,7 +196,7 @@ impl CallNotes {
         self.record.note(&numbers, piece, &[]);
     }
 
-    /// A write failed.
+    /// Notes that a write failed.
     pub(crate) fn write_failed(&mut self, c: usize, offered: usize, failure: SocketFailure)
         ensures { self.new ≡ Writing c offered (Err failure) ∷ self.old }
     {
@@ -205,7 +205,7 @@ impl CallNotes {
         self.record.note(&numbers, &[], &[]);
     }
 
-    /// A write of so many bytes is put off.
+    /// Notes that a write of this number of bytes is put off.
     pub(crate) fn put_off(&mut self, c: usize, offered: usize)
         ensures { self.new ≡ PuttingOff c offered ∷ self.old }
     {
@@ -213,7 +213,7 @@ impl CallNotes {
         self.record.note(&numbers, &[], &[]);
     }
 
-    /// A connection is closed, and these bytes, which were ahead, are dropped.
+    /// Notes that a connection is closed, and that these bytes, which were ahead, are dropped.
     pub(crate) fn closed(&mut self, c: usize, dropped: &[u8])
         ensures { self.new ≡ Closing c dropped.now ∷ self.old }
     {

@@ -24,13 +24,13 @@ pub enum Entry {
     NobodyCame,
     /// An accept failed.
     AcceptFailed,
-    /// A read of a connection, with so much room.
+    /// A read of a connection, with this room.
     Read {
         c: usize,
         room: usize,
         carried: Carried,
     },
-    /// A write to a connection, which was offered so many bytes.
+    /// A write to a connection, which was offered this number of bytes.
     Wrote {
         c: usize,
         offered: usize,

@@ -1,6 +1,6 @@
 //! Connections that are closed, and whose peers may still send.
 //!
-//! Where a socket is closed while bytes wait to be read on it, the system resets the connection and throws
+//! If a socket is closed while bytes wait to be read on it, the system resets the connection and throws
 //! away what it has not sent (RFC 9293 §3.10.4 and RFC 1122 §4.2.2.13 let it). So a connection is shut for
 //! writing first, then what its peer sends is read and thrown away until the peer ends too, within a bound
 //! of bytes and of turns, and only then it is closed.
@@ -27,16 +27,16 @@ use target_limits::CONNECTIONS;
 /// The token of all of them: it is none of a connection's, and no listener's.
 const LINGERING: usize = CONNECTIONS + 1;
 
-/// So many bytes at most are read of one in a turn.
+/// The most bytes that are read of one in a turn.
 const PIECE: usize = 16_384;
 
-/// So many bytes at most are read of one in all.
+/// The most bytes that are read of one in all.
 const MOST_BYTES: usize = 16_777_216;
 
-/// One stays for so many turns at most.
+/// The most turns for which one stays.
 const MOST_TURNS: u32 = 1_048_576;
 
-/// A turn that waited and met no event counts as so many, so that one whose peer is silent stays for 32.
+/// As how many turns one counts that waited and met no event, so that one whose peer is silent stays for 32.
 const IDLE_TURNS: u32 = 32_768;
 
 /// A connection that is shut for writing.
@@ -49,8 +49,8 @@ struct LingeringSocket {
 }
 
 impl LingeringSocket {
-    /// Shuts a connection for writing, and notes whether it is kept in this place. None where that fails, since its
-    /// peer is gone.
+    /// Shuts a connection for writing, and notes whether it is kept in this place. Returns
+    /// None if that fails, since its peer is gone.
     fn new(
         registry: &Registry,
         mut stream: TcpStream,
@@ -89,7 +89,8 @@ fn bytes_after(answer: Result<usize, SocketFailure>, bytes: usize) -> Option<usi
     }
 }
 
-/// Reads a piece of the one in this place, throws it away, and closes the one that is over. Whether it may have more.
+/// Reads a piece of the one in this place, throws it away, and closes the one that is over. Returns whether it may have
+/// more.
 fn drain_place(
     place: &mut Option<LingeringSocket>,
     number: usize,
@@ -115,7 +116,7 @@ fn drain_place(
     }
 }
 
-/// Counts so many turns of the one in this place, and closes it where none are left.
+/// Counts this number of turns of the one in this place, and closes it if none are left.
 fn count_place(place: &mut Option<LingeringSocket>, turns: u32)
     ensures { place.new ≡ turns_later turns place.old }
 {
@@ -129,7 +130,7 @@ fn count_place(place: &mut Option<LingeringSocket>, turns: u32)
     }
 }
 
-/// As how many a turn counts that waited for so long.
+/// Returns as how many a turn counts that waited for as long as this.
 pub(crate) fn turns_of(wait: Option<Duration>, met_event: bool) -> u32
     ensures some { 1 ≤ result }
     ensures value { result ≡ turns_for (option_map as_nanos wait) met_event }
@@ -150,7 +151,7 @@ pub(crate) struct LingeringSockets {
 }
 
 impl LingeringSockets {
-    /// None.
+    /// Makes 65 free places.
     pub(crate) fn new(alloc: Global) -> Result<LingeringSockets, AllocError>
         ensures places { IfOk result (λ sockets. sockets.places.items ≡ replicate 65 None) }
         ensures notes { IfOk result (λ sockets. sockets.notes ≡ []) }
@@ -167,7 +168,7 @@ impl LingeringSockets {
         self.places.iter().all(|place| place.is_none())
     }
 
-    /// The first place that is free. Where none is, the last one is taken.
+    /// Returns the first place that is free, or the last one if none is.
     fn free_place(&self) -> usize
         ensures value { result ≡ place_to_take self.now.places.items }
         ensures range { result ≤ 64 }
@@ -190,7 +191,7 @@ impl LingeringSockets {
         self.places[place] = LingeringSocket::new(registry, stream, place, &mut self.notes);
     }
 
-    /// Reads a piece of each, and closes those that are over. Whether one may have more.
+    /// Reads a piece of each, and closes those that are over. Returns whether one may have more.
     fn drain_all(&mut self) -> bool
         ensures { AreDrained 65 self.old.places.items self.new.places.items self.old.notes self.new.notes result }
     {
@@ -203,7 +204,7 @@ impl LingeringSockets {
         has_more
     }
 
-    /// Reads a piece of each. For how long a turn waits that would wait as long as this.
+    /// Reads a piece of each. Returns for how long a turn waits that would wait as long as this.
     pub(crate) fn drain(&mut self, wait: Option<Duration>) -> Option<Duration>
         ensures no_longer { IsNoLonger (option_map as_nanos result) (option_map as_nanos wait) }
         ensures as_told { list_all is_none self.old.places.items ≡ true → result ≡ wait }
@@ -220,7 +221,7 @@ impl LingeringSockets {
         shortly(wait)
     }
 
-    /// Counts so many turns of each, and closes those that have stayed for all of theirs.
+    /// Counts this number of turns of each, and closes those that have stayed for all of theirs.
     pub(crate) fn count_turns(&mut self, turns: u32)
         ensures counts { (d : ℕ) → place_of d self.new.places.items ≡ turns_later turns (place_of d self.old.places.items) }
         ensures notes { self.new.notes ≡ self.old.notes }

@@ -34,7 +34,7 @@ impl Model for LingeringNotes {
 }
 
 impl LingeringNotes {
-    /// Nothing was called.
+    /// Returns notes of no call.
     pub(crate) fn new() -> LingeringNotes
         ensures { result ≡ [] }
     {

@@ -30,7 +30,7 @@ pub struct MemPorts {
 }
 
 impl MemPorts {
-    /// A listener with these callers, who wait to be accepted one after the other.
+    /// Makes a listener with these callers, who wait to be accepted one after the other.
     pub fn new(alloc: Global, callers: VecDeque<Script>) -> Result<MemPorts, AllocError>
         ensures empty { IfOk result (λ ports. ports.log.items ≡ []) }
         ensures tells { IfOk result (λ ports. ports.tells ≡ true) }
@@ -44,7 +44,7 @@ impl MemPorts {
         })
     }
 
-    /// The log tells all that was told so far.
+    /// Returns whether the log tells all that was told so far.
     pub fn tells(&self) -> bool
         ensures { result ≡ self.now.tells }
     {
@@ -52,7 +52,7 @@ impl MemPorts {
     }
 }
 
-/// What the connection in this place gives to a read: a fault where there is none.
+/// Returns what the connection in this place gives to a read: a fault if there is none.
 fn read_of(place: &mut Option<Script>, buffer: &mut [u8]) -> IoResult
     ensures count { count_of result ≤ length buffer.new }
     ensures told { result ≡ read_told_at place.old (length buffer.old) }
@@ -65,7 +65,7 @@ fn read_of(place: &mut Option<Script>, buffer: &mut [u8]) -> IoResult
     }
 }
 
-/// How many bytes the connection in this place takes of a write: a fault where there is none.
+/// Returns how many bytes the connection in this place takes of a write: a fault if there is none.
 fn write_of(place: &mut Option<Script>, bytes: &[u8]) -> IoResult
     ensures count { count_of result ≤ length bytes.now }
     ensures told { result ≡ write_told_at place.old (length bytes.now) }
@@ -77,7 +77,7 @@ fn write_of(place: &mut Option<Script>, bytes: &[u8]) -> IoResult
     }
 }
 
-/// What a call with this buffer told, for the log.
+/// Returns what a call with this buffer told, for the log.
 fn carried(alloc: Global, told: IoResult, buffer: &[u8]) -> Result<Carried, AllocError>
     requires { count_of told ≤ length buffer.now }
     ensures { IfOk result (λ carried. carried_view carried ≡ carried_by told buffer.now) }

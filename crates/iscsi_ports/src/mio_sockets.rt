@@ -136,7 +136,7 @@ impl MioSockets {
         }
     }
 
-    /// What is ahead of a connection is dropped, and noted with its close.
+    /// Drops what is ahead of a connection, and notes it with its close.
     fn note_close(&mut self, c: usize)
         requires { c ≤ 64 }
         ensures noted { ⟦<MioSockets as SocketCalls>⟧.calls self.new

@@ -14,19 +14,19 @@ use libc::net::{
 use mio::net::TcpListener;
 use std::os::fd::AsRawFd;
 
-/// After so many seconds in which nothing came, the peer is asked whether it is there.
+/// The number of seconds without a byte after which the peer is asked whether it is there.
 const IDLE: i32 = 30;
 
-/// It is asked again after so many seconds.
+/// The number of seconds after which it is asked again.
 const INTERVAL: i32 = 10;
 
-/// It is gone where it did not answer so many times.
+/// How often it is asked before it counts as gone.
 const ASKED: i32 = 3;
 
-/// It is gone where it did not acknowledge for so many milliseconds what was sent, or had no room for it.
+/// For how many milliseconds it may leave what was sent unacknowledged, or have no room for it, before it counts as gone.
 const UNACKNOWLEDGED: i32 = 60_000;
 
-/// A number as the value of an option.
+/// Returns a number as the value of an option.
 fn value(number: i32) -> [u8; 16]
     ensures { take 4 result ≡ to_le_bytes w32 (cast_unsigned w32 number) }
 {
@@ -42,8 +42,8 @@ fn set(listener: &TcpListener, level: i32, name: i32, number: i32)
     let _ = unsafe { setsockopt(listener.as_raw_fd(), level, name, &value(number), 4) };
 }
 
-/// Has the system send at once what is written to the connections of a listener, and end one whose peer is gone:
-/// its next read then fails.
+/// Sets that the system sends at once what is written to the connections of a listener, and ends one whose peer is
+/// gone: its next read then fails.
 pub(crate) fn set_options(listener: &TcpListener) {
     set(listener, IPPROTO_TCP, TCP_NODELAY, 1);
     set(listener, SOL_SOCKET, SO_KEEPALIVE, 1);

@@ -6,7 +6,7 @@ use std::net::SocketAddr;
 
 /// Ports that know who is at the other end of each connection. Nothing is promised of what the system says.
 pub trait Peers {
-    /// The address of a connection's peer, as the system knows it.
+    /// Returns the address of a connection's peer, as the system knows it.
     fn peer(&self, c: usize) -> Option<SocketAddr>;
 }
 

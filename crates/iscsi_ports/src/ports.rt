@@ -42,7 +42,7 @@ pub trait Ports {
         ensures log { tells self.new ≡ true → log self.new ≡ log self.old ++ Wrote c (length bytes.now) (carried_by result bytes.now) ∷ [] }
         ensures back { tells self.new ≡ true → tells self.old ≡ true };
 
-    /// The target closes a connection since an allocation failed. Nothing is done, only told.
+    /// Learns that the target closes a connection since an allocation failed. Does nothing else.
     fn starved(&mut self, _c: usize)
         ensures log { log self.new ≡ log self.old }
         ensures tells { tells self.new ≡ tells self.old }

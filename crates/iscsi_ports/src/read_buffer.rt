@@ -29,7 +29,7 @@ impl Model for ReadBuffer {
 }
 
 impl ReadBuffer {
-    /// A buffer with nothing in it.
+    /// Makes a buffer with nothing in it.
     pub(crate) fn new(alloc: Global) -> Result<ReadBuffer, AllocError>
         ensures { IfOk result (λ ahead. ahead ≡ []) }
     {
@@ -40,21 +40,22 @@ impl ReadBuffer {
         })
     }
 
-    /// What is ahead.
+    /// Returns what is ahead.
     pub(crate) fn as_slice(&self) -> &[u8]
         ensures { result.now ≡ self.now }
     {
         &self.buffer.as_slice()[self.from..self.to]
     }
 
-    /// How many bytes are ahead.
+    /// Returns how many bytes are ahead.
     pub(crate) fn len(&self) -> usize
         ensures { result ≡ length self.now }
     {
         self.to - self.from
     }
 
-    /// Reads once into the whole buffer, in the place of what was ahead. How many bytes came.
+    /// Reads once into the whole buffer, in the place of what was ahead. Returns how many bytes
+    /// came.
     pub(crate) fn fill(&mut self, reader: &mut impl Read) -> io::Result<usize>
         ensures { IfOk result (λ count. count ≡ length self.new) }
     {
@@ -91,7 +92,7 @@ pub(crate) fn hand_from(place: &mut Option<ReadBuffer>, buffer: &mut [u8]) -> us
     }
 }
 
-/// What is ahead.
+/// Returns what is ahead.
 pub(crate) fn slice_ahead(place: &Option<ReadBuffer>) -> &[u8]
     ensures { result.now ≡ bytes_in place.now }
 {
@@ -101,7 +102,7 @@ pub(crate) fn slice_ahead(place: &Option<ReadBuffer>) -> &[u8]
     }
 }
 
-/// How many bytes are ahead.
+/// Returns how many bytes are ahead.
 pub(crate) fn count_ahead(place: &Option<ReadBuffer>) -> usize
     ensures { result ≡ length (bytes_in place.now) }
 {

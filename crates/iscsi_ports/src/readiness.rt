@@ -1,7 +1,7 @@
 //! Which ports may be ready, as far as it is known.
 //!
 //! The system tells a change once (EPOLLET of epoll(7)). So a connection stays readable until a read of
-//! it would wait or gave less than it had room for. A read ends at the mark of urgent data, whatever is behind
+//! it would wait or gave less than it had room for. A read ends at the mark of urgent data, whatever follows
 //! it (tcp(7)), so one to which such data came stays readable until a read would wait. Where its peer has ended,
 //! or it failed, no further event tells of it, and it stays readable until a read says so. One whose write would
 //! have waited takes nothing until an event says that it can. Of those that are ready a poll names all but the long
@@ -50,14 +50,14 @@ pub struct Readiness {
 }
 
 impl ReadyEvent {
-    /// The system may give bytes, or tell that there are no more.
+    /// Returns whether the system may give bytes, or tell that there are no more.
     fn may_give(self) -> bool
         ensures { result ≡ may_give self }
     {
         self.is_readable || self.has_ended
     }
 
-    /// A write may be taken, or tell that none is.
+    /// Returns whether a write may be taken, or tell that none is.
     fn may_take(self) -> bool
         ensures { result ≡ may_take self }
     {
@@ -65,14 +65,14 @@ impl ReadyEvent {
     }
 }
 
-/// A read or a write would have waited.
+/// Returns whether a read or a write would have waited.
 fn would_wait(answer: Result<usize, SocketFailure>) -> bool
     ensures { result ≡ ready.would_wait answer }
 {
     answer == Err(SocketFailure::WouldWait)
 }
 
-/// Whether a read into so much room took all that the system had.
+/// Returns whether a read into this room took all that the system had.
 fn took_all(answer: Result<usize, SocketFailure>, room: usize, is_urgent: bool) -> bool
     ensures { result ≡ ready.took_all answer room is_urgent }
 {
@@ -82,14 +82,14 @@ fn took_all(answer: Result<usize, SocketFailure>, room: usize, is_urgent: bool) 
     }
 }
 
-/// Whether the system may still give bytes of a connection after a read of it, which took all that there was.
+/// Returns whether the system may still give bytes of a connection after a read of it, which took all that there was.
 fn stays_readable(is_readable: bool, took_all: bool, has_ended: bool) -> bool
     ensures { result ≡ still_readable is_readable took_all has_ended }
 {
     is_readable && (!took_all || has_ended)
 }
 
-/// Gives a connection this flag, where something says so.
+/// Gives a connection this flag, if something says so.
 pub(crate) fn set_where(says: bool, flags: &mut [bool; CONNECTIONS], c: usize, flag: bool)
     requires { c < 64 }
     ensures { flags.new ≡ flags_with says c flag flags.old }
@@ -100,7 +100,7 @@ pub(crate) fn set_where(says: bool, flags: &mut [bool; CONNECTIONS], c: usize, f
 }
 
 impl Readiness {
-    /// None is ready.
+    /// Returns that of none anything is known.
     pub(crate) fn new() -> Readiness
         ensures { result ≡ nothing_ready }
     {
@@ -131,7 +131,7 @@ impl Readiness {
         set_where(event.may_take(), &mut self.full, c, false);
     }
 
-    /// After a read of the system into so much room.
+    /// Takes note of a read of the system into this room.
     pub(crate) fn took(&mut self, c: usize, answer: Result<usize, SocketFailure>, room: usize)
         requires { c < 64 }
         ensures { self.new ≡ after_taking c answer room self.old }
@@ -141,7 +141,7 @@ impl Readiness {
         set_where(would_wait(answer), &mut self.urgent, c, false);
     }
 
-    /// After a read: the connection is ready as long as the system or what is ahead may give bytes of it.
+    /// Makes a connection ready after a read, if the system or what is ahead may give more bytes of it.
     pub(crate) fn ready_again(&mut self, c: usize, is_ahead: bool)
         requires { c < 64 }
         ensures { self.new ≡ ready_again c is_ahead self.old }
@@ -157,7 +157,7 @@ impl Readiness {
         self.named.connections = self.turns.take(&self.ready.connections);
     }
 
-    /// Whether the last poll left out a connection that is ready: the next is not to wait.
+    /// Returns whether the last poll left out a connection that is ready: the next is not to wait.
     pub(crate) fn left_out(&self) -> bool
         ensures { result ≡ self.now.turns.left_out }
     {
@@ -180,7 +180,7 @@ impl Readiness {
         self.turns.offer(c, offered, has_read);
     }
 
-    /// A write would have waited.
+    /// Takes note that a write would have waited.
     pub(crate) fn fill(&mut self, c: usize)
         requires { c < 64 }
         ensures { self.new ≡ filled c self.old }
@@ -188,7 +188,7 @@ impl Readiness {
         self.full[c] = true;
     }
 
-    /// It takes nothing, as far as it is known.
+    /// Returns whether a connection takes nothing, as far as it is known.
     pub(crate) fn is_full(&self, c: usize) -> bool
         requires { c < 64 }
         ensures { result ≡ flag_of c self.now.full }
@@ -196,7 +196,7 @@ impl Readiness {
         self.full[c]
     }
 
-    /// Nothing is known of a connection, if this is the number of one: it has just come, or was closed.
+    /// Forgets what is known of a connection, if this is the number of one: it has just come, or was closed.
     pub(crate) fn forget(&mut self, c: usize)
         ensures { self.new ≡ forgotten c self.old }
     {

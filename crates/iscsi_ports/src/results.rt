@@ -12,7 +12,7 @@ pub struct Named {
 /// What a read or a write told.
 #[derive(Clone, Copy, Debug, PartialEq, Eq)]
 pub enum IoResult {
-    /// So many bytes were read or written: none where the call would have waited.
+    /// The number of bytes that were read or written: none if the call would have waited.
     Bytes(usize),
     /// The peer sends nothing more.
     End,

@@ -10,7 +10,7 @@ use crate::results::IoResult;
 /// What a read or a write tells.
 #[derive(Clone, Copy, Debug, PartialEq, Eq)]
 pub enum Step {
-    /// So many bytes at most: 0 where the call would wait.
+    /// The most bytes that it moves: 0 if the call would wait.
     Moves(usize),
     End,
     Fault,
@@ -19,11 +19,11 @@ pub enum Step {
 /// How the reads of a connection go, one after the other, or its writes.
 #[derive(Clone, Copy, Debug, PartialEq, Eq)]
 pub struct Course {
-    /// So many move all that they can.
+    /// How many move all that they can.
     pub first: u64,
-    /// The call behind those goes by this step, and each later one by `behind`.
+    /// The call after those goes by this step, and each later one by `later`.
     pub next: Step,
-    pub behind: Step,
+    pub later: Step,
 }
 
 /// What a connection brings, and how its calls go.
@@ -31,32 +31,32 @@ pub struct Course {
 pub struct Script {
     /// The bytes that come on it.
     pub input: Vec<u8>,
-    /// A read behind all of them tells the end, and does not wait for more.
+    /// A read after all of them tells the end, and does not wait for more.
     pub ends: bool,
     pub reads: Course,
     pub writes: Course,
 }
 
 impl Course {
-    /// Each call moves all that it can.
+    /// Makes a course in which each call moves all that it can.
     pub fn unhindered() -> Course
-        ensures { result ≡ record { first = 0; next = Moves most_moved; behind = Moves most_moved } }
+        ensures { result ≡ record { first = 0; next = Moves most_moved; later = Moves most_moved } }
     {
         Course::after(0, Step::Moves(usize::MAX))
     }
 
-    /// So many calls move all that they can, and each behind them goes by this step.
+    /// Makes a course in which this number of calls move all that they can, and each later one goes by this step.
     pub fn after(first: u64, step: Step) -> Course
-        ensures { result ≡ record { first = first; next = step; behind = step } }
+        ensures { result ≡ record { first = first; next = step; later = step } }
     {
         Course {
             first,
             next: step,
-            behind: step,
+            later: step,
         }
     }
 
-    /// What the next call tells, which can move so many bytes.
+    /// Returns what the next call tells, which can move this number of bytes.
     fn call(&mut self, most: usize) -> IoResult
         ensures told { result ≡ told_at self.old 0 most }
         ensures next { IsBehind self.old self.new }
@@ -66,7 +66,7 @@ impl Course {
             return IoResult::Bytes(most);
         }
         let step = self.next;
-        self.next = self.behind;
+        self.next = self.later;
         match step {
             Step::Moves(count) => IoResult::Bytes(count.min(most)),
             Step::End => IoResult::End,
@@ -76,7 +76,7 @@ impl Course {
 }
 
 impl Script {
-    /// What a read tells and gives.
+    /// Returns what a read tells, and gives its bytes.
     pub(crate) fn read(&mut self, buffer: &mut [u8]) -> IoResult
         ensures count { count_of result ≤ length buffer.new }
         ensures told { result ≡ read_told self.old (length buffer.old) }
@@ -95,7 +95,7 @@ impl Script {
         told
     }
 
-    /// What a write of so many bytes tells.
+    /// Returns what a write of this number of bytes tells.
     pub(crate) fn write(&mut self, offered: usize) -> IoResult
         ensures count { count_of result ≤ offered }
         ensures told { result ≡ write_told self.old offered }

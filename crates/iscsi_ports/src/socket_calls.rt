@@ -29,7 +29,7 @@ pub trait SocketCalls {
 
     ghost events: { Self → List Event };
 
-    /// Waits for an event, no longer than this where a time is given, makes known who is ready, and names
+    /// Waits for an event, no longer than this if a time is given, makes known who is ready, and names
     /// those whose turn it is.
     fn poll(
         &mut self,
@@ -45,13 +45,13 @@ pub trait SocketCalls {
     fn note_named(&mut self, named: &Named)
         ensures { calls self.new ≡ Naming named.now ∷ calls self.old };
 
-    /// Accepts a connection under this number, by which the system watches it. Whether it is kept: one that
-    /// the system does not watch is dropped at once.
+    /// Accepts a connection under this number, by which the system watches it. Returns whether it is kept:
+    /// one that the system does not watch is dropped at once.
     fn accept(&mut self, c: usize) -> Result<bool, SocketFailure>
         requires { c ≤ 64 }
         ensures { calls self.new ≡ Accepting c (token_after c result) result ∷ calls self.old };
 
-    /// How many bytes are ahead of a connection.
+    /// Counts the bytes that are ahead of a connection.
     fn count_ahead(&self, c: usize) -> usize
         requires { c < 64 }
         ensures { result ≡ length (ahead self.now c) };
@@ -83,7 +83,7 @@ pub trait SocketCalls {
         ensures call { calls self.new ≡ Writing c (length bytes.now) (moved result bytes.now) ∷ calls self.old }
         ensures readiness { readiness.new ≡ after_write c result readiness.old };
 
-    /// Notes that a write of so many bytes is put off.
+    /// Notes that a write of this number of bytes is put off.
     fn note_put_off(&mut self, c: usize, offered: usize)
         requires { c < 64 }
         ensures { calls self.new ≡ PuttingOff c offered ∷ calls self.old };

@@ -31,7 +31,7 @@ pub enum SocketFailure {
 }
 
 impl SocketFailure {
-    /// Its number in a record of calls, which has 0 for a call that succeeded.
+    /// Returns its number in a record of calls, which has 0 for a call that succeeded.
     pub(crate) fn number(self) -> u64
         ensures { result ≡ failure_number self }
     {
@@ -39,7 +39,7 @@ impl SocketFailure {
     }
 }
 
-/// The number of an error says that what was called is no socket that can do it (accept(2)).
+/// Returns whether an error of this number says that what was called is no socket that can do it (accept(2)).
 fn is_broken(code: Option<i32>) -> bool
     ensures { result ≡ calls.is_broken code }
 {
@@ -49,7 +49,7 @@ fn is_broken(code: Option<i32>) -> bool
     }
 }
 
-/// What an error of the system means.
+/// Returns what an error of the system means.
 pub(crate) fn socket_failure(error: &io::Error) -> SocketFailure
     ensures { result ≡ failure_of (error_kind error.now) (raw_os_error error.now) }
 {

@@ -43,7 +43,7 @@ use target_limits::CONNECTIONS;
 /// A read takes as many bytes from the system as it gives, and those that the reader has no room for are
 /// told by the next reads. While such bytes are ahead the system is asked for events at each 64th poll, as soon
 /// as 256 KiB were read and written, and after a millisecond, and what is to be written waits for the answers to
-/// the commands that are ahead. Behind a write that would have waited the next poll asks, then every other one,
+/// the commands that are ahead. After a write that would have waited the next poll asks, then every other one,
 /// every fourth and so on, so that the connection is offered the rest soon.
 ///
 /// A port is named from an event of the system on until a read or an accept of it would wait, and as long as
@@ -59,11 +59,11 @@ pub struct SocketPorts<K: SocketCalls + Drop> {
     holding: bool,
     /// The connections of which bytes were read since the last poll.
     has_read: [bool; CONNECTIONS],
-    /// So many polls in a row were answered without asking the system.
+    /// How many polls in a row were answered without asking the system.
     unasked: u32,
-    /// So many in a row may be.
+    /// How many in a row may be.
     most_unasked: u32,
-    /// So many bytes were read and written meanwhile, as far as they count.
+    /// How many bytes were read and written meanwhile, as far as they count.
     carried: usize,
     /// It was started when the system was asked.
     stopwatch: Stopwatch,
@@ -78,7 +78,7 @@ pub type MioPorts = SocketPorts<MioSockets>;
 
 impl SocketPorts<MioSockets> {
     /// Listens on an address with a port, as `127.0.0.1:3260` or `[::1]:3260`; port 0 takes a free
-    /// one. A poll waits for so many milliseconds, or without limit.
+    /// one. A poll waits for this number of milliseconds, or without limit.
     ///
     /// `Socket`: the text spells no address, or the system does not let it be listened on, which is noted in `refused`.
     pub fn new(
@@ -125,7 +125,7 @@ impl SocketPorts<MioSockets> {
     }
 }
 
-/// What an accept came to.
+/// Returns what an accept came to.
 fn accept_told(answer: Result<bool, SocketFailure>) -> Result<Accepted, PortFault>
     ensures { (c : ℕ) → accept_entry c result ≡ accepted c answer }
 {
@@ -140,7 +140,7 @@ fn accept_told(answer: Result<bool, SocketFailure>) -> Result<Accepted, PortFaul
     }
 }
 
-/// What a read came to. No bytes are the end of the stream.
+/// Returns what a read came to. No bytes are the end of the stream.
 fn read_told(answer: Result<usize, SocketFailure>) -> IoResult
     ensures count { (buffer : List ℕ) → WritesAtMost answer buffer → count_of result ≤ length buffer }
     ensures told { (buffer : List ℕ) → WritesAtMost answer buffer → carried_by result buffer ≡ read_carried (moved answer buffer) }
@@ -156,7 +156,7 @@ fn read_told(answer: Result<usize, SocketFailure>) -> IoResult
     }
 }
 
-/// What a write came to.
+/// Returns what a write came to.
 fn write_told(answer: Result<usize, SocketFailure>) -> IoResult
     ensures count { (bytes : List ℕ) → WritesAtMost answer bytes → count_of result ≤ length bytes }
     ensures told { (bytes : List ℕ) → carried_by result bytes ≡ write_carried (moved answer bytes) }
@@ -171,8 +171,8 @@ fn write_told(answer: Result<usize, SocketFailure>) -> IoResult
     }
 }
 
-/// After an accept: the listener is not ready where it would wait, and of a connection that has just come
-/// nothing is known.
+/// Takes note of an accept: the listener is not ready if it would wait, and of a connection that has just come nothing
+/// is known.
 fn after_accept(readiness: &mut Readiness, c: usize, answer: Result<bool, SocketFailure>)
     ensures { readiness.new ≡ ready.after_accept c answer readiness.old }
 {
@@ -183,7 +183,7 @@ fn after_accept(readiness: &mut Readiness, c: usize, answer: Result<bool, Socket
     }
 }
 
-/// Somebody came, or the accept is to be tried again at once.
+/// Returns whether somebody came, or the accept is to be tried again at once.
 fn accept_goes_on(answer: Result<bool, SocketFailure>) -> bool
     ensures { result ≡ ready.accept_goes_on answer }
 {
@@ -194,7 +194,7 @@ fn accept_goes_on(answer: Result<bool, SocketFailure>) -> bool
 }
 
 impl<K: SocketCalls + Drop> SocketPorts<K> {
-    /// After a read.
+    /// Takes note of a read.
     fn after_read(&mut self, c: usize, answer: Result<usize, SocketFailure>)
         requires { c < 64 }
         ensures { self.new ≡ after_reading c answer (length (K.ahead self.old.sockets c)) self.old.sockets self.old.readiness self.old }
@@ -206,7 +206,7 @@ impl<K: SocketCalls + Drop> SocketPorts<K> {
         set_where(gave, &mut self.has_read, c, true);
     }
 
-    /// Whether a poll asks the system. The clock is looked at where nothing else has it ask.
+    /// Returns whether a poll asks the system. Looks at the clock if nothing else has it ask.
     fn is_to_ask(&mut self) -> bool
         ensures asks { result ≡ asks_now self.new.stopwatch.has_passed self.old }
         ensures same { self.new ≡ record self.old { stopwatch = self.new.stopwatch } }
@@ -216,7 +216,8 @@ impl<K: SocketCalls + Drop> SocketPorts<K> {
             || self.stopwatch.look()
     }
 
-    /// Whether a write of so many bytes has to wait: the connection takes none now, or its answers are put off.
+    /// Returns whether a write of this number of bytes has to wait: the connection takes none now, or its answers are put
+    /// off.
     fn has_to_wait(&self, c: usize, offered: usize) -> bool
         requires { c < 64 }
         ensures { result ≡ asking.has_to_wait c (length (K.ahead self.now.sockets c)) offered self.now }

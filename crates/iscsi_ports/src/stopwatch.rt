@@ -21,7 +21,7 @@ pub(crate) struct Stopwatch {
     pub(crate) has_passed: bool,
 }
 
-/// The microseconds of the clock. 0 where it cannot be read.
+/// Returns the microseconds of the clock. 0 if it cannot be read.
 fn now() -> u64 {
     let mut time = timespec {
         tv_sec: 0,
@@ -38,7 +38,7 @@ fn now() -> u64 {
 }
 
 impl Stopwatch {
-    /// It starts now.
+    /// Starts a stopwatch now.
     pub(crate) fn start() -> Stopwatch {
         Stopwatch {
             started: now(),
@@ -46,14 +46,14 @@ impl Stopwatch {
         }
     }
 
-    /// It starts again now.
+    /// Starts it again now.
     pub(crate) fn restart(&mut self)
         ensures { self.new.has_passed ≡ self.old.has_passed }
     {
         self.started = now();
     }
 
-    /// Looks at it. Whether the millisecond has passed.
+    /// Looks at it. Returns whether the millisecond has passed.
     pub(crate) fn look(&mut self) -> bool
         ensures { result ≡ self.new.has_passed }
     {

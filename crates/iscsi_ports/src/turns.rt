@@ -26,7 +26,7 @@ pub(crate) struct Turns {
 }
 
 impl Turns {
-    /// None is long.
+    /// Returns turns in which none is long.
     pub(crate) fn new() -> Turns
         ensures { result ≡ no_turns }
     {
@@ -61,7 +61,7 @@ impl Turns {
         self.left_out &= !carried;
     }
 
-    /// Whether the last poll left out a connection that is ready.
+    /// Returns whether the last poll left out a connection that is ready.
     pub(crate) fn left_out(&self) -> bool
         ensures { result ≡ self.now.left_out }
     {

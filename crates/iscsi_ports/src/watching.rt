@@ -12,7 +12,7 @@ use target_limits::CONNECTIONS;
 /// The listener's token. A connection's token is its number.
 pub(crate) const LISTENER: usize = CONNECTIONS;
 
-/// A listening socket whose connections a poll names.
+/// Makes a listening socket whose connections a poll names.
 pub(crate) fn watched(net: &impl Net, poll: &Poll, address: SocketAddr) -> io::Result<TcpListener> {
     let mut listener = TcpListener::bind(net, address)?;
     set_options(&listener);
@@ -21,7 +21,7 @@ pub(crate) fn watched(net: &impl Net, poll: &Poll, address: SocketAddr) -> io::R
     Ok(listener)
 }
 
-/// Has the system watch a connection by its number, so that a poll names it. One without a number is closed at
+/// Lets the system watch a connection by its number, so that a poll names it. One without a number is closed at
 /// once, and not watched.
 pub(crate) fn watch(registry: &Registry, stream: &mut TcpStream, c: usize) -> Option<usize>
     ensures by_its_number { IfSome result (λ token. token ≡ c) }

@@ -4,7 +4,7 @@ use Rattle.iscsi_ports.specs.Readiness.{given_in_all}
 use Rattle.iscsi_ports.specs.declared.socket_failure.SocketFailure.{SocketFailure}
 use Rattle.iscsi_ports.proofs.mio_sockets.MioSockets.read_some.Goals as goal
 
--- nothing is ahead behind the read
+-- nothing is ahead after the read
 given-none : (answer : Result ℕ SocketFailure) → given_in_all answer 0 ≡ answer
 given-none (Ok count) = ap Ok (omega arith)
 given-none (Err failure) = refl

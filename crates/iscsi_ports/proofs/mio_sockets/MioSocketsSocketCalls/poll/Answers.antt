@@ -12,23 +12,23 @@ use Rattle.iscsi_ports.proofs.mio_sockets.MioSocketsSocketCalls.poll.Goals as go
 
 pub returns-in-Err-clause-noted : goal.returns-in-Err-clause-noted
 returns-in-Err-clause-noted c =
-    let limited : option_map as_nanos c.wait_beside-wait.result ≡ wait_beside (length c.args.self.now.spares.buffers.items) (option_map as_nanos c.drain-wait.result) =
-    c.wait_beside-wait.ensures in (
+    let kept = length c.args.self.now.spares.buffers.items in
+    let drained = option_map as_nanos c.drain-wait.result in
+    let limited : option_map as_nanos c.wait_beside-wait.result ≡ wait_beside kept drained = c.wait_beside-wait.ensures in (
       option_map as_nanos c.wait_beside-wait.result,
-      rw limited (limited_no_longer (nat_lt 0 (length c.args.self.now.spares.buffers.items)) _ _ c.drain-wait.ensures.no_longer),
-      λ none free. limited ∙ ap (λ n. wait_beside n (option_map as_nanos c.drain-wait.result)) free
-          ∙ ap (option_map as_nanos) (c.drain-wait.ensures.as_told none),
+      rw limited (limited_no_longer (nat_lt 0 kept) _ _ c.drain-wait.ensures.no_longer),
+      λ none free. limited ∙ ap (λ n. wait_beside n drained) free ∙ ap (option_map as_nanos) (c.drain-wait.ensures.as_told none),
       search rules,
     )
 
 pub returns-clause-noted : goal.returns-clause-noted
 returns-clause-noted c =
-    let limited : option_map as_nanos c.wait_beside-wait.result ≡ wait_beside (length c.args.self.now.spares.buffers.items) (option_map as_nanos c.drain-wait.result) =
-    c.wait_beside-wait.ensures in (
+    let kept = length c.args.self.now.spares.buffers.items in
+    let drained = option_map as_nanos c.drain-wait.result in
+    let limited : option_map as_nanos c.wait_beside-wait.result ≡ wait_beside kept drained = c.wait_beside-wait.ensures in (
       option_map as_nanos c.wait_beside-wait.result,
-      rw limited (limited_no_longer (nat_lt 0 (length c.args.self.now.spares.buffers.items)) _ _ c.drain-wait.ensures.no_longer),
-      λ none free. limited ∙ ap (λ n. wait_beside n (option_map as_nanos c.drain-wait.result)) free
-          ∙ ap (option_map as_nanos) (c.drain-wait.ensures.as_told none),
+      rw limited (limited_no_longer (nat_lt 0 kept) _ _ c.drain-wait.ensures.no_longer),
+      λ none free. limited ∙ ap (λ n. wait_beside n drained) free ∙ ap (option_map as_nanos) (c.drain-wait.ensures.as_told none),
       search rules,
     )
 
@@ -43,12 +43,14 @@ returns-clause-shortly c = λ some.
     (limited_no_longer (nat_lt 0 (length c.args.self.now.spares.buffers.items)) _ (Some 1000000000) (c.drain-wait.ensures.shortly some))
 
 pub returns-in-Err-clause-shortly_with_spares : goal.returns-in-Err-clause-shortly_with_spares
-returns-in-Err-clause-shortly_with_spares c = λ kept.
-    rw (ap waited_in c.poll_failed.ensures, c.wait_beside-wait.ensures, lt-ltb 0 (length c.args.self.now.spares.buffers.items) kept) (shortly_a_second (option_map as_nanos c.drain-wait.result))
+returns-in-Err-clause-shortly_with_spares c = λ some.
+    let is_kept = lt-ltb 0 (length c.args.self.now.spares.buffers.items) some in
+    rw (ap waited_in c.poll_failed.ensures, c.wait_beside-wait.ensures, is_kept) (shortly_a_second (option_map as_nanos c.drain-wait.result))
 
 pub returns-clause-shortly_with_spares : goal.returns-clause-shortly_with_spares
-returns-clause-shortly_with_spares c = λ kept.
-    rw (ap waited_in c.polled.ensures, c.wait_beside-wait.ensures, lt-ltb 0 (length c.args.self.now.spares.buffers.items) kept) (shortly_a_second (option_map as_nanos c.drain-wait.result))
+returns-clause-shortly_with_spares c = λ some.
+    let is_kept = lt-ltb 0 (length c.args.self.now.spares.buffers.items) some in
+    rw (ap waited_in c.polled.ensures, c.wait_beside-wait.ensures, is_kept) (shortly_a_second (option_map as_nanos c.drain-wait.result))
 
 pub returns-in-Err-clause-drained : goal.returns-in-Err-clause-drained
 returns-in-Err-clause-drained c =
