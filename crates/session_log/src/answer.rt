@@ -1,4 +1,4 @@
-//! Which answer of the target a header is of, as far as the log wants it (RFC 7143 §11).
+//! The answer of the target to which a header belongs, as far as the log needs it (RFC 7143 §11).
 
 ghost use Rattle.std.specs.Prelude.{◌≡◌};
 ghost use Rattle.session_log.specs.Answer.{answer_of as answer_in, login_answer, r2t_answer, scsi_answer};
@@ -41,11 +41,11 @@ pub(crate) enum Answer {
         offset: u32,
         length: u32,
     },
-    /// Another.
+    /// Any other answer.
     Other,
 }
 
-/// What a Login Response says (RFC 7143 §11.13).
+/// Returns what a Login Response says (RFC 7143 §11.13).
 fn login_of(header: &[u8; HEADER_LENGTH]) -> Answer
     ensures { result ≡ login_answer header.now }
 {
@@ -61,7 +61,7 @@ fn login_of(header: &[u8; HEADER_LENGTH]) -> Answer
     Answer::LoginGoesOn
 }
 
-/// What a SCSI Response says (RFC 7143 §11.4).
+/// Returns what a SCSI Response says (RFC 7143 §11.4).
 fn response_of(header: &[u8; HEADER_LENGTH]) -> Answer
     ensures { result ≡ scsi_answer header.now }
 {
@@ -72,7 +72,7 @@ fn response_of(header: &[u8; HEADER_LENGTH]) -> Answer
     Answer::Ended { tag }
 }
 
-/// What an R2T says (RFC 7143 §11.8). Its tags and its Buffer Offset stand where a Data-Out has them.
+/// Returns what an R2T says (RFC 7143 §11.8). Its tags and its Buffer Offset are in the places of those of a Data-Out.
 fn ask_of(header: &[u8; HEADER_LENGTH]) -> Answer
     ensures { result ≡ r2t_answer header.now }
 {
@@ -86,7 +86,7 @@ fn ask_of(header: &[u8; HEADER_LENGTH]) -> Answer
     }
 }
 
-/// The answer that a header is of.
+/// Returns the answer to which a header belongs.
 pub(crate) fn answer_of(header: &[u8; HEADER_LENGTH]) -> Answer
     ensures { result ≡ answer_in header.now }
 {

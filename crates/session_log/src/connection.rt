@@ -1,4 +1,4 @@
-//! What a connection said, and what it was told, as far as the log wants it.
+//! What a connection sent, and what it was sent, as far as the log needs it.
 
 ghost use Rattle.std.specs.Prelude.{◌≤◌, length};
 
@@ -24,7 +24,7 @@ pub(crate) enum State {
     LoggedOut,
 }
 
-/// Why it ends, where something else than the target's rules ends it.
+/// Why a connection ends, if not by a rule of the target.
 #[derive(Clone, Copy, Debug, PartialEq, Eq)]
 pub(crate) enum Cause {
     /// The peer sends nothing more.
@@ -35,7 +35,7 @@ pub(crate) enum Cause {
     Starved,
 }
 
-/// What is to be told of a connection.
+/// An event of a connection, for the log.
 #[derive(Clone, Copy, Debug, PartialEq, Eq)]
 pub(crate) enum Told {
     /// It logged in; the session has this TSIH.
@@ -57,11 +57,11 @@ pub(crate) enum Told {
         response: u8,
         tag: u32,
     },
-    /// A command ended so.
+    /// A command ended with this sense data.
     Sensed(Sensed),
 }
 
-/// So many bytes of a piece were heard, and what is to be told then.
+/// The number of bytes of a piece that were heard, and the event that they bring.
 #[derive(Clone, Copy, Debug, PartialEq, Eq)]
 pub(crate) struct Heard {
     pub(crate) count: usize,
@@ -75,7 +75,7 @@ pub(crate) struct Connection {
     pub(crate) state: State,
     pub(crate) cause: Option<Cause>,
     pub(crate) names: LoginNames,
-    /// Of its last Login Request.
+    /// The ISID of its last Login Request.
     pub(crate) isid: [u8; 6],
     /// The last PDU that came is a Login Request.
     is_login: bool,
@@ -84,7 +84,7 @@ pub(crate) struct Connection {
     /// The last PDU that was sent is a Login Response.
     is_login_answer: bool,
     pub(crate) values: LoginValues,
-    /// Something came.
+    /// Bytes have come.
     pub(crate) has_come: bool,
     pub(crate) requests: PduStream,
     answers: PduStream,
@@ -95,7 +95,7 @@ pub(crate) struct Connection {
 }
 
 impl Connection {
-    /// One that has just come.
+    /// Returns a connection that has just come.
     pub(crate) fn new(peer: Option<SocketAddr>) -> Connection {
         Connection {
             peer,
@@ -244,7 +244,7 @@ impl Connection {
         self.tasks.ask(tag, ask);
     }
 
-    /// Sees data that was sent: the text of a login, the front of sense data, or what is passed over.
+    /// Sees data that was sent: the text of a login, the front of sense data, or data that is skipped.
     fn see_data(&mut self, data: &[u8]) -> Option<Told> {
         if self.is_login_answer {
             self.values.see(data);

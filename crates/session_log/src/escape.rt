@@ -5,14 +5,14 @@ ghost use Rattle.session_log.specs.Escape.{is_plain as is_plain_byte, escaped, e
 
 use std::alloc::AllocError;
 
-/// Printable ASCII, but a space and the backslash.
+/// Returns whether a byte is printable ASCII other than a space and the backslash.
 fn is_plain(byte: u8) -> bool
     ensures { result ≡ is_plain_byte byte }
 {
     0x21 <= byte && byte <= 0x7E && byte != 0x5C
 }
 
-/// The digit of a number below 16.
+/// Returns the hexadecimal digit of a number below 16.
 fn digit(number: u8) -> u8
     requires { number < 16 }
     ensures value { result ≡ hex_digit number }
@@ -25,7 +25,7 @@ fn digit(number: u8) -> u8
     }
 }
 
-/// Puts a byte of ASCII behind a text.
+/// Appends a byte of ASCII to a text.
 fn put_ascii(text: &mut String, byte: u8) -> Result<(), AllocError>
     requires { byte < 128 }
     ensures { OnOk result (string_bytes text.new ≡ string_bytes text.old ++ byte ∷ []) }
@@ -33,7 +33,7 @@ fn put_ascii(text: &mut String, byte: u8) -> Result<(), AllocError>
     text.push(char::from(byte))
 }
 
-/// Puts a byte behind a text: as it is, or as `\x` and two digits.
+/// Appends a byte to a text: as it is, or as `\x` and two digits.
 fn put_byte(text: &mut String, byte: u8) -> Result<(), AllocError>
     ensures { OnOk result (string_bytes text.new ≡ string_bytes text.old ++ escaped_byte byte) }
 {
@@ -46,7 +46,7 @@ fn put_byte(text: &mut String, byte: u8) -> Result<(), AllocError>
     put_ascii(text, digit(byte % 16))
 }
 
-/// Puts a name behind a text, with neither spaces nor line ends.
+/// Appends a name to a text, without spaces and line ends.
 pub(crate) fn put_escaped(text: &mut String, name: &[u8]) -> Result<(), AllocError>
     ensures { OnOk result (string_bytes text.new ≡ string_bytes text.old ++ escaped name.now) }
 {

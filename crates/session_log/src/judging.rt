@@ -1,4 +1,4 @@
-//! Which rule the last PDU of a connection broke, where the target closed it for that.
+//! Which rule the last PDU of a connection broke, if the target closed the connection for that.
 //!
 //! A target judges each PDU as soon as it is whole, and reads no further once one broke a rule. As the connection closes
 //! all of its answers have been sent. So what passed until then is all that the target knew.
@@ -34,8 +34,8 @@ fn command_violation(command: &Header, values: &LoginValues) -> Option<Violation
 }
 
 impl Connection {
-    /// Returns the PDU that closed the connection, and the rule that it broke, as far as they are certain. It is asked of
-    /// one that nothing else has closed.
+    /// Returns the PDU that closed the connection, and the rule that it broke, as far as they are certain. Nothing else
+    /// may have closed the connection.
     pub(crate) fn offence(&self) -> Option<Offence> {
         let header = Header::new(*self.requests.header());
         let violation = if self.requests.is_long() {
@@ -56,7 +56,7 @@ impl Connection {
         })
     }
 
-    /// A PDU of this kind may break a rule of full feature phase.
+    /// Returns whether a PDU of this kind may break a rule of full feature phase.
     fn may_violate(&self, header: &Header) -> bool {
         match header.opcode() {
             Opcode::ScsiCommand | Opcode::TaskManagement | Opcode::DataOut => self.has_units(),
@@ -64,7 +64,8 @@ impl Connection {
         }
     }
 
-    /// It has a session with the units of a target. In a discovery session most PDUs are rejected, and break no rule.
+    /// Returns whether the connection has a session with the units of a target. In a discovery session most PDUs are
+    /// rejected, and break no rule.
     fn has_units(&self) -> bool {
         self.state == State::LoggedIn && !self.names.is_discovery
     }
@@ -102,7 +103,7 @@ impl Connection {
         }
     }
 
-    /// Returns that a tag is in use, where another task than the last one bears it.
+    /// Returns that a tag is in use, if a task other than the last one has it.
     fn tag_violation(&self, tag: u32) -> Option<Violation> {
         if self.tasks.live(tag) > 1 {
             return Some(Violation::TagInUse);

@@ -2,7 +2,7 @@
 
 ghost use Rattle.session_log.specs.Escape.{OneWord};
 
-/// A name that is escaped is printable ASCII without a space: it ends no line and no word.
+/// States that an escaped name is printable ASCII without a space, so that it ends no line and no word.
 pub fn one_word()
     ensures { OneWord }
 {}

@@ -3,12 +3,12 @@
 /// Counts lines second by second.
 #[derive(Clone, Copy, Debug)]
 pub(crate) struct Limit {
-    /// So many lines a second are written.
+    /// The most lines that are written in a second.
     most: u32,
     second: u64,
-    /// So many were written in it.
+    /// The number of lines that were written in this second.
     written: u32,
-    /// So many were left out since it was last told.
+    /// The number of lines left out that no line has reported yet.
     left_out: u64,
 }
 
@@ -22,7 +22,7 @@ impl Limit {
         }
     }
 
-    /// Whether a line of this second is written. One that is not is counted.
+    /// Returns whether a line of this second is written. Counts it if it is not.
     pub(crate) fn allows(&mut self, second: u64) -> bool {
         if second != self.second {
             self.second = second;
@@ -36,7 +36,7 @@ impl Limit {
         true
     }
 
-    /// How many lines were left out before this second. They count no more.
+    /// Takes the number of lines that were left out before this second. They are not reported again.
     pub(crate) fn take_left_out(&mut self, second: u64) -> u64 {
         if second == self.second {
             return 0;

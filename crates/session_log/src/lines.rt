@@ -9,7 +9,7 @@ use iscsi_pdu::TaskFunction;
 use std::alloc::{AllocError, Global};
 use std::net::SocketAddr;
 
-/// The status of a refused login in words (RFC 7143 §11.13.5).
+/// Returns the status of a refused login in words (RFC 7143 §11.13.5).
 fn refusal(status: u16) -> &'static str {
     match status {
         0x0200 => "initiator error",
@@ -22,7 +22,7 @@ fn refusal(status: u16) -> &'static str {
     }
 }
 
-/// A function in words (RFC 7143 §11.5.1).
+/// Returns the name of a function (RFC 7143 §11.5.1).
 fn function_name(function: TaskFunction) -> &'static str {
     match function {
         TaskFunction::AbortTask => "ABORT TASK",
@@ -37,7 +37,7 @@ fn function_name(function: TaskFunction) -> &'static str {
     }
 }
 
-/// The answer to a function in words (RFC 7143 §11.6.1).
+/// Returns the answer to a function in words (RFC 7143 §11.6.1).
 fn function_response(response: u8) -> &'static str {
     match response {
         0 => "function complete",
@@ -49,7 +49,7 @@ fn function_response(response: u8) -> &'static str {
     }
 }
 
-/// Sense key, code and qualifier in words (SPC-4).
+/// Returns sense key, code and qualifier in words (SPC-4).
 fn failure(key: u8, code: u16) -> &'static str {
     match (key, code) {
         (0x03, 0x1100) => "03/1100, a read failed",
@@ -58,7 +58,7 @@ fn failure(key: u8, code: u16) -> &'static str {
     }
 }
 
-/// Puts the unit that a LUN field names.
+/// Appends the unit that a LUN field names.
 fn put_unit(line: &mut String, lun: [u8; 8]) -> Result<(), AllocError> {
     if lun[0] == 0 {
         return write!(line, "unit {}", lun[1]);
@@ -70,7 +70,7 @@ fn put_unit(line: &mut String, lun: [u8; 8]) -> Result<(), AllocError> {
     Ok(())
 }
 
-/// Puts an address, if it is known.
+/// Appends an address, if it is known.
 fn put_peer(line: &mut String, peer: Option<SocketAddr>) -> Result<(), AllocError> {
     match peer {
         Some(address) => write!(line, "{address}"),
@@ -78,7 +78,7 @@ fn put_peer(line: &mut String, peer: Option<SocketAddr>) -> Result<(), AllocErro
     }
 }
 
-/// Puts the name of an initiator or a target.
+/// Appends the name of an initiator or a target.
 fn put_name(line: &mut String, what: &str, name: &[u8]) -> Result<(), AllocError> {
     if name.is_empty() {
         return write!(line, "no {what}");
@@ -87,7 +87,7 @@ fn put_name(line: &mut String, what: &str, name: &[u8]) -> Result<(), AllocError
     put_escaped(line, name)
 }
 
-/// Puts who logs in to what.
+/// Appends the names of the initiator and of the target of a login.
 fn put_names(line: &mut String, names: &LoginNames) -> Result<(), AllocError> {
     put_name(line, "initiator", names.initiator.as_slice())?;
     line.push_str(", ")?;
@@ -97,7 +97,7 @@ fn put_names(line: &mut String, names: &LoginNames) -> Result<(), AllocError> {
     put_name(line, "target", names.target.as_slice())
 }
 
-/// A connection came.
+/// Returns the line of a connection that came.
 pub(crate) fn came(
     alloc: Global,
     c: usize,
@@ -109,7 +109,7 @@ pub(crate) fn came(
     Ok(line)
 }
 
-/// A connection came, and all places are taken.
+/// Returns the line of a connection that came when all places were taken.
 pub(crate) fn turned_away(alloc: Global, peer: Option<SocketAddr>) -> Result<String, AllocError> {
     let mut line = String::new(alloc);
     line.push_str("no place for a connection from ")?;
@@ -117,7 +117,7 @@ pub(crate) fn turned_away(alloc: Global, peer: Option<SocketAddr>) -> Result<Str
     Ok(line)
 }
 
-/// A login succeeded.
+/// Returns the line of a login that succeeded.
 pub(crate) fn logged_in(
     alloc: Global,
     c: usize,
@@ -131,7 +131,7 @@ pub(crate) fn logged_in(
     Ok(line)
 }
 
-/// A login was refused.
+/// Returns the line of a login that was refused.
 pub(crate) fn refused(
     alloc: Global,
     c: usize,
@@ -145,7 +145,7 @@ pub(crate) fn refused(
     Ok(line)
 }
 
-/// A connection ended, with or without a session.
+/// Returns the line of a connection that ended, with or without a session.
 pub(crate) fn ended(
     alloc: Global,
     c: usize,
@@ -165,7 +165,8 @@ pub(crate) fn ended(
     Ok(line)
 }
 
-/// A connection ended by a violation of the protocol, with the PDU and the rule as far as they are known.
+/// Returns the line of a connection that ended by a violation of the protocol, with the PDU and the rule as far as they
+/// are known.
 pub(crate) fn violated(
     alloc: Global,
     c: usize,
@@ -179,7 +180,7 @@ pub(crate) fn violated(
     Ok(line)
 }
 
-/// A Task Management function was asked for.
+/// Returns the line of a Task Management function that was requested.
 pub(crate) fn asked(
     alloc: Global,
     c: usize,
@@ -194,7 +195,7 @@ pub(crate) fn asked(
     Ok(line)
 }
 
-/// A Task Management function was answered.
+/// Returns the line of the answer to a Task Management function.
 pub(crate) fn answered(
     alloc: Global,
     c: usize,
@@ -207,7 +208,7 @@ pub(crate) fn answered(
     Ok(line)
 }
 
-/// A store failed.
+/// Returns the line of a store that failed.
 pub(crate) fn failed(alloc: Global, target: &[u8], sensed: &Sensed) -> Result<String, AllocError> {
     let mut line = String::new(alloc);
     put_name(&mut line, "target", target)?;
@@ -218,7 +219,7 @@ pub(crate) fn failed(alloc: Global, target: &[u8], sensed: &Sensed) -> Result<St
     Ok(line)
 }
 
-/// A store failed at a command of a connection.
+/// Returns the line of a store that failed during a command of a connection.
 pub(crate) fn failed_at(
     alloc: Global,
     c: usize,
@@ -233,28 +234,28 @@ pub(crate) fn failed_at(
     Ok(line)
 }
 
-/// So many lines were left out.
+/// Returns the line with the number of lines left out.
 pub(crate) fn left_out(alloc: Global, count: u64) -> Result<String, AllocError> {
     let mut line = String::new(alloc);
     write!(line, "{count} lines left out")?;
     Ok(line)
 }
 
-/// Lines could not be written before this one, as on a full disk.
+/// Returns the line with the number of lines that could not be written before it, as on a full disk.
 pub(crate) fn lost(alloc: Global, count: u64) -> Result<String, AllocError> {
     let mut line = String::new(alloc);
     write!(line, "{count} lines could not be written")?;
     Ok(line)
 }
 
-/// The program listens.
+/// Returns the line of the address on which the program listens.
 pub(crate) fn listening(alloc: Global, address: SocketAddr) -> Result<String, AllocError> {
     let mut line = String::new(alloc);
     write!(line, "listening on {address}")?;
     Ok(line)
 }
 
-/// A line with its time, and its end.
+/// Returns a line with its time and its end.
 pub(crate) fn timed(alloc: Global, time: &str, text: &str) -> Result<String, AllocError> {
     let mut line = String::new(alloc);
     writeln!(line, "{time} {text}")?;

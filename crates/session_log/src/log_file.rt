@@ -1,6 +1,6 @@
 //! Where lines go: a file that is appended to, or standard error.
 //!
-//! What the system does with a line is not looked at further than here: no clause says it.
+//! No clause says what the system does with a line.
 
 use libc::{STDERR_FILENO, write};
 use mio::unix::SourceFd;
@@ -17,19 +17,19 @@ use std::time::Duration;
 /// The text that stands for standard error.
 const STANDARD_ERROR: &str = "-";
 
-/// Which file a file is: that of a device with a number there.
+/// The identity of a file: its device, and its number there.
 #[derive(Clone, Copy, PartialEq, Eq)]
 struct Identity {
     device: u64,
     inode: u64,
 }
 
-/// An open file, and which it is.
+/// An open file and its identity.
 #[derive(Drop)]
 struct Opened {
     file: File,
     identity: Identity,
-    /// Nothing was in it.
+    /// It was empty.
     was_empty: bool,
 }
 
@@ -40,17 +40,17 @@ pub struct LogFile<'r, R: Files<File = File> + Clock> {
     path: String,
     /// `None`: standard error, or the file could not be opened at the last line.
     opened: Option<Opened>,
-    /// Asks whether a descriptor takes a line.
+    /// The poll that tells whether a descriptor takes a line.
     poll: Poll,
     events: Events,
-    /// Which file was open last. `None`: none yet, or standard error.
+    /// The file that was open last. `None`: none yet, or standard error.
     last: Option<Identity>,
-    /// Of the last line in it only a front was taken.
+    /// Only a front of the last line in it was taken.
     is_torn: bool,
 }
 
-/// Opens the file at a path for appending, and makes it where there is none. A FIFO is opened without a reader. One that
-/// is locked, as those of units are, is refused.
+/// Opens the file at a path for appending, and creates it if there is none. A FIFO is opened without a reader. A file
+/// that is locked, as those of units are, is refused.
 fn open_file(rt: &impl Files<File = File>, path: &str) -> io::Result<Opened> {
     let file = OpenOptions::new()
         .read(true)
@@ -101,7 +101,7 @@ impl<'r, R: Files<File = File> + Clock> LogFile<'r, R> {
         })
     }
 
-    /// The seconds since 1970 began, in UTC. 0 where the clock cannot be read.
+    /// Returns the seconds since the beginning of 1970, in UTC, or 0 if the clock cannot be read.
     pub(crate) fn seconds(&self) -> u64 {
         match self.rt.since_1970() {
             Ok(time) => time.as_secs(),
@@ -109,8 +109,8 @@ impl<'r, R: Files<File = File> + Clock> LogFile<'r, R> {
         }
     }
 
-    /// Writes a line, if it is taken at once, and ends the one before of which only a front was taken. Returns whether
-    /// the line was taken whole.
+    /// Writes a line, if it is taken at once. Ends the line before first, if only a front of that was taken. Returns
+    /// whether the line was taken whole.
     pub(crate) fn put(&mut self, line: &str) -> bool {
         let Some(descriptor) = self.descriptor() else {
             return false;
@@ -131,7 +131,7 @@ impl<'r, R: Files<File = File> + Clock> LogFile<'r, R> {
         count == line.len()
     }
 
-    /// The descriptor to write to. A file that the path no longer names is closed, and the path opened again.
+    /// Returns the descriptor to write to. Closes a file that the path no longer names, and opens the path again.
     fn descriptor(&mut self) -> Option<RawFd> {
         if self.path.as_str() == STANDARD_ERROR {
             return Some(STDERR_FILENO);
@@ -148,7 +148,7 @@ impl<'r, R: Files<File = File> + Clock> LogFile<'r, R> {
         Some(opened.file.as_raw_fd())
     }
 
-    /// The path names the file that is open.
+    /// Returns whether the path names the file that is open.
     fn is_named(&self) -> bool {
         match (&self.opened, fs::metadata(self.rt, self.path.as_str())) {
             (Some(opened), Ok(named)) => {
@@ -158,7 +158,8 @@ impl<'r, R: Files<File = File> + Clock> LogFile<'r, R> {
         }
     }
 
-    /// Whether a write to a descriptor returns at once. One to a regular file does, which epoll(7) does not watch.
+    /// Returns whether a write to a descriptor returns at once. A write to a regular file does, and epoll(7) does not
+    /// watch such files.
     fn takes(&mut self, descriptor: RawFd) -> bool {
         let mut source = SourceFd(&descriptor);
         let registry = self.poll.registry();

@@ -1,4 +1,4 @@
-//! Who logs in to what, from the text of Login Requests (RFC 7143 §6.1, §13).
+//! The names of the initiator and of the target of a login, from the text of Login Requests (RFC 7143 §6.1, §13).
 
 use crate::pairs::{MOST_PAIR, Pairs};
 use arrayvec::ArrayVec;
@@ -15,12 +15,12 @@ pub(crate) struct LoginNames {
     pub(crate) is_discovery: bool,
 }
 
-/// The value of a pair with this key.
+/// Returns the value of a pair, if it has this key.
 fn value_of<'a>(pair: &'a [u8], key: &[u8]) -> Option<&'a [u8]> {
     pair.strip_prefix(key)
 }
 
-/// A name of these bytes, as far as there is room.
+/// Returns the name of these bytes, as far as there is room.
 fn name_of(value: &[u8]) -> Name {
     let mut name = ArrayVec::new();
     let _ = name.try_extend_from_slice(value);
@@ -28,7 +28,7 @@ fn name_of(value: &[u8]) -> Name {
 }
 
 impl LoginNames {
-    /// Nothing.
+    /// Returns the names of a login that has sent nothing yet.
     pub(crate) fn new() -> LoginNames {
         LoginNames {
             pairs: Pairs::new(),
@@ -47,7 +47,7 @@ impl LoginNames {
         }
     }
 
-    /// Takes the value of a pair, if its key counts.
+    /// Takes the value of a pair, if its key is one of a name or of the session's type.
     fn take_pair(&mut self, pair: &[u8]) {
         if let Some(value) = value_of(pair, b"InitiatorName=") {
             self.initiator = name_of(value);

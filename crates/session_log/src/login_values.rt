@@ -40,7 +40,7 @@ fn boolean_in(value: &[u8]) -> Option<bool> {
 }
 
 impl LoginValues {
-    /// The defaults.
+    /// Returns the defaults.
     pub(crate) fn new() -> LoginValues {
         LoginValues {
             pairs: Pairs::new(),
@@ -59,7 +59,7 @@ impl LoginValues {
         }
     }
 
-    /// Takes the result of a key, if it counts. `Reject` leaves the default.
+    /// Takes the result of a key, if it is one of these values. `Reject` leaves the default.
     fn take_pair(&mut self, pair: &[u8]) {
         if let Some(value) = pair.strip_prefix(b"InitialR2T=") {
             self.initial_r2t = boolean_in(value).unwrap_or(self.initial_r2t);

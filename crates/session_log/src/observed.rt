@@ -3,24 +3,24 @@
 use iscsi_ports::{Accepted, IoResult, Named, Peers, PortFault, Ports};
 use std::net::SocketAddr;
 
-/// Who is told what ports did. It has no say: nothing is asked of it.
+/// An observer of what ports did. It returns nothing, so it changes nothing.
 pub trait Observer {
-    /// A connection came under a number: 64 where none is free.
+    /// Observes that a connection came under this number: 64 if no number is free.
     fn accepted(&mut self, c: usize, peer: Option<SocketAddr>);
 
-    /// These bytes came.
+    /// Observes bytes that came.
     fn read(&mut self, c: usize, bytes: &[u8]);
 
-    /// These bytes were sent.
+    /// Observes bytes that were sent.
     fn written(&mut self, c: usize, bytes: &[u8]);
 
-    /// A read or a write told that the connection has ended, or that it failed.
+    /// Observes that a read or a write reported the end of the connection, or its failure.
     fn ended(&mut self, c: usize, has_failed: bool);
 
-    /// The target closes it since an allocation failed.
+    /// Observes that the target closes a connection since an allocation failed.
     fn starved(&mut self, c: usize);
 
-    /// It is closed.
+    /// Observes that a connection is closed.
     fn closed(&mut self, c: usize);
 }
 
@@ -62,8 +62,7 @@ impl<O: Observer> Observer for Option<O> {
     }
 }
 
-/// Ports, and who observes them. What they tell is what the ports tell: their log, and whether it is whole, are those of
-/// the ports.
+/// Ports and their observer. Their log, and whether it is whole, are those of the ports.
 #[derive(Drop)]
 pub struct ObservedPorts<P: Ports + Peers + Drop, O: Observer + Drop> {
     pub ports: P,

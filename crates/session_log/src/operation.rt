@@ -57,7 +57,7 @@ fn blocks(cdb: &[u8; CDB]) -> Option<(u64, u32)> {
     }
 }
 
-/// Puts a command by its CDB, as `WRITE (10) of 8 blocks from 16`.
+/// Appends a command by its CDB, as `WRITE (10) of 8 blocks from 16`.
 pub(crate) fn put_operation(line: &mut String, cdb: &[u8; CDB]) -> Result<(), AllocError> {
     match name(cdb[0]) {
         Some(name) => line.push_str(name)?,

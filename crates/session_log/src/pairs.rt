@@ -15,7 +15,7 @@ pub(crate) struct Pairs {
 }
 
 impl Pairs {
-    /// None.
+    /// Returns the state before the first byte.
     pub(crate) fn new() -> Pairs {
         Pairs {
             front: ArrayVec::new(),

@@ -15,20 +15,20 @@ pub(crate) enum Part {
     Other,
 }
 
-/// So many first bytes of a piece are one part.
+/// The number of bytes at the front of a piece that are one part.
 #[derive(Clone, Copy, Debug, PartialEq, Eq)]
 pub(crate) struct Taken {
     pub(crate) count: usize,
     pub(crate) part: Part,
 }
 
-/// Where a direction is. Nothing is kept of data segments.
+/// How far one direction has come. Nothing is kept of data segments.
 #[derive(Clone, Copy, Debug)]
 pub(crate) struct PduStream {
     header: [u8; HEADER_LENGTH],
-    /// So many bytes of the header have come.
+    /// The number of bytes of the header that have come.
     come: usize,
-    /// So many bytes of additional headers, of data and of padding are to come.
+    /// The numbers of bytes of additional headers, of data and of padding that are to come.
     additional: usize,
     data: usize,
     padding: usize,
@@ -36,7 +36,7 @@ pub(crate) struct PduStream {
 }
 
 impl PduStream {
-    /// At its beginning.
+    /// Returns a direction at its beginning.
     pub(crate) fn new() -> PduStream {
         PduStream {
             header: [0; HEADER_LENGTH],
@@ -47,22 +47,22 @@ impl PduStream {
         }
     }
 
-    /// The header that came last.
+    /// Returns the header that came last.
     pub(crate) fn header(&self) -> &[u8; HEADER_LENGTH] {
         &self.header
     }
 
-    /// Nothing has come after the last whole PDU.
+    /// Returns whether nothing has come after the last whole PDU.
     pub(crate) fn is_whole(&self) -> bool {
         self.come == 0
     }
 
-    /// The header that came last names more data than a PDU may bear.
+    /// Returns whether the header that came last names more data than a PDU may have.
     pub(crate) fn is_long(&self) -> bool {
         self.come == HEADER_LENGTH && Header::new(self.header).data_length() > MOST_DATA
     }
 
-    /// Takes the part that a piece begins with.
+    /// Takes the part with which a piece begins.
     pub(crate) fn take(&mut self, piece: &[u8]) -> Taken
         ensures { result.count ≤ length piece.now }
     {
@@ -97,7 +97,7 @@ impl PduStream {
         }
     }
 
-    /// What comes behind the header, by its lengths: a data segment is padded to a multiple of 4 (§11.1).
+    /// Begins what follows the header, by its lengths. A data segment is padded to a multiple of 4 (RFC 7143 §11.1).
     fn begin_behind(&mut self) {
         let header = Header::new(self.header);
         self.additional = header.additional_length();
@@ -108,7 +108,7 @@ impl PduStream {
         }
     }
 
-    /// Takes bytes of what comes behind a header, of so many.
+    /// Takes bytes of what follows a header, of a piece of this length.
     fn take_behind(&mut self, length: usize) -> (usize, Part)
         ensures { result.0 ≤ length }
     {

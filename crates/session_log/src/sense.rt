@@ -18,13 +18,13 @@ pub(crate) struct Sensed {
 /// Sense data as it passes.
 #[derive(Drop)]
 pub(crate) struct SenseFront {
-    /// Of this command. `None`: what passes is no sense data, or its front was seen.
+    /// The command of the sense data. `None`: no sense data passes, or its front was seen.
     command: Option<Command>,
     bytes: ArrayVec<u8, FRONT>,
 }
 
 impl SenseFront {
-    /// None passes.
+    /// Returns the state before any sense data.
     pub(crate) fn new() -> SenseFront {
         SenseFront {
             command: None,
@@ -32,18 +32,18 @@ impl SenseFront {
         }
     }
 
-    /// Begins with the sense data of this command.
+    /// Begins the sense data of this command.
     pub(crate) fn begin(&mut self, command: Command) {
         self.command = Some(command);
         self.bytes.clear();
     }
 
-    /// The next data is no sense data.
+    /// Ends the sense data: the data after it belongs to something else.
     pub(crate) fn end(&mut self) {
         self.command = None;
     }
 
-    /// Sees the next data. What it says, once its front has passed.
+    /// Sees the next data. Returns what it says, once its front has passed.
     pub(crate) fn see(&mut self, data: &[u8]) -> Option<Sensed> {
         let command = self.command?;
         for byte in data {

@@ -13,26 +13,29 @@ use std::net::SocketAddr;
 use std::rt::{Clock, Files};
 use target_limits::CONNECTIONS;
 
-/// So many lines a second are written of connections that have not logged in, and of those that have.
+/// The most lines that are written in a second of connections that have not logged in.
 const MOST_OF_STRANGERS: u32 = 20;
 
+/// The most lines that are written in a second of connections that have logged in.
 const MOST_OF_HOSTS: u32 = 200;
 
-/// The sense key and code of a unit that is not ready since its store failed, and those of a read and a write that failed.
+/// The sense key and code of a unit that is not ready since its store failed.
 const NOT_READY: (u8, u16) = (0x04, 0x4400);
 
+/// Those of a read that failed.
 const READ_FAILED: (u8, u16) = (0x03, 0x1100);
 
+/// Those of a write that failed.
 const WRITE_FAILED: (u8, u16) = (0x03, 0x0C00);
 
-/// Whose line it is: how many are written depends on it.
+/// Whose line it is. The most lines in a second depend on it.
 #[derive(Clone, Copy, Debug, PartialEq, Eq)]
 enum Whose {
     Stranger,
     Host,
 }
 
-/// A unit that was told to be not ready.
+/// A unit that was reported as not ready.
 #[derive(Drop)]
 struct FailedUnit {
     target: Vec<u8>,
@@ -45,22 +48,22 @@ struct FailedUnit {
 pub struct SessionLog<'r, R: Files<File = File> + Clock> {
     alloc: Global,
     file: LogFile<'r, R>,
-    /// By their numbers.
+    /// The connections, by their numbers.
     connections: Vec<Option<Connection>>,
     failed: Vec<FailedUnit>,
     strangers: Limit,
     hosts: Limit,
-    /// The number of lines that could not be written since one was.
+    /// The number of lines that could not be written since the last one that was.
     lost: u64,
 }
 
-/// A time in UTC, as RFC 3339 has it.
+/// Returns a time in UTC, in the form of RFC 3339.
 pub(crate) fn utc(alloc: Global, second: u64) -> Option<String> {
     let timestamp = Timestamp::from_second(i64::try_from(second).ok()?).ok()?;
     timestamp.strftime(alloc, "%Y-%m-%dT%H:%M:%SZ").ok()
 }
 
-/// Why a connection ended, where its own end says so.
+/// Returns why a connection ended, if its own end says so.
 fn cause_of(connection: &Connection) -> Option<&'static str> {
     if connection.state == State::LoggedOut {
         return Some("logout");
@@ -74,7 +77,7 @@ fn cause_of(connection: &Connection) -> Option<&'static str> {
     }
 }
 
-/// Both are of one initiator and target.
+/// Returns whether both are of one initiator and target.
 fn is_same_session(one: &Connection, other: &Connection) -> bool {
     !one.names.is_discovery
         && !other.names.is_discovery
@@ -84,7 +87,7 @@ fn is_same_session(one: &Connection, other: &Connection) -> bool {
 }
 
 impl<'r, R: Files<File = File> + Clock> SessionLog<'r, R> {
-    /// A log of no connections yet. Its first line says where the program listens.
+    /// Returns a log without connections. Writes its first line: the address on which the program listens.
     pub fn new(
         alloc: Global,
         file: LogFile<'r, R>,
@@ -127,7 +130,7 @@ impl<'r, R: Files<File = File> + Clock> SessionLog<'r, R> {
         self.put(second, text.as_str());
     }
 
-    /// Writes a line, however many were written.
+    /// Writes a line, no matter how many were written.
     fn say_always(&mut self, text: Result<String, AllocError>) {
         if let Ok(text) = text {
             let second = self.file.seconds();
@@ -161,7 +164,7 @@ impl<'r, R: Files<File = File> + Clock> SessionLog<'r, R> {
         }
     }
 
-    /// Another connection of the same initiator and target.
+    /// Returns another connection of the same initiator and target.
     fn successor_of(&self, gone: &Connection) -> Option<usize> {
         for (c, connection) in self.connections.iter().enumerate() {
             if let Some(connection) = connection {
@@ -173,7 +176,7 @@ impl<'r, R: Files<File = File> + Clock> SessionLog<'r, R> {
         None
     }
 
-    /// Tells what was heard or seen on a connection.
+    /// Writes the line of an event of a connection.
     fn tell(&mut self, c: usize, told: Told) {
         let Some(Some(connection)) = self.connections.get(c) else {
             return;
@@ -200,7 +203,7 @@ impl<'r, R: Files<File = File> + Clock> SessionLog<'r, R> {
         }
     }
 
-    /// Tells that a store failed, and at which command: of a unit that is not ready then once.
+    /// Writes that a store failed, and at which command. Of a unit that is then not ready, writes it once.
     fn tell_sensed(&mut self, c: usize, sensed: Sensed) {
         let Some(Some(connection)) = self.connections.get(c) else {
             return;
@@ -221,7 +224,7 @@ impl<'r, R: Files<File = File> + Clock> SessionLog<'r, R> {
     }
 }
 
-/// The line of a connection that ended by a violation. Where there is no memory for all of it, the PDU is left out.
+/// Returns the line of a connection that ended by a violation. Leaves the PDU out if there is no memory for it.
 fn violation_line(
     alloc: Global,
     c: usize,
@@ -234,7 +237,7 @@ fn violation_line(
     }
 }
 
-/// The unit is among these.
+/// Returns whether the unit is among these.
 fn is_noted(failed: &[FailedUnit], target: &[u8], lun: [u8; 8]) -> bool {
     failed
         .iter()

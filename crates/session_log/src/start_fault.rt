@@ -17,8 +17,8 @@ fn are_one_file(rt: &impl Files<File = File>, one: &str, other: &str) -> bool {
     }
 }
 
-/// Appends a line to the log at this path, or writes it to standard error for `-`. Nothing is written where the path
-/// names one of the files of units, which may not be locked now. A line that cannot be written is lost.
+/// Appends a line to the log at this path, or writes it to standard error for `-`. Writes nothing if the path names one
+/// of the files of units, which may not be locked now. A line that cannot be written is lost.
 pub fn tell_start_fault(
     rt: &(impl Files<File = File> + Net + Clock),
     alloc: Global,

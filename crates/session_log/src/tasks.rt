@@ -20,9 +20,10 @@ pub(crate) struct Command {
 #[derive(Clone, Copy, Debug, PartialEq, Eq)]
 enum Standing {
     Answered,
-    /// It was not, and as it came no other with its tag was unanswered.
+    /// It was not answered, and when it came no other with its tag was unanswered.
     Sole,
-    /// It was not, as another with its tag when it came: the target may have ignored it, or dropped the other.
+    /// It was not answered, and when it came another with its tag was unanswered: the target may have ignored it, or
+    /// dropped the other.
     Doubtful,
 }
 
@@ -44,29 +45,29 @@ struct Task {
 /// The latest tasks of a connection. The oldest is forgotten.
 #[derive(Clone, Copy, Debug)]
 pub(crate) struct RecentTasks {
-    /// Of each task. They lie close together, since they are searched at each command and each answer.
+    /// The mark of each task. They lie close together, since they are searched at each command and each answer.
     marks: [Mark; TASKS],
     tasks: [Task; TASKS],
-    /// Where the next one is noted.
+    /// The place of the next one.
     next: usize,
     ghost range: { next < 64 },
 }
 
-/// What is told of a command that is no longer remembered.
+/// What is reported of a command that is no longer remembered.
 const UNKNOWN: Command = Command {
     lun: [0; 8],
     cdb: [0; CDB],
 };
 
 impl Mark {
-    /// Returns whether its task bears this tag and was not answered.
+    /// Returns whether its task has this tag and was not answered.
     fn is_live(&self, tag: u32) -> bool {
         self.tag == tag && self.standing != Standing::Answered
     }
 }
 
 impl RecentTasks {
-    /// None.
+    /// Returns no tasks.
     pub(crate) fn new() -> RecentTasks {
         let mark = Mark {
             tag: 0xFFFF_FFFF,

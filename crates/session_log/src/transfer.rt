@@ -17,11 +17,11 @@ const NO_TRANSFER_TAG: u32 = 0xFFFF_FFFF;
 pub(crate) struct Ask {
     /// The Target Transfer Tag.
     pub(crate) tag: u32,
-    /// Where what it asks for ends in the data of the command.
+    /// The end of what it asks for in the data of the command.
     pub(crate) end: u32,
 }
 
-/// What stands in a place for R2Ts that is free.
+/// The content of a free place for an R2T.
 const NO_ASK: Ask = Ask {
     tag: NO_TRANSFER_TAG,
     end: 0,
@@ -148,8 +148,8 @@ impl Transfer {
         })
     }
 
-    /// Returns the first rule that a Data-Out breaks, in the order in which a target tests them (RFC 7143 §11.7). All that
-    /// was sent before it has to have been seen.
+    /// Returns the first rule that a Data-Out breaks, in the order in which a target tests them (RFC 7143 §11.7). All
+    /// answers before it must have been seen.
     pub(crate) fn violation_of(&self, out: &Header, first_burst: usize) -> Option<Violation> {
         if self.is_lossy || self.unseen > 0 {
             return None;
