@@ -37,6 +37,10 @@ no_places = record { short = []; long = []; short_places = 0; long_places = 0 }
 abbrev pub all_places : Kept
 all_places = record { short = []; long = []; short_places = 256; long_places = 64 }
 
+-- own: none is kept any longer, and the places stay
+abbrev pub emptied : Kept → Kept
+emptied kept = record kept { short = []; long = [] }
+
 -- own: whether there is room for a buffer with this much
 abbrev pub has_room : ℕ → Kept → Bool
 has_room room kept = nat_le (sum kept.short + sum kept.long + room) most_room

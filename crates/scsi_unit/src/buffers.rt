@@ -1,7 +1,7 @@
 //! Buffers for the data that commands return, which are used again.
 
 ghost use Rattle.std.specs.Prelude.{◌≡◌, ◌<◌, ◌≤◌, ◌++◌, ◌∷◌, ◌+◌, [], true, false, length, nat_lt, nat_le, ◌==◌, if◌then◌else◌, vec_len, vec_capacity, IfOk, IfSome, IfNone};
-ghost use Rattle.scsi_unit.specs.Buffers.{most_short, rooms, no_places, all_places, kept_with, Takes, TakesAny, TakesLeast, IsLeast, GivesBack};
+ghost use Rattle.scsi_unit.specs.Buffers.{most_short, rooms, no_places, all_places, emptied, kept_with, Takes, TakesAny, TakesLeast, IsLeast, GivesBack};
 
 use bytes::BytesMut;
 use media_block::BLOCK_LENGTH;
@@ -33,6 +33,8 @@ pub(crate) struct Buffers {
     long: Vec<(BytesMut, usize)>,
     /// The room of all, in bytes.
     room: usize,
+    /// More were to be kept than there is room for.
+    is_overfull: bool,
 }
 
 impl Model for Buffers {
@@ -120,6 +122,7 @@ impl Buffers {
             short: Vec::new(alloc),
             long: Vec::new(alloc),
             room: 0,
+            is_overfull: false,
         }
     }
 
@@ -131,6 +134,7 @@ impl Buffers {
             short: Vec::with_capacity(alloc, MOST_SHORT)?,
             long: Vec::with_capacity(alloc, MOST_LONG)?,
             room: 0,
+            is_overfull: false,
         })
     }
 
@@ -139,6 +143,7 @@ impl Buffers {
         ensures { self.new ≡ kept_with room self.old }
     {
         if room > MOST_ROOM - self.room {
+            self.is_overfull = true;
             return;
         }
         let is_kept = if room <= SHORT {
@@ -163,6 +168,21 @@ impl Buffers {
         };
         self.room -= had;
         Some(buffer)
+    }
+
+    /// Returns whether more buffers were to be kept than there is room for, since the last [`Buffers::trim`].
+    pub fn is_overfull(&self) -> bool {
+        self.is_overfull
+    }
+
+    /// Frees all buffers that are kept. Their places stay.
+    pub fn trim(&mut self)
+        ensures { self.new ≡ emptied self.old }
+    {
+        self.short.clear();
+        self.long.clear();
+        self.room = 0;
+        self.is_overfull = false;
     }
 }
 

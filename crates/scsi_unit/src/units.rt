@@ -208,6 +208,20 @@ impl<S: Store> Units<S> {
         self.spares = spares;
     }
 
+    /// Returns whether more buffers were to be kept than there is room for, since the last [`Units::trim`]: it was a busy
+    /// time.
+    pub fn is_overfull(&self) -> bool {
+        self.used.is_overfull() || self.spares.is_overfull()
+    }
+
+    /// Frees the buffers that are kept, so that those of a busy time do not stay after it. It allocates nothing.
+    pub fn trim(&mut self)
+        ensures { self.new ≡ self.old }
+    {
+        self.used.trim();
+        self.spares.trim();
+    }
+
     /// Returns the place of the unit that a LUN names.
     #[tactic(auto, unfolding(crate::specs::Lun::lun_number))]
     fn position(&self, lun: [u8; 8]) -> Option<usize>

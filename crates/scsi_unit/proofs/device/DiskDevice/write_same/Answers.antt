@@ -13,8 +13,8 @@ returns-in-Ok-clause-done g c =
     let some : nat_lt 0 range.count ≡ true = rw c.count.ensures.value at (lt-ltb 0 c.count.result c.count.ensures.least) in
     let done = c.in-Ok.ensures in
     rw c.good_taking.ensures
-    (same_given range c.args.«data».now (disk_view c.args.self.now) c.same.new.self some
-    (write_done range.first range.count (replicate range.count (take block_length c.args.«data».now)) disk disk c.same.new.self
+    (same_given range c.args.«data».now (disk_view c.args.self.now) c.write_same.new.self some
+    (write_done range.first range.count (replicate range.count (take block_length c.args.«data».now)) disk disk c.write_same.new.self
     (rw (c.from.ensures, c.count.ensures.value, c.first.ensures) at done.written) done.length
     (rw (c.from.ensures, c.count.ensures.value, not_none range.count some) at done.synced) done.failures done.honest done.steady))
 
@@ -25,8 +25,8 @@ returns-in-Err-clause-done g c =
     let some : nat_lt 0 range.count ≡ true = rw c.count.ensures.value at (lt-ltb 0 c.count.result c.count.ensures.least) in
     let done = c.in-Err.ensures in
     rw (c.write_failed.ensures.told, c.write_failed.ensures.disk)
-    (same_failed range c.args.«data».now (disk_view c.args.self.now) c.same.new.self some
-    (write_torn range.first range.count (replicate range.count (take block_length c.args.«data».now)) disk disk c.same.new.self
+    (same_failed range c.args.«data».now (disk_view c.args.self.now) c.write_same.new.self some
+    (write_torn range.first range.count (replicate range.count (take block_length c.args.«data».now)) disk disk c.write_same.new.self
     (rw (c.from.ensures, c.count.ensures.value, c.first.ensures) at done.torn) done.length
     (rw (c.from.ensures, c.count.ensures.value, not_none range.count some) at done.synced) done.failures done.honest done.steady)
     (λ steady honest. false≢true (done.succeeds steady honest)))
