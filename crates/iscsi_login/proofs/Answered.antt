@@ -16,7 +16,7 @@ answered_is : (pair : Pair) → text_of (filter_map answered_pair (pair ∷ []))
 unfolding key_result
 answered_is pair = ap text_of (onto_none (answered_pair pair))
 
--- one more result behind an answer's text
+-- one more result after an answer's text
 pub answer_more : (offers : List Pair) (at : ℕ) (pair : Pair) → slice_get offers at ≡ Some pair
     → text_of (filter_map answered_pair (take (at + 1) offers))
     ≡ text_of (filter_map answered_pair (take at offers)) ++ answered_text pair.0 (settled pair.0 pair.1)

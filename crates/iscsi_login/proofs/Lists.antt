@@ -13,11 +13,11 @@ drop_suc [] i x e = absurd cc
 drop_suc (y ∷ ys) zero x e = ap (λ v. v ∷ ys) (some_is y x e)
 drop_suc (y ∷ ys) (suc i) x e = drop_suc ys i x e
 
--- the element at a place, and those behind it
+-- the element at a place, and those after it
 pub drop_at : {X : Type 0} (xs : List X) (i : ℕ) (x : X) → slice_get xs i ≡ Some x → drop i xs ≡ x ∷ drop (i + 1) xs
 drop_at xs i x e = rw add-one (drop_suc xs i x e)
 
--- a fold takes the element at a place, and those behind it
+-- a fold takes the element at a place, and those after it
 pub fold_at : {X Y : Type 0} (f : Y → X → Y) (y : Y) (xs : List X) (i : ℕ) (x : X) → slice_get xs i ≡ Some x
     → fold f y (drop i xs) ≡ fold f (f y x) (drop (i + 1) xs)
 fold_at f y xs i x e = ap (fold f y) (drop_at xs i x e)
@@ -27,7 +27,7 @@ pub list_any_ends : {X : Type 0} (p : X → Bool) (xs : List X) (i : ℕ) (x : X
     → list_any p xs ≡ list_any p (drop i xs) → true ≡ list_any p xs
 list_any_ends p xs i x at passes so_far = sym (so_far ∙ ap (list_any p) (drop_at xs i x at) ∙ ap (λ v. v || list_any p (drop (i + 1) xs)) passes)
 
--- the next test fails, so those behind it decide
+-- the next test fails, so those after it decide
 pub list_any_goes_on : {X : Type 0} (p : X → Bool) (xs : List X) (i : ℕ) (x : X) → slice_get xs i ≡ Some x → p x ≡ false
     → list_any p xs ≡ list_any p (drop i xs) → list_any p xs ≡ list_any p (drop (i + 1) xs)
 list_any_goes_on p xs i x at fails so_far = so_far ∙ ap (list_any p) (drop_at xs i x at) ∙ ap (λ v. v || list_any p (drop (i + 1) xs)) fails

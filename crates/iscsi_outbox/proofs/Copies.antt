@@ -81,7 +81,7 @@ unfolding pieces_left
 copied_all c number old bytes past e =
     sym (append-nil bytes) ∙ ap (λ (xs : List ℕ). bytes ++ xs) (sym (none_from c number past)) ∙ e
 
--- all that lies behind a place
+-- all that lies after a place
 pub behind : (items : List ℕ) (at : ℕ) → slice_range items at (length items) ≡ drop at items
 behind items at = take_all (length items - at) (drop at items) (omega (arith, length-drop at items))
 

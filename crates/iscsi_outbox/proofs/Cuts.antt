@@ -28,7 +28,7 @@ along : (size burst : ℕ) (pieces : List Piece) (from to from' to' : ℕ) → f
 along size burst pieces from to from' to' same_from same_to cut =
     subst (λ (n : ℕ). AreCut size burst n to' pieces) same_from (subst (λ (n : ℕ). AreCut size burst from n pieces) same_to cut)
 
--- pieces behind pieces
+-- pieces after pieces
 joined : (size burst : ℕ) (ps qs : List Piece) (from mid to : ℕ) → AreCut size burst from mid ps → AreCut size burst mid to qs
     → AreCut size burst from to (ps ++ qs)
 joined size burst [] qs from mid to first second = along size burst qs mid to from to (sym first) refl second

@@ -48,7 +48,7 @@ unfolding pieces_left
 number_within c placed more =
     omega (arith, some_piece c.length c.limits.burst c.offset (pieces_left c) more placed.cut, length-drop c.number (all_pieces c))
 
--- what the next piece is, and what is behind it
+-- what the next piece is, and what is after it
 pub record Next (c : Cursor) (piece : Piece) : Type 0 where
   pub first : pieces_left c ≡ piece ∷ drop (c.number + 1) (all_pieces c)
   pub is_cut : IsCut c.length c.limits.burst c.offset piece
@@ -74,7 +74,7 @@ drop-past items head o long within =
     sym (drop-drop headroom o (take o items ++ (head ++ drop (o + headroom) items))) ∙ ap (drop headroom) (drop-over items head o long within)
     ∙ drop_at head (drop (o + headroom) items) headroom long
 
--- the next piece behind its header
+-- the next piece after its header
 fresh : (items head : List ℕ) (o n : ℕ) → length head ≡ headroom → o + headroom ≤ length items
     → slice_range (take o items ++ (head ++ drop (o + headroom) items)) o (headroom + (o + n)) ≡ head ++ take n (drop (o + headroom) items)
 fresh items head o n long within =

@@ -26,7 +26,7 @@ some_bytes (r ∷ runs) tail running some =
       length-append r.before.items r.data_ins,
     )
 
--- the bytes of a run and of those behind it
+-- the bytes of a run and of those after it
 pub run_at : (runs : List Run) (place : ℕ) (run : Run) → slice_get runs place ≡ Some run
     → length (flat_map run_bytes (drop place runs)) ≡ length run.before.items + length run.data_ins + length (flat_map run_bytes (drop (place + 1) runs))
 run_at runs place run found =
@@ -34,7 +34,7 @@ run_at runs place run found =
     ∙ length-append (run_bytes run) (flat_map run_bytes (drop (place + 1) runs))
     ∙ ap (λ (n : ℕ). n + length (flat_map run_bytes (drop (place + 1) runs))) (length-append run.before.items run.data_ins)
 
--- where no byte waits, none does in front or behind
+-- where no byte waits, none does in front or after
 pub none_before : (xs ys : List ℕ) → xs ++ ys ≡ [] → (xs ≡ []) × (ys ≡ [])
 none_before [] ys none = (refl, none)
 none_before (x ∷ xs) ys none = absurd cc

@@ -33,7 +33,7 @@ same_padding n m same = let is : padded n - n ≡ padded m - m = omega arith in 
 pub padding_is : (n : ℕ) → take (padded n - n) (0 ∷ 0 ∷ 0 ∷ []) ≡ padding n
 padding_is n = take-replicate (padded n - n) 3 0 (omega arith)
 
--- a piece of data is one of the data with more behind it
+-- a piece of data is one of the data with more after it
 part_before : (d t : List ℕ) (p : Piece) → p.offset + p.length ≤ length d → part_of (d ++ t) p ≡ part_of d p
 part_before d t p within =
     ap (take (p.offset + p.length - p.offset)) (drop-append-le p.offset d t (omega arith))

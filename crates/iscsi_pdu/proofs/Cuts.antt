@@ -9,7 +9,7 @@ use Rattle.iscsi_pdu.specs.Frames.{Frame, has_frame, frame_length, first_frame, 
 use Rattle.iscsi_pdu.specs.Laws.{IsCut, LongIsNoFrame, LongStays, FramesInPieces, RestInPieces, FramesAreCut, OnlyFrames, OnlyRest}
 use Rattle.iscsi_pdu.proofs.Frames.{has_frame-true, has_frame-from, is_long-true, is_long-from, no_frame, drop_shorter, frames_step, rest_step, frames_none, rest_none}
 
--- ---- bytes behind a header change none of its fields
+-- ---- bytes after a header change none of its fields
 
 additional_length-append : (a b : List ℕ) → header_length ≤ length a → additional_length (a ++ b) ≡ additional_length a
 additional_length-append a b h = ap (λ (n : ℕ). 4 * n) (get_or_append_left a b 0 4 (omega arith))
@@ -130,7 +130,7 @@ data_length-take bytes =
       get_or-take header_length bytes 7 0 (omega arith),
     ) refl
 
--- a front in four parts, one behind the other
+-- a front in four parts, one after the other
 take_parts : (a b c d : ℕ) (bytes : List ℕ) → take (a + b + c + d) bytes ≡ take a bytes
     ++ (take b (drop a bytes) ++ (take c (drop (a + b) bytes) ++ take d (drop (a + b + c) bytes)))
 take_parts a b c d bytes =
@@ -232,7 +232,7 @@ one_frame frame spelling s =
       all = all;
     }
 
--- a spelling in front is the first frame, and what follows it the bytes behind
+-- a spelling in front is the first frame, and what follows it the bytes after
 record IsFront (frame : Frame) (spelling more : List ℕ) : Type 0 where
   there : has_frame (spelling ++ more) ≡ true
   first : first_frame (spelling ++ more) ≡ frame

@@ -44,7 +44,7 @@ pub frame_length-header : (bytes : List ℕ) → header_length ≤ frame_length 
 unfolding frame_length
 frame_length-header bytes = omega arith
 
--- what is left behind a frame is shorter
+-- what is left after a frame is shorter
 pub drop_shorter : (bytes : List ℕ) → has_frame bytes ≡ true → length (drop (frame_length bytes) bytes) < length bytes
 drop_shorter bytes h =
     let f = has_frame-true bytes h in
@@ -93,7 +93,7 @@ rest-suc : (bytes : List ℕ) → rest bytes ≡ rest_within (suc (length bytes)
 unfolding rest
 rest-suc bytes = rest_within-enough (length bytes) (suc (length bytes)) bytes (omega arith) (omega arith)
 
--- the first frame is the one in front, and the others are those behind it
+-- the first frame is the one in front, and the others are those after it
 pub frames_step : (bytes : List ℕ) → has_frame bytes ≡ true → frames bytes ≡ first_frame bytes ∷ frames (drop (frame_length bytes) bytes)
 unfolding frames
 frames_step bytes there =
@@ -116,7 +116,7 @@ frames_none bytes none = frames-suc bytes ∙ rw none refl
 pub rest_none : (bytes : List ℕ) → has_frame bytes ≡ false → rest bytes ≡ bytes
 rest_none bytes none = rest-suc bytes ∙ rw none refl
 
--- the same for a frame and the bytes behind it under other names
+-- the same for a frame and the bytes after it under other names
 pub frames_taken : (bytes after : List ℕ) (frame : Frame) → has_frame bytes ≡ true → first_frame bytes ≡ frame
     → after ≡ drop (frame_length bytes) bytes → frames bytes ≡ frame ∷ frames after
 frames_taken bytes after frame there first behind = frames_step bytes there ∙ rw (first, behind) refl

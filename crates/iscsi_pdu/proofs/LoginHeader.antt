@@ -12,7 +12,7 @@ between front isid a b c d e f = simp append_assoc
 abbrev pub front : LoginResponse → List ℕ
 front r = (0x23 ∷ login_flags r.reply ∷ 0 ∷ 0 ∷ 0 ∷ []) ++ big_bytes 3 (length (login_text r.reply))
 
--- what stands behind it, bytes 14 to 47
+-- what stands after it, bytes 14 to 47
 abbrev pub behind : LoginResponse → List ℕ
 behind r =
     big_bytes 2 r.tsih ++ big_bytes 4 r.initiator_task_tag ++ replicate 4 0 ++ stamp_bytes r.stamp ++ big_bytes 2 (login_status r.reply) ++ replicate 10 0

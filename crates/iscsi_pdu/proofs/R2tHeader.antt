@@ -8,7 +8,7 @@ use Rattle.iscsi_pdu.specs.R2t.{r2t_header}
 between : (front lun a b c d e f : List ℕ) → front ++ lun ++ a ++ b ++ c ++ d ++ e ++ f ≡ front ++ (lun ++ (a ++ b ++ c ++ d ++ e ++ f))
 between front lun a b c d e f = simp append_assoc
 
--- what stands behind the LUN, bytes 16 to 47
+-- what stands after the LUN, bytes 16 to 47
 abbrev pub behind : R2t → List ℕ
 behind r =
     big_bytes 4 r.initiator_task_tag ++ big_bytes 4 r.target_transfer_tag ++ stamp_bytes r.stamp ++ big_bytes 4 r.r2t_sn

@@ -1,4 +1,4 @@
--- The first bytes of a list, and those behind them.
+-- The first bytes of a list, and those after them.
 use Rattle.std.proofs.Common.{◌≡◌, ℕ, ◌+◌, ◌-◌, ◌≤◌, min, List, [], ◌++◌, length, take, drop, refl, sym, ap, ◌∙◌, inl, inr, arith, append_assoc, append-nil, length-append, length-take}
 use Rattle.std.proofs.lemmas.Bool.{cases_lt}
 use Rattle.std.proofs.lemmas.List.{take_at, drop_at, drop-drop, drop_all, take-append-drop}
@@ -31,7 +31,7 @@ cut_split n k b e = record {
   whole = λ fewer. drop_all k b (omega (arith, e, fewer, length-take k b));
 }
 
--- ---- more bytes behind
+-- ---- more bytes after
 
 -- so many of them belong to the front
 pub fed : (n k : ℕ) (f b p : List ℕ) → IsSplit n f b → k ≡ min (length p) (n - length f) → (f ++ take k p) ++ (b ++ drop k p) ≡ (f ++ b) ++ p

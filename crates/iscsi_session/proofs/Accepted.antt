@@ -141,7 +141,7 @@ module _ (past : Past) (lawful : IsLawful past) where
   pub acted_taken : (k : ℕ) → is_in k past.acted ≡ true → is_in k (taken past.came) ≡ true
   acted_taken k e = ap (λ (l : List ℕ). is_in k l) lawful.in_order ∙ in_front k past.acted (due past) e
 
-  -- what it takes is due behind what was due
+  -- what it takes is due after what was due
   pub due_more : (x : Request) → due (joined x past) ≡ due past ++ taken_at (past.came ++ x ∷ []) (length past.came)
   unfolding due
   due_more x =

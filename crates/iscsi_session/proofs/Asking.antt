@@ -128,7 +128,7 @@ asked_elsewhere past k j differ =
     tags_grown past k j _ (tags_more past k j ∙ ap (λ (l : List ℕ). tags_of past j ++ l) (tags_elsewhere k j (r2ts_of past k) (ne_eqb k j (λ e. differ (sym e))))
     ∙ append-nil (tags_of past j))
 
--- none is due of it behind them
+-- none is due of it after them
 pub asks_gone : (past : Past) (k : ℕ) → asks_of (asked k past) k ≡ []
 asks_gone past k =
     ap (λ (t : Transfer). due_asks t.task) (asked_there past k)
@@ -160,7 +160,7 @@ one_asking : (past : Past) (k : ℕ) → find (is_due_of past) (unfinished past)
 unfolding asking
 one_asking past k e = first_passes (is_due_of past) k (unfinished past) e
 
--- ---- what is remembered behind it
+-- ---- what is remembered after it
 
 asked_list : (past : Past) (k i : ℕ) → slice_get (unfinished past) i ≡ Some k
     → set (map (transfer_of past) (unfinished past)) i (sent_to (r2ts_of past k) (transfer_at (map (transfer_of past) (unfinished past)) i))

@@ -6,7 +6,7 @@ use Rattle.scsi_unit.specs.CameOut.{CameOut, AsDefined}
 use Rattle.scsi_unit.specs.Units.{UnitStates, AreSound}
 use Rattle.iscsi_session.specs.Comings.{Coming, TargetUnits, lend, is_for, next_coming, AreAhead, ArePlain, AreOf, IsCalm, CameAs}
 
--- those behind some of them
+-- those after some of them
 pub ahead_of : (a b comings : List Coming) → AreAhead (a ++ b) comings → AreAhead a comings
 ahead_of [] b comings ahead = tt
 ahead_of (coming ∷ a) b comings ahead = (ahead.0, ahead_of a b (drop 1 comings) ahead.1)

@@ -137,7 +137,7 @@ pub distinct_front : (a b : List ℕ) → AreDistinct (a ++ b) → AreDistinct a
 distinct_front [] b distinct = tt
 distinct_front (k ∷ a) b distinct = ((or_parts _ _ (sym (is_in_append k a b) ∙ distinct.0)).0, distinct_front a b distinct.1)
 
--- what stands in the front does not stand behind
+-- what stands in the front does not stand at the back
 pub distinct_apart : (k : ℕ) (a b : List ℕ) → AreDistinct (a ++ b) → is_in k a ≡ true → is_in k b ≡ false
 distinct_apart k [] b distinct there = absurd cc
 distinct_apart k (n ∷ a) b distinct there = elim (cases_eq n k) [
@@ -145,7 +145,7 @@ distinct_apart k (n ∷ a) b distinct there = elim (cases_eq n k) [
   | inr differs ↦ let rest = rw (ne_eqb n k differs) at there in distinct_apart k a b distinct.1 rest
 ]
 
--- what stands behind does not stand in the front
+-- what stands at the back does not stand in the front
 pub apart_behind : (k : ℕ) (a b : List ℕ) → AreDistinct (a ++ b) → is_in k b ≡ true → is_in k a ≡ false
 apart_behind k a b distinct there = false_from_ne_true (is_in k a) (λ e. let h = sym there ∙ distinct_apart k a b distinct e in cc)
 

@@ -98,7 +98,7 @@ answers_long numbers values frame sent range = grind (arith, pieces_are_joined, 
 pub sent_short : (frame : Frame) (done : Outcome) → length done.given ≤ most_given → length (data_sent frame done) ≤ most_sent frame
 sent_short frame done le = grind (arith, length-take)
 
--- room for all Data-Ins of data that is copied, and for the SCSI Response behind them
+-- room for all Data-Ins of data that is copied, and for the SCSI Response after them
 pub data_fits : (numbers : Stamp) (values : Values) (frame : Frame) (sent : List ℕ) (n : ℕ) → AreInRange values → n ≡ length sent
     → n ≤ most_copied values frame → length (flat_map spelling (data_answers numbers values frame sent)) + 68 ≤ room_for values frame
 data_fits numbers values frame sent n range is le =
@@ -158,7 +158,7 @@ pub data_answers_count : (numbers : Stamp) (values : Values) (frame : Frame) (se
 unfolding data_answers
 data_answers_count numbers values frame sent = grind (arith, length-map, length-enumerate_from)
 
--- one more answer is written behind the first k
+-- one more answer is written after the first k
 pub record IsWritten (all : List Answer) (k : ℕ) (items before : List ℕ) (left room : ℕ) : Type 0 where
   pub written : items ≡ before ++ flat_map spelling (take k all)
   pub spare : left + length (flat_map spelling (take k all)) ≡ room
@@ -314,7 +314,7 @@ few_asks task least =
 
 -- ---- a header that is written into the room in front of data, and the answers that come of it
 
--- the room in front is written, and what lies behind it stays
+-- the room in front is written, and what lies after it stays
 pub written_over : (header items post : List ℕ) → length header ≡ 48 → 48 ≤ length items → post ≡ drop 48 items
     → take (length items) ((header ++ post) ++ drop (length (header ++ post)) items) ≡ header ++ drop 48 items
 written_over header items post long above is =
@@ -329,7 +329,7 @@ written_over header items post long above is =
 padding_is : (n : ℕ) → (4 - n % 4) % 4 ≡ padded n - n
 padding_is n = omega arith
 
--- the padding behind the data
+-- the padding after the data
 pub padded_behind : (header items : List ℕ) (n : ℕ) → n ≡ length (drop 48 items)
     → (header ++ drop 48 items) ++ take ((4 - n % 4) % 4) (0 ∷ 0 ∷ 0 ∷ []) ≡ header ++ segment (drop 48 items)
 padded_behind header items n is =
@@ -376,7 +376,7 @@ count_is values frame done sent count range is counted =
     counted ∙ ap (λ (n : ℕ). piece_count n values.max_burst_length values.max_recv_data_segment_length) is
     ∙ sym (pieces_counted values (data_sent frame done) range)
 
--- its data in pieces, and how it ended behind them
+-- its data in pieces, and how it ended after them
 pub all_spelled : (numbers : Stamp) (values : Values) (frame : Frame) (done : Outcome) (count : ℕ) (response : Answer)
     → response ≡ scsi_answer numbers frame done count → count ≡ length (sent_pieces values (data_sent frame done))
     → flat_map spelling (data_answers numbers values frame (data_sent frame done)) ++ spelling response
@@ -400,6 +400,6 @@ cut_as_sent numbers values frame sent bytes last shared limits shares cuts is =
     ∙ ap (λ (xs : List ℕ). outbox.answered (shared_fields numbers frame) (outbox.limits_of values) xs last) is
     ∙ ap (λ (answers : List Answer). flat_map spelling answers ++ last) (same_data_ins numbers frame sent 0 (sent_pieces values sent))
 
--- behind the room stands what is sent
+-- after the room stands what is sent
 pub sent_behind : (items given : List ℕ) (sent : ℕ) → drop 48 items ≡ given → drop 48 (take (48 + sent) items) ≡ take sent given
 sent_behind items given sent is = drop-take 48 sent items ∙ ap (take sent) is

@@ -50,7 +50,7 @@ pub leaves_nothing : (work : Work) (state : SessionState) (before : Output) (uni
 leaves_nothing work state before units s =
     grind (arith, append-nil work.past.answers, append-nil before.bytes, append-nil work.orders, append-nil before.orders)
 
--- twice behind
+-- twice after it
 behind_both : {A : Type 0} (l before waiting a b : List A) → waiting ≡ before ++ a → l ≡ waiting ++ b → l ≡ before ++ (a ++ b)
 behind_both {A} l before waiting a b first then_ = then_ ∙ ap (λ (x : List A). x ++ b) first ∙ append_assoc before a b
 
@@ -92,7 +92,7 @@ pub leaves_stopped : (step : Step) (given work : Work) (state : SessionState) (b
     → Leaves given work state before waiting units → Leaves given (record (reaches step work) { goes_on = false }) state before waiting units
 leaves_stopped step given work state before waiting units l = grind (arith, leaves_as)
 
--- ---- more waits behind what did
+-- ---- more waits after what did
 
 pub same_output : (bytes bytes_too : List ℕ) (orders orders_too : List (List ℕ)) → bytes ≡ bytes_too → orders ≡ orders_too
     → output bytes orders ≡ output bytes_too orders_too
@@ -179,7 +179,7 @@ pub runs_as : {run all : Run} {failed : Option (ℕ → Step)} {goes_on : Bool} 
     → Runs all failed goes_on old new before waiting units after → Runs run failed goes_on old new before waiting units after
 runs_as {run} {all} same r = grind arith
 
--- ---- one run behind another
+-- ---- one run after another
 
 abbrev pub no_failure : Step → Bool
 no_failure step = false

@@ -1,4 +1,4 @@
--- The R2Ts that are due of one command are sent, one behind the other.
+-- The R2Ts that are due of one command are sent, one after the other.
 use Rattle.std.proofs.Common.{◌≡◌, ℕ, zero, suc, ◌+◌, ◌*◌, ◌%◌, ◌<◌, ◌≤◌, List, [], ◌∷◌, ◌++◌, length, map, set, get_or, Some, None, refl, sym, ap, ◌∙◌, arith, append-nil, append_assoc}
 use Rattle.std.specs.Prelude.{flat_map}
 use Rattle.std.proofs.lemmas.List.{length-set}
@@ -97,7 +97,7 @@ pub sent_rest : (next : ℕ) (items : List Transfer) (drains : List Drained) (ta
 sent_rest next items drains tag i numbers ask transfer lt due at task_is next_is r2t_is =
     rw (r2t_is, task_is, next_is, at) (sent_first (record { next_tag = tag; list = items; drains = drains }) numbers i ask lt due)
 
--- ---- one behind the other
+-- ---- one after the other
 
 -- what is left to be sent completes what was to be sent at first, and there is room for it
 pub record IsSent (i : ℕ) (numbers : Stamp) (old now : TransferList) (before items : List ℕ) (spare : ℕ) : Type 0 where

@@ -295,7 +295,7 @@ goes_on_by Ignored differ = refl
 goes_on_by Dropped differ = refl
 goes_on_by Violating differ = absurd (differ refl)
 
--- the requests that are due act behind it
+-- the requests that are due act after it
 pub taken_on : (v : Verdict) (frame : Frame) {failed : Option (ℕ → Step)} {goes_on : Bool} {old middle new : SessionState} {before waiting items : Output}
     {units : TargetUnits} → Judges v frame old middle before waiting → v ≢ Violating → ((place : ℕ) → is_failed failed place (Judging place) ≡ false)
     → Runs act_all failed goes_on middle new waiting items units units

@@ -158,7 +158,7 @@ pub settled_agrees : (f g : Step → Bool) (place : ℕ) (work : Work) → ((k :
 settled_agrees f g place work same =
     settled_alike (λ units. units) f g (λ w. ⊤) (λ step on w ok. tt) place work same (λ k w ok. tt) (λ k w ok. refl) tt
 
--- ---- the parameters stay, and answers only come behind
+-- ---- the parameters stay, and answers only come after them
 
 pub record Extends (given work : Work) : Type 0 where
   pub params : work.past.params ≡ given.past.params

@@ -24,7 +24,7 @@ pub request_new : (came : List Request) (x : Request) → request_at (came ++ x 
 request_new [] x = refl
 request_new (y ∷ came) x = request_new came x
 
--- a place among those that came is as it was, and what stood behind all still does
+-- a place among those that came is as it was, and what stood after all still does
 pub place_kept : (came : List Request) (x : Request) (k : ℕ) → min (length came) (place_of (came ++ x ∷ []) k) ≡ min (length came) (place_of came k)
 place_kept came x k = grind (arith, cases_eq, position_or_len_push, eq-eqb, ne_eqb)
 
@@ -65,7 +65,7 @@ taken_at_same came x p lt =
     in let le = place_le_moment came (get_or those i d) in omega arith)) in
     rw (request_before came x p lt, numbers, places) refl
 
--- one more request: those taken before it, and behind them those that it takes
+-- one more request: those taken before it, and after them those that it takes
 pub taken_more : (came : List Request) (x : Request) → taken (came ++ x ∷ []) ≡ taken came ++ taken_at (came ++ x ∷ []) (length came)
 unfolding taken
 taken_more came x =

@@ -1,4 +1,4 @@
--- A function whose data has come: which it is, what the session remembers behind its answer, and that its past stays lawful.
+-- A function whose data has come: which it is, what the session remembers after its answer, and that its past stays lawful.
 use Rattle.std.proofs.Common.{◌≡◌, ℕ, ◌+◌, ◌-◌, ◌<◌, List, [], ◌∷◌, ◌++◌, length, map, get_or, Bool, true, false, not, cond, ◌&&◌, ◌||◌, ◌==◌, refl, sym, ap, subst, ◌∙◌, arith, inl, inr, Option, Some, None}
 use Rattle.std.specs.Prelude.{All, filter, find, is_some}
 use Rattle.std.specs.List.{list_any}

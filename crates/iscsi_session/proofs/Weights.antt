@@ -31,7 +31,7 @@ weigh_few (frame ∷ l) = grind (arith, weigh_few l)
 abbrev pub there : List (Option Frame) → List Frame
 there l = filter_map (λ o. o) l
 
--- ---- requests are taken, or held: by what each list of them measures, where lists one behind the other add up
+-- ---- requests are taken, or held: by what each list of them measures, where lists one after the other add up
 
 there_push : (l : List (Option Frame)) → there (l ++ None ∷ []) ≡ there l
 there_push l = filter_map-append (λ (o : Option Frame). o) l (None ∷ []) ∙ append-nil (there l)

@@ -48,7 +48,7 @@ joined_frames b p =
 pub joined_arrivals : (bytes piece : List ℕ) → is_long (rest bytes) ≡ false → arrivals (bytes ++ piece) ≡ arrivals bytes ++ arrivals (rest bytes ++ piece)
 joined_arrivals bytes piece e = rw (short_arrivals bytes e) (joined_frames bytes piece)
 
--- what a piece brings is what the rest brings with it, behind the arrivals before
+-- what a piece brings is what the rest brings with it, after the arrivals before
 pub new_is : (bytes piece : List ℕ) → is_long (rest bytes) ≡ false → new_arrivals bytes piece
     ≡ enumerate_from (length (arrivals bytes)) (arrivals (rest bytes ++ piece))
 unfolding new_arrivals

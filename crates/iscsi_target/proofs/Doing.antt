@@ -27,7 +27,7 @@ begins_both None b xs ys none h = subst (λ (l : List Mark). Begins b (l ++ ys))
 begins_both (Some c) b [] ys h g = absurd h
 begins_both (Some c) b (m ∷ xs) ys h g = h
 
--- ---- what was reached, one behind the other
+-- ---- what was reached, one after the other
 
 fewer : (ys : List Mark) (m : Mark) (marks : List Mark) → stand_in (m ∷ marks) ys ≡ true → stand_in marks ys ≡ true
 fewer [] m marks h = absurd cc

@@ -50,7 +50,7 @@ same_past x y e = cc
 
 -- ---- a session at work
 
--- R is so before something is done to connection c, and Q behind it
+-- R is so before something is done to connection c, and Q after it
 module _ (R Q : ℕ → Past → Type 0) (c : ℕ) (w : World) (others : (d : ℕ) (past : Past) → d ≢ c → R d past → Q d past) (each : Each R w) where
   pub each_put : (f : Life → Life) → IsPlaced f → ((life : Life) → Has (R c) life → Has (Q c) (f life)) → Each Q (changed f c w)
   each_put f placed here d life at = elim (eqb_tells d c) [

@@ -100,7 +100,7 @@ short_kept None (Some y) s h = absurd s
 short_kept (Some x) None s h = tt
 short_kept (Some x) (Some y) s h = λ e. ap (λ (bytes : List ℕ). is_long (rest bytes)) s.0 ∙ h (s.1 e)
 
--- the bytes that came on the connection, behind which these are left
+-- the bytes that came on the connection, after which these are left
 here_kept : (directory : KnownTargets) (sent : ℕ) (bytes left_ : List ℕ) (x : Life) (after : Option Life) → x.bytes ≡ bytes → rest bytes ≡ left_
     → Stays (Some x) after → link_of directory sent left_ after ≡ link_of directory sent (half_of after) after
 here_kept directory sent bytes left_ x None e r s = absurd s
@@ -140,7 +140,7 @@ stands_again s sent w v machine now comings c piece left_ life lt h at goes r sh
 
 -- ---- the event's end
 
--- what is left behind the arrivals
+-- what is left after the arrivals
 record Ended (s : Setting) (sent : ℕ → ℕ) (half : ℕ → List ℕ) (marks : List Mark) (c : ℕ) (v : World) (machine : Machine) : Type 0 where
   last : World
   is : take_step marks c AtEnd (λ u. u) v ≡ last

@@ -1,4 +1,4 @@
--- Whatever happens, the Login requests of a life stay, and more may come behind them: so a life that names a target goes on to name it.
+-- Whatever happens, the Login requests of a life stay, and more may come after them: so a life that names a target goes on to name it.
 use Rattle.std.proofs.Common.{◌≡◌, ℕ, suc, List, [], ◌∷◌, length, map, Bool, true, false, refl, sym, ap, subst}
 use Rattle.std.specs.Prelude.{⊤}
 use Rattle.std.specs.List.{fold}

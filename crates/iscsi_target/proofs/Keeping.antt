@@ -50,7 +50,7 @@ rows_in w = map row_of w.lives
 
 -- ---- the World
 
--- behind a login a life makes no more Login requests
+-- after a login a life makes no more Login requests
 abbrev pub IsPastLogin : Life → Life → Type 0
 IsPastLogin x y = logs_in x.phase ≡ false → (logs_in y.phase ≡ false) × (y.requests ≡ x.requests)
 

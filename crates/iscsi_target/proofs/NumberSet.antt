@@ -6,7 +6,7 @@ use Rattle.std.proofs.lemmas.Nat.{shr-shr, shr_le}
 use Rattle.std.proofs.lemmas.Nat.Bits.{bit_at-zero, bit_at_above, bit_at-trailing_zeros}
 use Rattle.iscsi_target.specs.NumberSet.{is_in}
 
--- a bit from k on stands as far behind the front of what a shift by k leaves
+-- a bit from k on stands as far after the front of what a shift by k leaves
 bit_behind : (n k d : ℕ) → k ≤ d → bit_at n d ≡ bit_at (n / 2 ^ k) (d - k)
 bit_behind n k d le =
     let split : d ≡ k + (d - k) = omega arith in

@@ -142,7 +142,7 @@ module _ (s : Setting) (c d : ℕ) (w : World) (differ : d ≢ c) where
   past_kept x (Some y) stays past =
       let both = stays.2 past in (both.1, λ z at is. (let same : y ≡ z = cc in absurd (cc (both.0, ap (λ (l : Life). logs_in l.phase) same, ap logs_in is))))
 
-  -- behind the login
+  -- after the login
   behind : (v u : World) (x : Life) → Extends v u → present c v ≡ Some x → logs_in x.phase ≡ false → Spares d v u → Spared s c d w v → Spared s c d w u
   behind v u x goes at past forth spared =
       let kept = past_kept x (present c u) (subst (λ (o : Option Life). Stays o (present c u)) at (goes.stays c)) past in

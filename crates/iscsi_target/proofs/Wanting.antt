@@ -72,7 +72,7 @@ wanted_few half piece none short le = elim (leb_tells header_length (length half
     no_header : (half : List ℕ) → length half < header_length → has_header half ≡ false
     no_header half lt = lt-leb _ _ lt
 
--- what is left behind frames begins with none
+-- what is left after frames begins with none
 rest_no_frame : (bytes : List ℕ) → has_frame (rest bytes) ≡ false
 rest_no_frame bytes = by_frame (has_frame (rest bytes)) refl
   where

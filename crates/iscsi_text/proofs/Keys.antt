@@ -35,7 +35,7 @@ list_any-push test (y ∷ xs) x = rw (list_any-push test xs x) (go (test y) (tes
     go false true = refl
     go false false = refl
 
--- a key that is put into the set stands behind the keys
+-- a key that is put into the set stands after the keys
 pub keys_more : (old new : BTreeSet (Bor (List ℕ))) (key : Bor (List ℕ)) (pairs : List Pair) (value : List ℕ)
     → ((q : Bor (List ℕ)) → holds_key old q ≡ has_key_among pairs q.now)
     → Updates (λ x y. slice_cmp nat_cmp x.now y.now) old new key true

@@ -61,7 +61,7 @@ pub pieces_open : (text : List ℕ) → position is_zero text ≡ None → 0 < l
     → pieces text ≡ record { bytes = text; ended = false } ∷ pieces (drop (length text) text)
 pieces_open text e lt = pieces_alone text e lt ∙ rw (drop_all (length text) text (omega arith), pieces-nil) refl
 
--- ---- what is read of pieces, behind the pairs that are there
+-- ---- what is read of pieces, after the pairs that are there
 
 abbrev pub keys_of : List Pair → List (List ℕ)
 keys_of pairs = map (λ pair. pair.0) pairs

@@ -11,7 +11,7 @@ each_byte_is_asked_for start burst end i some behind before =
     let low : (i - start) % burst < burst = omega arith in
     ((i - start) / burst, record { from = omega (arith, parts); below = omega (arith, parts, low) })
 
--- the bytes of a later R2T are behind those of an earlier one
+-- the bytes of a later R2T are after those of an earlier one
 in_order : (start burst end i k l : ℕ) → k < l → AsksFor start burst end k i → AsksFor start burst end l i → ⊥
 in_order start burst end i k l lt first second =
     let next : (k + 1) * burst ≤ l * burst = mul-le-mul_right burst (omega arith) in

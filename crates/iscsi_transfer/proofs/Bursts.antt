@@ -37,7 +37,7 @@ pub record OneMore (p start burst end n k : ℕ) : Type 0 where
   pub within : p + n ≤ end
   pub ends : (p + n - start) / burst ≡ k + 1 → p + n ≡ start + k * burst + min burst (end - (start + k * burst))
 
--- data behind k bursts, up to the end of the next at the most
+-- data after k bursts, up to the end of the next at the most
 pub one_more : (p start burst end n k : ℕ) → 1 ≤ burst → start ≤ p → p < end → k ≡ (p - start) / burst
     → p + n ≤ start + k * burst + min burst (end - (start + k * burst)) → OneMore p start burst end n k
 one_more p start burst end n k some behind less is within =

@@ -1,4 +1,4 @@
--- What is open behind one R2T more, or one Data-Out more.
+-- What is open after one R2T more, or one Data-Out more.
 use Rattle.std.proofs.Common.{◌≡◌, ℕ, ◌+◌, ◌-◌, List, [], ◌∷◌, ◌++◌, length, drop, ap, ◌∙◌, arith, length-append, length-drop}
 use Rattle.iscsi_pdu.specs.Frames.{Frame}
 use Rattle.iscsi_transfer.specs.WriteData.{WriteDataState, filled, blank, grown, with_data, with_asked}
@@ -17,7 +17,7 @@ pushed task k tag tags is counted more =
     ∙ ap (λ (n : ℕ). let t : WriteDataState = record task { sent = task.sent + 1; open_tags = task.open_tags ++ drop n (tag ∷ []) } in t)
     {x = 0} {y = filled task - task.sent} (omega (arith, is, counted))
 
--- one Data-Out more, behind which k have it
+-- one Data-Out more, after which k have it
 pub reached : (old new : WriteDataState) (out : Frame) → record new { sent = old.sent } ≡ blank (grown old out) → filled new ≡ filled (grown old out)
 reached old new out is = ap filled is ∙ filled_blank (grown old out)
 

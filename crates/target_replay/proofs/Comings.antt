@@ -76,7 +76,7 @@ line_more s before comings ahead now next front line text more prints replied =
     (carried_out_more (reply_in s) (course [] (before ++ comings ∷ ahead)) (course now (comings ∷ ahead)) (course next ahead) front line text more prints
     (ap (going_on ahead) replied))
 
--- and none behind it
+-- and none after it
 pub line_last : (s : Setting) (before : List (List Coming)) (comings : List Coming) (now next : History) (front : List (List ℕ)) (line text more : List ℕ)
     → printed_as s (before ++ comings ∷ []) front text now (comings ∷ []) → reply_by s comings now line ≡ Some (more, next)
     → printed_as s (before ++ comings ∷ []) (front ++ line ∷ []) (text ++ more) next []
@@ -89,7 +89,7 @@ line_last s before comings now next front line text more prints replied =
 abbrev ArePlainLines : List (List Coming) → Type 0
 ArePlainLines all = All (λ comings. comings ≡ []) all
 
--- without how the lines behind come out
+-- without how the lines after come out
 abbrev so_far : Option (List ℕ × Course) → Option (List ℕ × History)
 so_far r = option_map (λ p. (p.0, p.1.past)) r
 

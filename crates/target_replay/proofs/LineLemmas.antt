@@ -50,7 +50,7 @@ no_lines = refl
 -- ---- lines that are carried out, whatever one does
 
 module _ {S : Type 0} (reply : S → List ℕ → Option (List ℕ × S)) where
-  -- and then the lines behind
+  -- and then the lines after
   abbrev and_behind : List (List ℕ) → Option (List ℕ × S) → Option (List ℕ × S)
   and_behind behind r = option_and_then (λ p. printed_before reply p.0 (carried_out reply p.1 behind)) r
 

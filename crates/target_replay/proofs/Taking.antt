@@ -219,7 +219,7 @@ last_stops kind old target w0 w1 fault some back fails s bytes before h =
       ),
     )
 
--- the input ends behind a newline, or with a last line
+-- the input ends after a newline, or with a last line
 pub none_finishes : (kind : Kind) (old : Progress) (w : Option (List ℕ)) → old.pending ≡ [] → Finishes kind old old.target w w
 none_finishes kind old w none s bytes before h = (
   [],

@@ -5,7 +5,7 @@ use Rattle.iscsi_session.specs.State.{transfers_without}
 use Rattle.iscsi_session.specs.Draining.{awaited_in}
 use Rattle.iscsi_session.proofs.transfers.Transfers.drain.Given as goal
 
--- those so far stay, and those behind them are to be looked at
+-- those so far stay, and those after them are to be looked at
 abbrev pub invariant-loop-place : goal.invariant-loop-place
 invariant-loop-place l = record {
   kept : take l.place l.self-inside.list.items ++ filter (λ transfer. not (reaches l.reach transfer.header)) (drop l.place l.self-inside.list.items)

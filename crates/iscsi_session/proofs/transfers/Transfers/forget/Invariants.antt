@@ -3,7 +3,7 @@ use Rattle.std.specs.Prelude.{filter}
 use Rattle.iscsi_session.specs.Draining.{function_tag, drains_without}
 use Rattle.iscsi_session.proofs.transfers.Transfers.forget.Given as goal
 
--- those so far stay, and those behind them are to be looked at
+-- those so far stay, and those after them are to be looked at
 abbrev pub invariant-loop-place : goal.invariant-loop-place
 invariant-loop-place l = record {
   kept : take l.place l.self-inside.drains.items ++ filter (λ drained. not (function_tag drained == l.tag)) (drop l.place l.self-inside.drains.items)
