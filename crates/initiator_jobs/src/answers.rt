@@ -1,5 +1,7 @@
 //! What the target answers on a connection.
 
+ghost use Rattle.std.specs.Prelude.{◌≤◌};
+
 use crate::digest::Digest;
 use crate::fault::Fault;
 use crate::requests::Header;
@@ -34,6 +36,13 @@ pub struct Answers {
     /// The Target Transfer Tag of the last answer, and its byte 1.
     pub transfer: u32,
     pub flags: u8,
+}
+
+/// Returns the number in four bytes of a header.
+fn word(header: &Header, at: usize) -> u32
+    requires { at ≤ 44 }
+{
+    BigEndian::read_u32(&header[at..at + 4])
 }
 
 impl Answers {
@@ -86,17 +95,17 @@ impl Answers {
 
     /// Records the header, which is complete.
     fn take_header(&mut self) -> Result<(), Fault> {
-        let header = self.header;
+        let header = &self.header;
         self.missing = (BigEndian::read_u24(&header[5..8]) as usize + 3) / 4 * 4;
-        self.transfer = BigEndian::read_u32(&header[20..24]);
+        self.transfer = word(header, 20);
         self.flags = header[1];
         match header[0] {
             0x25 => {}
             0x31 => self.asked.push(Asked {
-                tag: BigEndian::read_u32(&header[16..20]),
+                tag: word(header, 16),
                 transfer: self.transfer,
-                offset: BigEndian::read_u32(&header[40..44]),
-                length: BigEndian::read_u32(&header[44..48]) as usize,
+                offset: word(header, 40),
+                length: word(header, 44) as usize,
             })?,
             opcode => {
                 self.ended = self.ended.wrapping_add(1);

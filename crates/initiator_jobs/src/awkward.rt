@@ -1,16 +1,17 @@
 //! What unusual initiators and slow connections send: single bytes, small segments and commands out of order. Tasks are
 //! aborted with half of their data, and long texts come in pieces.
 
-use crate::devices::{Targets, disks};
-use crate::exchange::{bring, drain, exchange, feed, log_in};
+use crate::answers::Asked;
+use crate::devices::disks;
+use crate::exchange::{bring, drain, feed};
 use crate::fault::Fault;
 use crate::host::Host;
+use crate::line::{Line, Way};
 use crate::outcome::Outcome;
 use crate::random::Random;
 use crate::requests::{
-    Command, Header, NO_DATA, READS, WRITES, abort_task, cdb_10, data_out, ping, scsi_command, text,
+    Command, Header, READY, abort_task, data_out, ping, scsi_command, text, transfer,
 };
-use crate::wire::Wire;
 use std::alloc::Global;
 
 /// The number of blocks of the disk: 64 MiB.
@@ -25,113 +26,128 @@ const WINDOW: usize = 32;
 /// The number of places at which a stream may begin.
 const PLACES: usize = 262_144;
 
+/// The most bytes that the loop reads at a time.
+const CUT: usize = 65_536;
+
 /// The disk, and a host that puts it to the test.
 #[derive(Drop)]
 struct Trial {
-    target: Targets,
+    line: Line,
     host: Host,
-    wire: Wire,
-    random: Random,
     alloc: Global,
 }
 
 impl Trial {
-    /// Returns a WRITE or a READ of blocks at a random place of the disk.
-    fn command(&mut self, writes: bool, blocks: usize) -> Command {
-        let at = self.random.below(BLOCKS.saturating_sub(blocks));
-        let blocks = blocks.min(2_048);
-        Command {
-            flags: if writes { WRITES } else { READS },
-            lun: 0,
-            expected: 512 * blocks,
-            cdb: cdb_10(if writes { 0x2a } else { 0x28 }, 0, at, blocks),
-        }
+    /// Makes a disk and a host.
+    fn new(alloc: Global, seed: u64) -> Result<Trial, Fault> {
+        let way = Way {
+            places: PLACES,
+            segment: SEGMENT,
+            cut: CUT,
+        };
+        let target = disks(alloc, 1, BLOCKS)?;
+        let mut line = Line::new(alloc, target, Random::new(seed), 4 * PLACES, way)?;
+        let host = Host::new(alloc, 0, 0, &mut line.random);
+        Ok(Trial { line, host, alloc })
     }
 
-    /// Begins a stream at a random place of the wire.
-    fn begin(&mut self) {
-        self.wire.begin(self.random.below(PLACES));
+    /// Returns a WRITE or a READ of blocks at a random place of the disk.
+    fn command(&mut self, writes: bool, blocks: usize) -> Command {
+        let at = self.line.random.below(BLOCKS.saturating_sub(blocks));
+        transfer(writes, at, blocks)
+    }
+
+    /// Lays a PDU next, with `data` bytes of data, and expects its answer.
+    fn lay(&mut self, header: &Header, data: usize) {
+        self.line.wire.lay(header, data);
+        self.host.expect();
+    }
+
+    /// Brings the stream in pieces of `cut` bytes, and takes the answers.
+    fn exchange(&mut self, cut: usize) -> Result<(), Fault> {
+        self.line.way.cut = cut;
+        self.line.exchange(&mut self.host)
     }
 
     /// Sends a WRITE of 1 KiB, a READ and a NOP-Out byte by byte.
     fn by_bytes(&mut self) -> Result<(), Fault> {
-        self.begin();
+        self.line.begin();
         let write = self.command(true, 2);
         let read = self.command(false, 1);
-        self.host.lay(&mut self.wire, &write, 1_024);
-        self.host.lay(&mut self.wire, &read, 0);
+        self.host.lay(&mut self.line.wire, &write, 1_024);
+        self.host.lay(&mut self.line.wire, &read, 0);
         let (tag, cmd_sn) = (self.host.next_tag(), self.host.next_cmd_sn());
-        self.wire.lay(&ping(tag, cmd_sn, 100), 100);
-        self.host.expect();
-        exchange(&mut self.target, &mut self.host, &mut self.wire, SEGMENT, 1)
+        self.lay(&ping(tag, cmd_sn, 100), 100);
+        self.exchange(1)
     }
 
     /// Sends a WRITE and a READ of 128 KiB in the smallest segments.
     fn in_small_segments(&mut self) -> Result<(), Fault> {
-        self.begin();
+        self.line.begin();
         let write = self.command(true, 256);
         let read = self.command(false, 256);
-        self.host.lay(&mut self.wire, &write, SEGMENT);
-        self.host.lay(&mut self.wire, &read, 0);
-        exchange(
-            &mut self.target,
-            &mut self.host,
-            &mut self.wire,
-            SEGMENT,
-            1_448,
-        )
+        self.host.lay(&mut self.line.wire, &write, SEGMENT);
+        self.host.lay(&mut self.line.wire, &read, 0);
+        self.exchange(1_448)
     }
 
-    /// Sends a full window of READs and WRITEs of one block as one piece, with the last command first.
-    fn out_of_order(&mut self) -> Result<(), Fault> {
-        self.begin();
+    /// Lays a full window of READs and WRITEs of one block, with the last command first.
+    fn lay_window(&mut self) {
         let first = self.host.cmd_sn();
         for place in 0..WINDOW {
-            let behind = (WINDOW - 1 - place) as u32;
+            let ahead = (WINDOW - 1 - place) as u32;
             let command = self.command(place % 2 == 0, 1);
-            let data = if place % 2 == 0 { 512 } else { 0 };
+            let data = command.immediate();
             let (tag, _) = (self.host.next_tag(), self.host.next_cmd_sn());
-            let header = scsi_command(&command, tag, first.wrapping_add(behind), data);
-            self.wire.lay(&header, data);
-            self.host.expect();
+            let header = scsi_command(&command, tag, first.wrapping_add(ahead), data);
+            self.lay(&header, data);
         }
-        feed(&mut self.target, self.host.c, self.wire.stream())?;
-        drain(&mut self.target, &mut self.host)
+    }
+
+    /// Sends a full window of READs and WRITEs out of order, as one piece.
+    fn out_of_order(&mut self) -> Result<(), Fault> {
+        self.line.begin();
+        self.lay_window();
+        feed(&mut self.line.target, self.host.c, self.line.wire.stream())?;
+        drain(&mut self.line.target, &mut self.host)
+    }
+
+    /// Lays half of the data that was requested, in small segments.
+    fn lay_half(&mut self, tag: u32, part: Asked) {
+        for number in 0..64u32 {
+            let offset = part.offset.wrapping_add(512 * number);
+            let header = data_out(tag, part.transfer, number, offset, SEGMENT, false);
+            self.line.wire.lay(&header, SEGMENT);
+        }
     }
 
     /// Sends half of the data that was requested, in small segments, and then aborts the task.
     fn aborted(&mut self) -> Result<(), Fault> {
-        self.begin();
+        self.line.begin();
         let command = self.command(true, 256);
         let cmd_sn = self.host.cmd_sn();
-        let tag = self.host.lay(&mut self.wire, &command, 65_536);
-        bring(&mut self.target, self.host.c, self.wire.stream(), 65_536)?;
-        drain(&mut self.target, &mut self.host)?;
-        let asked = self.host.answers.asked.pop();
-        self.wire.go_on();
-        if let Some(part) = asked {
-            for number in 0..64u32 {
-                let offset = part.offset.wrapping_add(512 * number);
-                let header = data_out(tag, part.transfer, number, offset, SEGMENT, false);
-                self.wire.lay(&header, SEGMENT);
-            }
+        let tag = self.host.lay(&mut self.line.wire, &command, 65_536);
+        bring(
+            &mut self.line.target,
+            self.host.c,
+            self.line.wire.stream(),
+            CUT,
+        )?;
+        drain(&mut self.line.target, &mut self.host)?;
+        self.line.wire.go_on();
+        if let Some(part) = self.host.answers.asked.pop() {
+            self.lay_half(tag, part);
         }
         let function = abort_task(self.host.next_tag(), tag, cmd_sn, self.host.cmd_sn());
-        self.wire.lay(&function, 0);
-        exchange(
-            &mut self.target,
-            &mut self.host,
-            &mut self.wire,
-            SEGMENT,
-            65_536,
-        )
+        self.line.wire.lay(&function, 0);
+        self.exchange(CUT)
     }
 
     /// Returns a text of about `length` bytes, with unknown keys.
     fn long_text(&mut self, length: usize) -> Result<Vec<u8>, Fault> {
         let mut all = Vec::with_capacity(self.alloc, length)?;
         for number in 0..length / 64 {
-            let value = self.random.number();
+            let value = self.line.random.number();
             let pair = format!(in self.alloc;
                 "X-com.example.key{number}={value:016x}{value:016x}\0"
             )?;
@@ -140,11 +156,10 @@ impl Trial {
         Ok(all)
     }
 
-    /// Sends a text of 64 KiB in pieces of 512 bytes, and requests its answer piece by piece.
-    fn text_in_pieces(&mut self) -> Result<(), Fault> {
-        let all = self.long_text(65_000)?;
+    /// Sends a text in pieces of 512 bytes.
+    fn send_pieces(&mut self, all: &[u8]) -> Result<(), Fault> {
         let mut transfer = 0xffff_ffff;
-        let mut rest = all.as_slice();
+        let mut rest = all;
         for _ in 0..all.len() {
             let (front, behind) = rest.split_at(SEGMENT.min(rest.len()));
             rest = behind;
@@ -155,12 +170,18 @@ impl Trial {
                 break;
             }
         }
+        Ok(())
+    }
+
+    /// Sends a text of 64 KiB in pieces of 512 bytes, and requests its answer piece by piece.
+    fn text_in_pieces(&mut self) -> Result<(), Fault> {
+        let all = self.long_text(65_000)?;
+        self.send_pieces(all.as_slice())?;
         for _ in 0..all.len() {
             if self.host.answers.flags & 0x40 == 0 {
                 break;
             }
-            self.ask(0x80, transfer, &[])?;
-            transfer = self.host.answers.transfer;
+            self.ask(0x80, self.host.answers.transfer, &[])?;
         }
         Ok(())
     }
@@ -168,17 +189,11 @@ impl Trial {
     /// Sends a Text Request, and takes its answer.
     fn ask(&mut self, flags: u8, transfer: u32, piece: &[u8]) -> Result<(), Fault> {
         let (tag, cmd_sn) = (self.host.next_tag(), self.host.next_cmd_sn());
-        let header: Header = text(flags, tag, transfer, cmd_sn, piece.len());
-        self.wire.begin(0);
-        self.wire.lay_text(&header, piece);
+        let header = text(flags, tag, transfer, cmd_sn, piece.len());
+        self.line.wire.begin(0);
+        self.line.wire.lay_text(&header, piece);
         self.host.expect();
-        exchange(
-            &mut self.target,
-            &mut self.host,
-            &mut self.wire,
-            SEGMENT,
-            65_536,
-        )
+        self.exchange(CUT)
     }
 
     /// Sends the commands of each kind four times, and then the long text.
@@ -191,40 +206,23 @@ impl Trial {
         }
         self.text_in_pieces()
     }
+
+    /// Logs in, takes the report of the power on, and runs `rounds` rounds.
+    fn run(&mut self, rounds: usize) -> Result<(), Fault> {
+        self.line.log_in(&mut self.host, 0, SEGMENT)?;
+        self.line
+            .send_at(&mut self.host, 0, &Command::reading(READY, 0))?;
+        for _ in 0..rounds {
+            self.round()?;
+        }
+        Ok(())
+    }
 }
 
 /// Runs `rounds` rounds.
 pub fn awkward(alloc: Global, seed: u64, rounds: usize) -> Result<Outcome, Fault> {
-    let mut random = Random::new(seed);
-    let mut wire = Wire::new(alloc, &mut random, 4 * PLACES)?;
-    let mut host = Host::new(alloc, 0, 0, &mut random);
-    let mut target = disks(alloc, 1, BLOCKS)?;
-    log_in(&mut target, &mut host, &mut wire, 0, SEGMENT)?;
-    let mut trial = Trial {
-        target,
-        host,
-        wire,
-        random,
-        alloc,
-    };
-    trial.wire.begin(0);
-    let ready = Command {
-        flags: NO_DATA,
-        lun: 0,
-        expected: 0,
-        cdb: [0; 16],
-    };
-    trial.host.lay(&mut trial.wire, &ready, 0);
-    exchange(
-        &mut trial.target,
-        &mut trial.host,
-        &mut trial.wire,
-        SEGMENT,
-        65_536,
-    )?;
-    for _ in 0..rounds {
-        trial.round()?;
-    }
+    let mut trial = Trial::new(alloc, seed)?;
+    trial.run(rounds)?;
     let mut outcome = Outcome::new();
     outcome.add(&trial.host.answers);
     Ok(outcome)

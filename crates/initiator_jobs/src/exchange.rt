@@ -1,15 +1,11 @@
 //! How an initiator's bytes are brought to the target, and its answers are taken, as the loop over sockets does it.
 
-use crate::devices::{Targets, name_of};
+use crate::devices::Targets;
 use crate::fault::Fault;
 use crate::host::Host;
-use crate::wire::Wire;
 
 /// The most bytes that the loop reads at a time.
 const MOST_READ: usize = 65_536;
-
-/// The number of exchanges that is enough for any command.
-const MOST_EXCHANGES: usize = 64;
 
 /// Opens a connection with this number.
 pub fn open(target: &mut Targets, c: usize) -> Result<(), Fault> {
@@ -86,42 +82,4 @@ pub fn drain(target: &mut Targets, host: &mut Host) -> Result<(), Fault> {
         target.sent(c, count);
     }
     Ok(())
-}
-
-/// Brings the stream and the data that is requested, in Data-Outs of `segment` bytes, until everything is answered.
-pub fn exchange(
-    target: &mut Targets,
-    host: &mut Host,
-    wire: &mut Wire,
-    segment: usize,
-    cut: usize,
-) -> Result<(), Fault> {
-    for _ in 0..MOST_EXCHANGES {
-        bring(target, host.c, wire.stream(), cut)?;
-        drain(target, host)?;
-        if host.answers.asked.is_empty() {
-            break;
-        }
-        wire.go_on();
-        host.lay_asked(wire, segment);
-    }
-    if host.has_all() {
-        Ok(())
-    } else {
-        Err(Fault::Unanswered)
-    }
-}
-
-/// Opens a connection and logs in to a target, for Data-Ins of `segment` bytes.
-pub fn log_in(
-    target: &mut Targets,
-    host: &mut Host,
-    wire: &mut Wire,
-    number: usize,
-    segment: usize,
-) -> Result<(), Fault> {
-    open(target, host.c)?;
-    wire.begin(0);
-    host.lay_login(wire, name_of(number), segment)?;
-    exchange(target, host, wire, segment, MOST_READ)
 }

@@ -37,11 +37,6 @@ impl Host {
         }
     }
 
-    /// Begins a new session, on a connection of its own.
-    pub fn begin(&mut self, c: usize) {
-        self.c = c;
-    }
-
     /// Returns a tag that no other request of this initiator has.
     pub fn next_tag(&mut self) -> u32 {
         self.tag = self.tag.wrapping_add(1) & 0x7fff_ffff;

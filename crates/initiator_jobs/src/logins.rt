@@ -1,12 +1,11 @@
 //! Logins as libiscsi and open-iscsi send them, and other ways to send the same keys.
 
-use crate::devices::Targets;
-use crate::exchange::{exchange, open};
+use crate::exchange::open;
 use crate::fault::Fault;
 use crate::host::Host;
+use crate::line::Line;
 use crate::random::Random;
 use crate::requests::{Header, login, text};
-use crate::wire::Wire;
 use std::alloc::Global;
 
 /// The length of the longest data segment that both sides take.
@@ -25,9 +24,6 @@ const STAYS: u8 = 0x04;
 
 /// The ISID of each open-iscsi initiator, which counts from 00023d000000 on each host.
 const OPEN_ISCSI_ISID: [u8; 6] = [0x00, 0x02, 0x3d, 0x00, 0x00, 0x01];
-
-/// The ISID of a libiscsi initiator, which has random bytes in place of three of these zeros.
-const LIBISCSI_ISID: [u8; 6] = [0x80, 0x00, 0x00, 0x00, 0x00, 0x00];
 
 /// The keys that libiscsi 1.19.0 sends after both names.
 const LIBISCSI_KEYS: &str =
@@ -49,29 +45,37 @@ const OPEN_ISCSI_END: &str =
 const SHORT_BURSTS: &str = "MaxBurstLength=65536\0FirstBurstLength=65536\0";
 
 /// The keys of open-iscsi in seven texts, with bursts of 64 KiB.
-const SEVEN_TEXTS: [&str; 7] = [
-    "HeaderDigest=None\0DataDigest=None\0",
-    "DefaultTime2Wait=2\0DefaultTime2Retain=0\0IFMarker=No\0OFMarker=No\0",
-    "ErrorRecoveryLevel=0\0InitialR2T=No\0ImmediateData=Yes\0",
-    SHORT_BURSTS,
-    "MaxOutstandingR2T=1\0MaxConnections=1\0",
-    "DataPDUInOrder=Yes\0DataSequenceInOrder=Yes\0",
-    "MaxRecvDataSegmentLength=262144\0",
+const SEVEN_TEXTS: [(u8, &str); 7] = [
+    (STAYS, "HeaderDigest=None\0DataDigest=None\0"),
+    (
+        STAYS,
+        "DefaultTime2Wait=2\0DefaultTime2Retain=0\0IFMarker=No\0OFMarker=No\0",
+    ),
+    (
+        STAYS,
+        "ErrorRecoveryLevel=0\0InitialR2T=No\0ImmediateData=Yes\0",
+    ),
+    (STAYS, SHORT_BURSTS),
+    (STAYS, "MaxOutstandingR2T=1\0MaxConnections=1\0"),
+    (STAYS, "DataPDUInOrder=Yes\0DataSequenceInOrder=Yes\0"),
+    (TO_FULL_FEATURE, "MaxRecvDataSegmentLength=262144\0"),
 ];
+
+/// The alias of an initiator of open-iscsi.
+const ALIAS: &str = "InitiatorAlias=(none)\0";
+
+/// The type of a session to a target.
+const NORMAL: &str = "SessionType=Normal\0";
 
 /// How an initiator logs in.
 #[derive(Clone, Copy)]
 enum Way {
     /// As libiscsi: one text of 19 keys and 440 bytes.
     Libiscsi,
-    /// The same with further keys, up to 39.
-    LibiscsiAndMore,
     /// As open-iscsi: one text of 20 keys and 425 bytes.
     OpenIscsi,
     /// The same with a longer name, 437 bytes.
     Guest,
-    /// The same with further keys, up to 40.
-    GuestAndMore,
     /// With the keys of a guest, in both stages.
     BothStages,
     /// With these keys in two texts of one stage.
@@ -80,7 +84,7 @@ enum Way {
     EightTexts,
 }
 
-/// The ways of eight initiators in turn.
+/// The ways of eight initiators in turn. The last two add further keys, up to 40 in all.
 const WAYS: [Way; 8] = [
     Way::Libiscsi,
     Way::OpenIscsi,
@@ -88,8 +92,8 @@ const WAYS: [Way; 8] = [
     Way::BothStages,
     Way::TwoTexts,
     Way::EightTexts,
-    Way::LibiscsiAndMore,
-    Way::GuestAndMore,
+    Way::Libiscsi,
+    Way::Guest,
 ];
 
 /// A Login Request: T, CSG and NSG, and a whole text.
@@ -118,23 +122,17 @@ impl Initiator {
         target: &str,
         random: &mut Random,
     ) -> Result<Initiator, Fault> {
+        let way = WAYS[number % 8];
+        let host = Host::new(alloc, number % 64, number, random);
         let mut initiator = Initiator {
-            host: Host::new(alloc, number % 64, number, random),
-            isid: OPEN_ISCSI_ISID,
+            host,
+            isid: isid(way, random),
             parts: Vec::new(alloc),
             question: further_keys(alloc, 17 + number % 24)?,
             alloc,
         };
-        match WAYS[number % 8] {
-            Way::Libiscsi => initiator.add_libiscsi(target, random, 0)?,
-            Way::LibiscsiAndMore => initiator.add_libiscsi(target, random, number / 8)?,
-            Way::OpenIscsi => initiator.add_open_iscsi(target)?,
-            Way::Guest => initiator.add_guest(target, 0)?,
-            Way::GuestAndMore => initiator.add_guest(target, number / 8)?,
-            Way::BothStages => initiator.add_both_stages(target)?,
-            Way::TwoTexts => initiator.add_two_texts(target)?,
-            Way::EightTexts => initiator.add_eight_texts(target)?,
-        }
+        let more = if number % 8 < 6 { 0 } else { number / 8 };
+        initiator.add_login(way, target, more)?;
         Ok(initiator)
     }
 
@@ -157,114 +155,89 @@ impl Initiator {
         Ok(())
     }
 
-    /// Adds the login of libiscsi, which has an ISID of its own.
-    fn add_libiscsi(
-        &mut self,
-        target: &str,
-        random: &mut Random,
-        more: usize,
-    ) -> Result<(), Fault> {
+    /// Returns the keys with which it names itself and the target.
+    fn names(&self, way: Way, target: &str) -> Result<String, Fault> {
         let number = self.host.number;
-        let names = format!(in self.alloc;
-            "InitiatorName=iqn.2007-10.com.github:sahlberg:libiscsi:iscsi-inq{number:02}\0TargetName={target}\0"
-        )?;
-        self.isid = LIBISCSI_ISID;
-        self.isid[1..4].copy_from_slice(&random.number().to_be_bytes()[..3]);
-        self.add(TO_FULL_FEATURE, &[names.as_str(), LIBISCSI_KEYS])?;
-        self.add_further_keys(more)
-    }
-
-    /// Adds the login of open-iscsi.
-    fn add_open_iscsi(&mut self, target: &str) -> Result<(), Fault> {
-        let number = self.host.number;
-        let names = format!(in self.alloc;
-            "InitiatorName=iqn.2026-11.bench:{number:02}\0InitiatorAlias=(none)\0TargetName={target}\0SessionType=Normal\0"
-        )?;
-        self.add(
-            TO_FULL_FEATURE,
-            &[
-                names.as_str(),
-                OPEN_ISCSI_FRONT,
-                OPEN_ISCSI_BURSTS,
-                OPEN_ISCSI_END,
-            ],
-        )
-    }
-
-    /// Returns the keys with which a guest describes itself and its session.
-    fn guest(&self, target: &str) -> Result<String, Fault> {
-        let number = self.host.number;
+        let (name, alias, kind) = match way {
+            Way::Libiscsi => ("iqn.2007-10.com.github:sahlberg:libiscsi:iscsi-inq", "", ""),
+            Way::OpenIscsi => ("iqn.2026-11.bench:", ALIAS, NORMAL),
+            _ => ("iqn.2024-01.com.example:guest-", ALIAS, NORMAL),
+        };
         Ok(format!(in self.alloc;
-            "InitiatorName=iqn.2024-01.com.example:guest-{number:02}\0InitiatorAlias=(none)\0TargetName={target}\0SessionType=Normal\0"
+            "InitiatorName={name}{number:02}\0{alias}TargetName={target}\0{kind}"
         )?)
     }
 
-    /// Adds the login of a guest.
-    fn add_guest(&mut self, target: &str, more: usize) -> Result<(), Fault> {
-        let names = self.guest(target)?;
-        self.add(
-            TO_FULL_FEATURE,
-            &[
-                names.as_str(),
-                OPEN_ISCSI_FRONT,
-                OPEN_ISCSI_BURSTS,
-                OPEN_ISCSI_END,
-            ],
-        )?;
+    /// Adds the Login Requests of a way, the last with further keys.
+    fn add_login(&mut self, way: Way, target: &str, more: usize) -> Result<(), Fault> {
+        let names = self.names(way, target)?;
+        self.add_texts(way, names.as_str())?;
         self.add_further_keys(more)
     }
 
-    /// Adds the login of a guest through security and operational negotiation.
-    fn add_both_stages(&mut self, target: &str) -> Result<(), Fault> {
-        let names = self.guest(target)?;
-        self.add(TO_OPERATIONAL, &[names.as_str(), "AuthMethod=CHAP,None\0"])?;
-        self.add(
-            TO_FULL_FEATURE,
-            &[OPEN_ISCSI_FRONT, OPEN_ISCSI_BURSTS, OPEN_ISCSI_END],
-        )
-    }
-
-    /// Adds the login of a guest in two texts of one stage, with bursts of 64 KiB.
-    fn add_two_texts(&mut self, target: &str) -> Result<(), Fault> {
-        let names = self.guest(target)?;
-        self.add(STAYS, &[names.as_str(), OPEN_ISCSI_FRONT])?;
-        self.add(TO_FULL_FEATURE, &[SHORT_BURSTS, OPEN_ISCSI_END])
+    /// Adds the Login Requests of a way, the first of which begins with the names.
+    fn add_texts(&mut self, way: Way, names: &str) -> Result<(), Fault> {
+        match way {
+            Way::Libiscsi => self.add(TO_FULL_FEATURE, &[names, LIBISCSI_KEYS]),
+            Way::OpenIscsi | Way::Guest => {
+                let keys = [names, OPEN_ISCSI_FRONT, OPEN_ISCSI_BURSTS, OPEN_ISCSI_END];
+                self.add(TO_FULL_FEATURE, &keys)
+            }
+            Way::BothStages => {
+                self.add(TO_OPERATIONAL, &[names, "AuthMethod=CHAP,None\0"])?;
+                let keys = [OPEN_ISCSI_FRONT, OPEN_ISCSI_BURSTS, OPEN_ISCSI_END];
+                self.add(TO_FULL_FEATURE, &keys)
+            }
+            Way::TwoTexts => {
+                self.add(STAYS, &[names, OPEN_ISCSI_FRONT])?;
+                self.add(TO_FULL_FEATURE, &[SHORT_BURSTS, OPEN_ISCSI_END])
+            }
+            Way::EightTexts => self.add_eight_texts(names),
+        }
     }
 
     /// Adds the login of a guest in eight texts of one stage, with bursts of 64 KiB.
-    fn add_eight_texts(&mut self, target: &str) -> Result<(), Fault> {
-        let names = self.guest(target)?;
-        self.add(STAYS, &[names.as_str()])?;
-        for text in SEVEN_TEXTS {
-            self.add(STAYS, &[text])?;
-        }
-        if let Some(last) = self.parts.last_mut() {
-            last.stages = TO_FULL_FEATURE;
+    fn add_eight_texts(&mut self, names: &str) -> Result<(), Fault> {
+        self.add(STAYS, &[names])?;
+        for (stages, text) in SEVEN_TEXTS {
+            self.add(stages, &[text])?;
         }
         Ok(())
     }
 
     /// Opens a connection and logs in, each text after the answer to the one before.
-    pub fn log_in(&mut self, target: &mut Targets, wire: &mut Wire) -> Result<(), Fault> {
-        open(target, self.host.c)?;
+    pub fn log_in(&mut self, line: &mut Line) -> Result<(), Fault> {
+        open(&mut line.target, self.host.c)?;
         for part in self.parts.iter() {
             let header = part.header(self.isid, self.host.cmd_sn());
-            wire.begin(0);
-            wire.lay_text(&header, part.text.as_slice());
+            line.wire.begin(0);
+            line.wire.lay_text(&header, part.text.as_slice());
             self.host.expect();
-            exchange(target, &mut self.host, wire, SEGMENT, CUT)?;
+            line.exchange(&mut self.host)?;
         }
         Ok(())
     }
 
     /// Sends a Text Request of 17 to 40 keys.
-    pub fn ask(&mut self, target: &mut Targets, wire: &mut Wire) -> Result<(), Fault> {
+    pub fn ask(&mut self, line: &mut Line) -> Result<(), Fault> {
         let (tag, cmd_sn) = (self.host.next_tag(), self.host.next_cmd_sn());
         let asked = self.question.as_slice();
-        wire.begin(0);
-        wire.lay_text(&text(0x80, tag, 0xffff_ffff, cmd_sn, asked.len()), asked);
+        line.wire.begin(0);
+        line.wire
+            .lay_text(&text(0x80, tag, 0xffff_ffff, cmd_sn, asked.len()), asked);
         self.host.expect();
-        exchange(target, &mut self.host, wire, SEGMENT, CUT)
+        line.exchange(&mut self.host)
+    }
+}
+
+/// Returns the ISID of an initiator: that of libiscsi has three random bytes.
+fn isid(way: Way, random: &mut Random) -> [u8; 6] {
+    match way {
+        Way::Libiscsi => {
+            let bytes = random.number().to_be_bytes();
+            [0x80, bytes[0], bytes[1], bytes[2], 0, 0]
+        }
+        _ => OPEN_ISCSI_ISID,
     }
 }
 

@@ -28,6 +28,7 @@ mod exchange;
 mod fault;
 mod host;
 mod hosts;
+mod line;
 mod logins;
 mod outcome;
 mod peer;
@@ -58,20 +59,20 @@ const JOBS: [&str; 7] = [
 fn run_job(rt: &HostRuntime, job: &str, seed: u64, rounds: usize) -> Result<(), Fault> {
     let alloc = rt.alloc();
     let outcome = match job {
-        "machines" => machines(alloc, seed, rounds)?,
-        "copies" => copies(alloc, seed, rounds)?,
-        "crowds" => crowds(alloc, seed, rounds)?,
-        "clusters" => clusters(alloc, seed, rounds)?,
-        "tapes" => tapes(alloc, seed, rounds)?,
-        "awkward" => awkward(alloc, seed, rounds)?,
-        "hosts" => hosts(alloc, seed, rounds)?,
-        _ => return Err(Fault::Usage),
+        "machines" => machines(alloc, seed, rounds),
+        "copies" => copies(alloc, seed, rounds),
+        "crowds" => crowds(alloc, seed, rounds),
+        "clusters" => clusters(alloc, seed, rounds),
+        "tapes" => tapes(alloc, seed, rounds),
+        "awkward" => awkward(alloc, seed, rounds),
+        "hosts" => hosts(alloc, seed, rounds),
+        _ => Err(Fault::Usage),
     };
     let Outcome {
         digest,
         answers,
         good,
-    } = outcome;
+    } = outcome?;
     println!(rt; "{job} {digest:016x}, {answers} answers, {good} GOOD")?;
     Ok(())
 }

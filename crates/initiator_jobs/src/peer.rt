@@ -4,7 +4,7 @@ use crate::answers::Answers;
 use crate::fault::Fault;
 use crate::host::Host;
 use crate::random::Random;
-use crate::requests::{Command, NO_DATA, READS, WRITES, cdb_10};
+use crate::requests::{Command, READY, transfer};
 use crate::wire::{HEADER_LENGTH, Wire};
 
 /// While a header is still to be sent, an answer shorter than this is put off, as the ports over sockets do.
@@ -128,13 +128,8 @@ impl Peer {
     /// Lays the commands of a round next. The first of a session is TEST UNIT READY, which reports the power on.
     fn begin_round(&mut self) {
         if self.host.answers.ended == 1 {
-            let command = Command {
-                flags: NO_DATA,
-                lun: 0,
-                expected: 0,
-                cdb: [0; 16],
-            };
-            self.host.lay(&mut self.wire, &command, 0);
+            let ready = Command::reading(READY, 0);
+            self.host.lay(&mut self.wire, &ready, 0);
             return;
         }
         match self.work {
@@ -143,11 +138,11 @@ impl Peer {
                 self.lay_short(depth);
             }
             Work::Mixed => match self.random.below(8) {
-                0 => self.lay_long(WRITES, 512),
-                1 => self.lay_long(READS, 2_048),
+                0 => self.lay_long(true, 512),
+                1 => self.lay_long(false, 2_048),
                 2 => {
-                    self.lay_long(READS, 512);
-                    self.lay_long(READS, 512);
+                    self.lay_long(false, 512);
+                    self.lay_long(false, 512);
                 }
                 _ => self.lay_short(8),
             },
@@ -162,46 +157,24 @@ impl Peer {
             } else {
                 8
             };
-            let length = 512 * blocks.min(128);
             let writes = self.random.below(10) < 3;
-            let data = if writes { length } else { 0 };
+            let data = if writes { 512 * blocks.min(128) } else { 0 };
             if !self.wire.has_room(data) {
                 break;
             }
             let at = self.random.below(self.blocks / 8) / 2 * 16;
-            let command = Command {
-                flags: if writes { WRITES } else { READS },
-                lun: 0,
-                expected: length,
-                cdb: cdb_10(
-                    if writes { 0x2a } else { 0x28 },
-                    0,
-                    at.min(self.blocks.saturating_sub(128)),
-                    blocks,
-                ),
-            };
+            let command = transfer(writes, at.min(self.blocks.saturating_sub(128)), blocks);
             self.host.lay(&mut self.wire, &command, data);
         }
     }
 
     /// Lays a long READ or WRITE next, if there is room.
-    fn lay_long(&mut self, flags: u8, blocks: usize) {
-        let length = 512 * blocks.min(2_048);
-        let data = if flags == WRITES {
-            length.min(65_536)
-        } else {
-            0
-        };
-        if !self.wire.has_room(length) {
+    fn lay_long(&mut self, writes: bool, blocks: usize) {
+        if !self.wire.has_room(512 * blocks.min(2_048)) {
             return;
         }
         let at = self.random.below(self.blocks.saturating_sub(blocks));
-        let command = Command {
-            flags,
-            lun: 0,
-            expected: length,
-            cdb: cdb_10(if flags == WRITES { 0x2a } else { 0x28 }, 0, at, blocks),
-        };
-        self.host.lay(&mut self.wire, &command, data);
+        let command = transfer(writes, at, blocks);
+        self.host.lay(&mut self.wire, &command, command.immediate());
     }
 }

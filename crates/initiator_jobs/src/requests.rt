@@ -10,21 +10,55 @@ pub type Header = [u8; 48];
 /// A command descriptor block.
 pub type Cdb = [u8; 16];
 
+/// TEST UNIT READY.
+pub const READY: Cdb = [0; 16];
+
 /// The flags F, W and R of a SCSI Command, whose task attribute is SIMPLE.
-pub const NO_DATA: u8 = 0x81;
+const NO_DATA: u8 = 0x81;
 
-pub const WRITES: u8 = 0xa1;
+const WRITES: u8 = 0xa1;
 
-pub const READS: u8 = 0xc1;
+const READS: u8 = 0xc1;
+
+/// The most data that comes with its command.
+const IMMEDIATE: usize = 65_536;
 
 /// A SCSI Command.
 #[derive(Clone, Copy)]
 pub struct Command {
-    pub flags: u8,
-    pub lun: u8,
+    flags: u8,
     /// The Expected Data Transfer Length.
-    pub expected: usize,
-    pub cdb: Cdb,
+    expected: usize,
+    cdb: Cdb,
+}
+
+impl Command {
+    /// Returns a command to LUN 0 that takes `expected` bytes from the target.
+    pub fn reading(cdb: Cdb, expected: usize) -> Command {
+        Command {
+            flags: if expected == 0 { NO_DATA } else { READS },
+            expected,
+            cdb,
+        }
+    }
+
+    /// Returns a command to LUN 0 that gives `expected` bytes to the target.
+    pub fn writing(cdb: Cdb, expected: usize) -> Command {
+        Command {
+            flags: WRITES,
+            expected,
+            cdb,
+        }
+    }
+
+    /// Returns the length of the data that comes with the command.
+    pub fn immediate(&self) -> usize {
+        if self.flags == WRITES {
+            self.expected.min(IMMEDIATE)
+        } else {
+            0
+        }
+    }
 }
 
 /// Puts a number into four bytes of a header.
@@ -49,7 +83,6 @@ fn begun(opcode: u8, flags: u8, tag: u32, data: usize) -> Header {
 /// Returns a SCSI Command with `data` bytes of immediate data.
 pub fn scsi_command(command: &Command, tag: u32, cmd_sn: u32, data: usize) -> Header {
     let mut header = begun(0x01, command.flags, tag, data);
-    header[9] = command.lun;
     put(&mut header, 20, (command.expected & 0xffff_ffff) as u32);
     put(&mut header, 24, cmd_sn);
     header[32..48].copy_from_slice(&command.cdb);
@@ -148,4 +181,14 @@ pub fn cdb_locate(at: usize) -> Cdb {
     cdb[0] = 0x2b;
     BigEndian::write_u32(&mut cdb[3..7], (at & 0xffff_ffff) as u32);
     cdb
+}
+
+/// Returns a READ (10) or a WRITE (10) of at most 2,048 blocks.
+pub fn transfer(writes: bool, at: usize, blocks: usize) -> Command {
+    let length = 512 * blocks.min(2_048);
+    if writes {
+        Command::writing(cdb_10(0x2a, 0, at, blocks), length)
+    } else {
+        Command::reading(cdb_10(0x28, 0, at, blocks), length)
+    }
 }
