@@ -4,6 +4,7 @@ import random
 import signal
 import threading
 from concurrent.futures import ThreadPoolExecutor
+from pathlib import Path
 
 from serving_checks.ahead import commands
 from serving_checks.loopback import (CONNECTIONS, READY_AGAIN, answer_of, connect, disk_file, held_clients,
@@ -13,6 +14,8 @@ from wire import notation, pdu
 LENGTH = 1 << 20  # bytes of the disk
 BLOCKS = 512  # of a READ: 256 KiB, which goes in one PDU
 SHORT = 128  # blocks of a READ of 64 KiB
+WHOLE = LENGTH // 512  # blocks of a READ of the disk, 1 MiB
+AT_ONCE = 24 << 20  # bytes that the answers in flight may take: far fewer than 64 MiB, and more than eight of them
 QUEUED = 30  # commands that a session may have unanswered, and some less
 TURNS = 200  # more than the logins take, and fewer than all READs of eight
 TURNS_OF_ALL = 700  # the same of 24 that read much and 16 that ask for little
@@ -158,6 +161,26 @@ def answers_64_that_read_much_and_little_by_turns():
                 assert answer_of(client) == (content[512 * at:512 * (at + blocks)], 0, b""), (number, at, blocks)
 
 
+def peak_of(process):
+    """The most memory that a process has had, in bytes."""
+    lines = Path(f"/proc/{process.pid}/status").read_text(encoding="utf-8").splitlines()
+    return 1024 * next(int(line.split()[1]) for line in lines if line.startswith("VmHWM:"))
+
+
+def makes_few_answers_at_once_for_64_that_were_idle():
+    content = random.Random(20).randbytes(LENGTH)
+    with disk_file(content) as (_, units), serving(units=units) as (process, address):
+        clients = [logged_in(address, number) for number in range(CONNECTIONS)]
+        before = peak_of(process)
+        process.send_signal(signal.SIGSTOP)
+        for client in clients:
+            client.sendall(reads(1, WHOLE))
+        process.send_signal(signal.SIGCONT)
+        with ThreadPoolExecutor(CONNECTIONS) as pool:
+            assert list(pool.map(answer_of, clients)) == [(content, 0, b"")] * CONNECTIONS
+        assert peak_of(process) - before < AT_ONCE, peak_of(process) - before
+
+
 def writes_much_among_those_that_read_much():
     chance = random.Random(12)
     front = chance.randbytes(512 * BLOCKS)
@@ -221,6 +244,7 @@ CHECKS = [
     gives_each_of_8_that_read_much_its_turn,
     lets_nobody_wait_for_more_than_64_turns,
     answers_64_that_read_much_and_little_by_turns,
+    makes_few_answers_at_once_for_64_that_were_idle,
     writes_much_among_those_that_read_much,
     writes_for_4_at_once_among_those_that_read_much,
     logs_in_one_after_the_other_beside_those_that_read_much,

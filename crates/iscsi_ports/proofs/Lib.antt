@@ -1,5 +1,7 @@
 pub mod Numbers
 mod TakingTurns
+mod NamingShort
+mod Fairness
 mod Seeing
 mod Accounts
 mod Buffers

@@ -43,5 +43,5 @@ pub(crate) fn name_ready(readiness: &mut Readiness, events: &Events)
     ensures { IsNamed (items events.now) readiness.old readiness.new }
 {
     see_all(readiness, events);
-    readiness.name();
+    readiness.name(true);
 }

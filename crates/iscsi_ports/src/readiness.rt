@@ -4,8 +4,8 @@
 //! it would wait or gave less than it had room for. A read ends at the mark of urgent data, whatever follows
 //! it (tcp(7)), so one to which such data came stays readable until a read would wait. Where its peer has ended,
 //! or it failed, no further event tells of it, and it stays readable until a read says so. One whose write would
-//! have waited takes nothing until an event says that it can. Of those that are ready a poll names all but the long
-//! ones whose turn it is not ([`Turns`]).
+//! have waited takes nothing until an event says that it can. Of those that are ready a poll names all but the ones
+//! whose turn it is not ([`Turns`]).
 
 ghost use Rattle.std.specs.Prelude.{◌≡◌, ◌<◌};
 ghost use Rattle.iscsi_ports.specs.Readiness.{nothing_ready, may_give, may_take, still_readable, with_event, after_taking, ready_again, filled, forgotten};
@@ -149,12 +149,12 @@ impl Readiness {
         self.ready.connections[c] = self.readable[c] || is_ahead;
     }
 
-    /// Names those that are ready, but for the long connections whose turn it is not.
-    pub(crate) fn name(&mut self)
-        ensures { Names self.old self.new }
+    /// Names those that are ready, but for the connections whose turn it is not, in a poll that asked the system or not.
+    pub(crate) fn name(&mut self, asked: bool)
+        ensures { Names asked self.old self.new }
     {
         self.named.listener = self.ready.listener;
-        self.named.connections = self.turns.take(&self.ready.connections);
+        self.named.connections = self.turns.take(&self.ready.connections, asked);
     }
 
     /// Returns whether the last poll left out a connection that is ready: the next is not to wait.

@@ -243,7 +243,7 @@ impl<K: SocketCalls + Drop> Ports for SocketPorts<K> {
             → K.calls self.new.sockets ≡ Naming self.new.readiness.named ∷ K.calls self.old.sockets }
         ensures after_naming { asks_now self.new.stopwatch.has_passed self.old ≡ false
             → self.new ≡ after_naming self.new.sockets self.new.readiness self.new.stopwatch self.old }
-        ensures known { asks_now self.new.stopwatch.has_passed self.old ≡ false → Names (rested self.old) self.new.readiness }
+        ensures known { asks_now self.new.stopwatch.has_passed self.old ≡ false → Names false (rested self.old) self.new.readiness }
         ensures turn { asks_now self.new.stopwatch.has_passed self.old ≡ true
             → OnOk result (IsNamed (K.events self.new.sockets) (rested self.old) self.new.readiness) }
         ensures unseen { OnErr result (self.new.readiness ≡ rested self.old) }
@@ -263,7 +263,7 @@ impl<K: SocketCalls + Drop> Ports for SocketPorts<K> {
         self.has_read = [false; CONNECTIONS];
         if !asks {
             self.unasked += 1;
-            self.readiness.name();
+            self.readiness.name(false);
             self.sockets.note_named(&self.readiness.named);
             return Ok(self.readiness.named);
         }

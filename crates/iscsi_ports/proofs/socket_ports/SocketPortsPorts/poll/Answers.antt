@@ -1,17 +1,17 @@
-use Rattle.std.proofs.Common.{◌≡◌, ap, ◌∙◌}
+use Rattle.std.proofs.Common.{◌≡◌, true, false, ap, ◌∙◌}
 use Rattle.iscsi_ports.specs.Asking.{rested}
 use Rattle.iscsi_ports.specs.declared.readiness.Readiness.{Readiness}
 use Rattle.iscsi_ports.proofs.Seeing.{seen_turns}
-use Rattle.iscsi_ports.proofs.TakingTurns.{fair}
+use Rattle.iscsi_ports.proofs.Fairness.{fair}
 use Rattle.iscsi_ports.proofs.socket_ports.SocketPortsPorts.poll.Goals as goal
 
 pub returns-then-not-asks-clause-fair : goal.returns-then-not-asks-clause-fair
 returns-then-not-asks-clause-fair g c =
     let same : c.note_carried.new.self ≡ rested c.args.self.now = rw c.is_to_ask-asks.ensures.same at c.note_carried.ensures in
-    fair (rested c.args.self.now) c.note_carried.new.self c.name.new.self (ap (λ (r : Readiness). r.turns) same) c.name.ensures
+    fair false (rested c.args.self.now) c.note_carried.new.self c.name.new.self (ap (λ (r : Readiness). r.turns) same) c.name.ensures
 
 pub returns-in-Ok-clause-fair : goal.returns-in-Ok-clause-fair
 returns-in-Ok-clause-fair g c =
     let same : c.note_carried.new.self ≡ rested c.args.self.now = rw c.is_to_ask-asks.ensures.same at c.note_carried.ensures in
     let seen = seen_turns (g.K.SocketCalls.events c.poll-answer.new.self) c.note_carried.new.self in
-    fair (rested c.args.self.now) _ c.poll-answer.new.readiness (seen ∙ ap (λ (r : Readiness). r.turns) same) c.in-Ok.ensures.turn
+    fair true (rested c.args.self.now) _ c.poll-answer.new.readiness (seen ∙ ap (λ (r : Readiness). r.turns) same) c.in-Ok.ensures.turn
