@@ -1,9 +1,10 @@
 //! The answers of the target, and how they are written.
 
-ghost use Rattle.std.specs.Prelude.{◌≡◌, ◌+◌, ◌<◌, ◌≤◌, ◌++◌, length, IfErr, OnOk, OnErr};
+ghost use Rattle.std.specs.Prelude.{◌≡◌, ◌+◌, ◌<◌, ◌≤◌, ◌++◌, length, take, IfErr, OnOk, OnErr};
 
 use crate::data_in::DataIn;
 use crate::fault::PduFault;
+use crate::header::HEADER_LENGTH;
 use crate::login_response::LoginResponse;
 use crate::logout_response::LogoutResponse;
 use crate::nop_in::NopIn;
@@ -58,6 +59,24 @@ impl<'a> Answer<'a> {
             Answer::LogoutResponse(response) => response.length(),
             Answer::R2t(ask) => ask.length(),
             Answer::Reject(reject) => reject.length(),
+        }
+    }
+
+    /// Returns the header of the answer: the first 48 bytes of what [`write`](Answer::write) appends.
+    #[tactic(auto, using(std::proofs::lemmas::List::take_at))]
+    pub fn head(&self) -> [u8; HEADER_LENGTH]
+        ensures { result ≡ take header_length (spelling self.now) }
+    {
+        match self {
+            Answer::NopIn(answer) => answer.header(),
+            Answer::ScsiResponse(response) => response.header(),
+            Answer::TaskManagementResponse(response) => response.header(),
+            Answer::LoginResponse(response) => response.header(),
+            Answer::TextResponse(response) => response.header(),
+            Answer::DataIn(piece) => piece.header(),
+            Answer::LogoutResponse(response) => response.header(),
+            Answer::R2t(ask) => ask.header(),
+            Answer::Reject(reject) => reject.header(),
         }
     }
 
