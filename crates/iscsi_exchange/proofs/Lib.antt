@@ -1,3 +1,4 @@
 pub mod Asking
 pub mod GoingOn
 pub mod Short
+mod Cutting

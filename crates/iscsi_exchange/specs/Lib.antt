@@ -6,4 +6,5 @@ pub use Rattle.iscsi_login.specs.Directory
 pub mod SendTargets
 pub mod ExchangeState
 pub mod Exchange
+pub mod Laws
 pub mod Examples

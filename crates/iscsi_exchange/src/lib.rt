@@ -10,13 +10,14 @@
 //! Promised, and proved:
 //!
 //! - [`Exchange::hear`] returns what `hears` (`specs/Exchange.antt`) defines for the exchange so far.
-//! - A text in parts is joined, a long answer is cut to what the initiator takes, and each pair is answered as
-//!   `specs/SendTargets.antt` says.
+//! - A text in parts is joined, a long answer is cut to what the initiator takes ([`laws::answers_are_cut`]), and each
+//!   pair is answered as `specs/SendTargets.antt` says.
 //! - [`Exchange::go_on`] does the same in place, for a request that only continues the exchange
 //!   ([`Exchange::text_on`]).
 #![tactic(auto)]
 
 mod exchange;
+pub mod laws;
 mod send_targets;
 mod told;
 

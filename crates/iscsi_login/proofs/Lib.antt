@@ -9,3 +9,4 @@ pub mod FirstText
 pub mod Texts
 pub mod Declared
 pub mod Answered
+mod Cutting

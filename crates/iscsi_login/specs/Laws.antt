@@ -1,13 +1,15 @@
 -- Laws of every login, over the sequence of its requests.
-use Rattle.std.specs.Prelude.{◌≡◌, ℕ, ◌+◌, ◌*◌, List, [], ◌∷◌, ◌++◌, length, drop, flat_map, true, false, Option, Some, None, ⊤}
+use Rattle.std.specs.Prelude.{◌≡◌, ℕ, ◌+◌, ◌*◌, ◌≤◌, List, [], ◌∷◌, ◌++◌, length, take, drop, flat_map, true, false, Option, Some, None, ⊤}
 use Rattle.iscsi_pdu.specs.Frames.{Frame}
+use Rattle.iscsi_pdu.specs.LoginResponse.{login_text}
 use Rattle.iscsi_pdu.specs.declared.stage.Stage.{Stage}
 use Rattle.iscsi_pdu.specs.declared.login_response.LoginStep.{LoginStep}
 use Rattle.iscsi_pdu.specs.declared.login_response.LoginStep.TheVariants as steps
+use Rattle.iscsi_text.specs.Cut.{parts_cut}
 use Rattle.iscsi_login.specs.Directory.{KnownTargets}
 use Rattle.iscsi_login.specs.LoginState.{LoginState}
 use Rattle.iscsi_login.specs.Rules.{interrupts, reads_text}
-use Rattle.iscsi_login.specs.Login.{longest_piece, brought, step_of, advanced, remembered}
+use Rattle.iscsi_login.specs.Login.{longest_piece, brought, step_of, answered, accepted, advanced, remembered}
 
 -- the step in the answer to a request, by what is remembered of those before it
 abbrev pub step_told : KnownTargets → LoginState → Frame → LoginStep
@@ -50,3 +52,13 @@ DueIsTheRest = (directory : KnownTargets) (handle : ℕ) (before : List Frame) (
     → NoneIsWhole directory (advanced directory (remembered directory handle before) whole) later
     → (remembered directory handle (before ++ whole ∷ later)).due
     ≡ drop (longest_piece * (length later + 1)) (brought directory (remembered directory handle before) whole).due
+
+-- the texts of the next answers, one for each of these headers, as long as no other text is read
+abbrev pub texts_sent : LoginState → List (List ℕ) → List (List ℕ)
+texts_sent login [] = []
+texts_sent login (header ∷ headers) = login_text (accepted header login.due) ∷ texts_sent (answered login header) headers
+
+-- The texts of the answers are the pieces of the text that is due (own: cut at the multiples of 8192 bytes).
+abbrev pub TextsAreCut : Type 0
+TextsAreCut = (login : LoginState) (headers : List (List ℕ)) → length headers ≤ length (parts_cut longest_piece login.due)
+    → texts_sent login headers ≡ take (length headers) (parts_cut longest_piece login.due)

@@ -1,6 +1,6 @@
-//! Laws of every login. The function does nothing: its contracts are the laws.
+//! Laws of every login. The functions do nothing: their contracts are the laws.
 
-ghost use Rattle.iscsi_login.specs.Laws.{StageIsLastAgreed, KeptIsSinceWhole, DueIsTheRest};
+ghost use Rattle.iscsi_login.specs.Laws.{StageIsLastAgreed, KeptIsSinceWhole, DueIsTheRest, TextsAreCut};
 
 /// States three laws of what a login remembers of its requests:
 ///
@@ -11,4 +11,9 @@ pub fn login_is_its_last_requests()
     ensures stage { StageIsLastAgreed }
     ensures kept { KeptIsSinceWhole }
     ensures due { DueIsTheRest }
+{}
+
+/// States that the texts of the answers are the pieces into which [`iscsi_text::cut`] cuts the text that is due.
+pub fn answers_are_cut()
+    ensures { TextsAreCut }
 {}

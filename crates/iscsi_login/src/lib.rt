@@ -13,7 +13,7 @@
 //!
 //! - [`Login::take`] answers what `reply_of` (`specs/Login.antt`) says of all requests of the login so far. The first
 //!   rule that is broken refuses a request. Otherwise the answer has the results of its keys in order, in pieces if
-//!   they are long.
+//!   they are long ([`laws::answers_are_cut`]).
 //! - [`settle_key`] answers an offer by the table of keys in `specs/Keys.antt`, as a login does.
 //! - If an allocation fails, the login is unchanged.
 #![tactic(auto)]

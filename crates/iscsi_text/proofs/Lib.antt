@@ -5,3 +5,4 @@ pub mod PieceFaults
 pub mod Pieces
 pub mod Keys
 pub mod ReadAgain
+pub mod Cuts

@@ -8,9 +8,11 @@
 //!
 //! - [`pairs`] reads exactly the pairs of a text, or reports its first fault.
 //! - [`text`] writes exactly the text of pairs, and [`put_pair`] appends one pair to a text.
+//! - [`cut`] cuts a text at the multiples of a limit, piece after piece ([`laws::cut_is_piece_after_piece`]).
 //! - If [`text`] writes what [`pairs`] read, [`pairs`] reads it again as the same pairs ([`laws::is_read_again`]).
 #![tactic(auto)]
 
+mod cutting;
 mod fault;
 pub mod laws;
 mod list;
@@ -18,6 +20,7 @@ mod reading;
 mod string_list;
 mod writing;
 
+pub use cutting::cut;
 pub use fault::TextFault;
 pub use list::Pairs;
 pub use reading::pairs;

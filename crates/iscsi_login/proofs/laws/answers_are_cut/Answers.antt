@@ -1,0 +1,5 @@
+use Rattle.iscsi_login.proofs.Cutting.{texts_are_cut}
+use Rattle.iscsi_login.proofs.laws.answers_are_cut.Goals as goal
+
+pub returns : goal.returns
+returns c = texts_are_cut
