@@ -11,21 +11,21 @@ use Rattle.iscsi_pdu.proofs.Frames.{has_frame-true, has_frame-from, is_long-true
 
 -- ---- bytes after a header change none of its fields
 
-additional_length-append : (a b : List ℕ) → header_length ≤ length a → additional_length (a ++ b) ≡ additional_length a
+pub additional_length-append : (a b : List ℕ) → header_length ≤ length a → additional_length (a ++ b) ≡ additional_length a
 additional_length-append a b h = ap (λ (n : ℕ). 4 * n) (get_or_append_left a b 0 4 (omega arith))
 
-data_length-append : (a b : List ℕ) → header_length ≤ length a → data_length (a ++ b) ≡ data_length a
+pub data_length-append : (a b : List ℕ) → header_length ≤ length a → data_length (a ++ b) ≡ data_length a
 data_length-append a b h =
     rw (get_or_append_left a b 0 5 (omega arith), get_or_append_left a b 0 6 (omega arith), get_or_append_left a b 0 7 (omega arith)) refl
 
-frame_length-append : (a b : List ℕ) → header_length ≤ length a → frame_length (a ++ b) ≡ frame_length a
+pub frame_length-append : (a b : List ℕ) → header_length ≤ length a → frame_length (a ++ b) ≡ frame_length a
 unfolding frame_length
 frame_length-append a b h =
     let additional : additional_length (a ++ b) ≡ additional_length a = additional_length-append a b h in
     let body : data_length (a ++ b) ≡ data_length a = data_length-append a b h in
     omega arith
 
-has_frame-append : (a b : List ℕ) → has_frame a ≡ true → has_frame (a ++ b) ≡ true
+pub has_frame-append : (a b : List ℕ) → has_frame a ≡ true → has_frame (a ++ b) ≡ true
 has_frame-append a b there =
     let f = has_frame-true a there in
     let n = length-append a b in
@@ -38,7 +38,7 @@ body_within : (bytes : List ℕ) → header_length + additional_length bytes + d
 unfolding frame_length
 body_within bytes = omega arith
 
-first_frame-append : (a b : List ℕ) → has_frame a ≡ true → first_frame (a ++ b) ≡ first_frame a
+pub first_frame-append : (a b : List ℕ) → has_frame a ≡ true → first_frame (a ++ b) ≡ first_frame a
 unfolding first_frame
 first_frame-append a b there =
     let f = has_frame-true a there in
@@ -52,7 +52,7 @@ first_frame-append a b there =
     let length = data_length-append a b f.header in
     rw (header, additional, length, behind, body) refl
 
-behind-append : (a b : List ℕ) → has_frame a ≡ true → drop (frame_length (a ++ b)) (a ++ b) ≡ drop (frame_length a) a ++ b
+pub behind-append : (a b : List ℕ) → has_frame a ≡ true → drop (frame_length (a ++ b)) (a ++ b) ≡ drop (frame_length a) a ++ b
 behind-append a b there =
     let f = has_frame-true a there in
     rw (frame_length-append a b f.header) (drop-append-le (frame_length a) a b f.whole)
@@ -119,10 +119,10 @@ rest_in_pieces a b = (in_pieces (length a) a b (omega arith)).rest_same
 
 -- ---- what lies in front of the rest is the spelling of the frames
 
-additional_length-take : (bytes : List ℕ) → additional_length (take header_length bytes) ≡ additional_length bytes
+pub additional_length-take : (bytes : List ℕ) → additional_length (take header_length bytes) ≡ additional_length bytes
 additional_length-take bytes = ap (λ (n : ℕ). 4 * n) (get_or-take header_length bytes 4 0 (omega arith))
 
-data_length-take : (bytes : List ℕ) → data_length (take header_length bytes) ≡ data_length bytes
+pub data_length-take : (bytes : List ℕ) → data_length (take header_length bytes) ≡ data_length bytes
 data_length-take bytes =
     rw (
       get_or-take header_length bytes 5 0 (omega arith),

@@ -3,3 +3,9 @@ pub mod Frames
 pub mod LoginHeader
 pub mod R2tHeader
 pub mod Cuts
+pub mod Zeros
+pub mod DataOuts
+pub mod Taking
+pub mod Gathering
+pub mod Fronts
+pub mod Joined

@@ -1,6 +1,7 @@
 -- Laws of the frames of bytes, for any bytes.
 use Rattle.std.specs.Prelude.{◌≡◌, ℕ, ◌<◌, List, [], ◌∷◌, ◌++◌, length, drop, true, false}
 use Rattle.iscsi_pdu.specs.Frames.{Frame, is_long, has_frame, frame_length, first_frame, frames, rest, AreSpelled}
+use Rattle.iscsi_pdu.specs.Parts.{Call, AreCalls, bytes_used, bytes_left, joined, parts_given, shown}
 
 -- the bytes are the spellings of these frames, and then less than a whole frame
 pub record IsCut (bytes : List ℕ) (cut : List Frame) (remaining : List ℕ) : Type 0 where
@@ -56,3 +57,13 @@ OnlyFrames = (bytes : List ℕ) (cut : List Frame) (remaining : List ℕ) → Is
 -- each cut has this rest
 abbrev pub OnlyRest : Type 0
 OnlyRest = (bytes : List ℕ) (cut : List Frame) (remaining : List ℕ) → IsCut bytes cut remaining → remaining ≡ rest bytes
+
+-- the parts given, put together, are the frames of the bytes used, if no PDU is whole whose end is still to be given
+abbrev pub PartsAreFrames : Type 0
+PartsAreFrames = (calls : List Call) → AreCalls [] calls → has_frame (bytes_left [] calls) ≡ false
+    → joined [] (parts_given calls) ≡ frames (bytes_used calls)
+
+-- the bytes left are then the rest of the bytes used, with zeros in place of what was lent
+abbrev pub LeftIsTheRest : Type 0
+LeftIsTheRest = (calls : List Call) → AreCalls [] calls → has_frame (bytes_left [] calls) ≡ false
+    → bytes_left [] calls ≡ shown (rest (bytes_used calls))

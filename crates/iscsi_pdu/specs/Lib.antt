@@ -9,6 +9,7 @@ pub mod LogoutRequest
 pub mod Segment
 pub mod Frames
 pub mod Framer
+pub mod Parts
 pub mod Laws
 pub mod Stamp
 pub mod NopIn
@@ -24,4 +25,5 @@ pub mod Reject
 pub mod Answer
 pub mod ExamplesHeader
 pub mod ExamplesFrames
+pub mod ExamplesParts
 pub mod ExamplesAnswer

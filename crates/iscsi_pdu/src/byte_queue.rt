@@ -1,6 +1,6 @@
 //! Bytes that are appended at the end and taken from the front.
 
-ghost use Rattle.std.specs.Prelude.{◌≡◌, ◌+◌, ◌^◌, ◌<◌, ◌≤◌, [], ◌++◌, length, take, drop, IfOk, IfErr, OnOk, OnErr};
+ghost use Rattle.std.specs.Prelude.{◌≡◌, ◌+◌, ◌-◌, ◌^◌, ◌<◌, ◌≤◌, [], ◌++◌, length, take, drop, replicate, IfOk, IfErr, OnOk, OnErr};
 
 use crate::fault::PduFault;
 use data_parts::SpareBuffers;
@@ -8,27 +8,30 @@ use std::alloc::Global;
 use std::marker::Model;
 use std::mem;
 
-/// A queue of bytes. If all are taken at once, their buffer is moved and no byte is copied.
+/// A queue of bytes. If all are taken at once, their buffer is moved and no byte is copied. Zeros at its end may be
+/// counted in place of being kept.
 #[derive(Drop)]
 pub(crate) struct ByteQueue {
     bytes: Vec<u8>,
     /// The number of bytes at the front that were taken.
     taken: usize,
+    /// The number of zeros after the bytes.
+    zeros: usize,
     alloc: Global,
 }
 
 impl Model for ByteQueue {
-    ghost use Rattle.std.specs.Prelude.{◌≤◌, ℕ, List, length, drop};
+    ghost use Rattle.std.specs.Prelude.{◌≤◌, ◌<◌, ◌^◌, ◌++◌, ℕ, List, length, drop, replicate};
 
     ghost Value = { List ℕ };
 
-    ghost view = { λ q. drop q.taken q.bytes.items };
+    ghost view = { λ q. drop q.taken q.bytes.items ++ replicate q.zeros 0 };
 
-    ghost invariant = { λ q. q.taken ≤ length q.bytes.items };
+    ghost invariant = { λ q. (q.taken ≤ length q.bytes.items) × (q.zeros < 2 ^ 32) };
 }
 
 /// Moves all bytes after the first `count` to the front.
-fn cut_front(bytes: &mut Vec<u8>, count: usize)
+pub(crate) fn cut_front(bytes: &mut Vec<u8>, count: usize)
     requires { count ≤ length bytes.old.items }
     ensures { bytes.new.items ≡ drop count bytes.old.items }
 {
@@ -40,6 +43,18 @@ fn cut_front(bytes: &mut Vec<u8>, count: usize)
     bytes.truncate(end - count);
 }
 
+/// Appends `count` zeros.
+fn put_zeros(bytes: &mut Vec<u8>, count: usize) -> Result<(), PduFault>
+    requires { count < 2 ^ 32 }
+    ensures ok { OnOk result (bytes.new.items ≡ bytes.old.items ++ replicate count 0) }
+    ensures memory { IfErr result (λ fault. fault ≡ PduFault.Memory) }
+    ensures err { OnErr result (bytes.new.items ≡ bytes.old.items) }
+{
+    let length = bytes.len() + count;
+    bytes.resize(length, 0)?;
+    Ok(())
+}
+
 impl ByteQueue {
     /// Returns an empty queue. Allocates nothing.
     pub(crate) fn new(alloc: Global) -> ByteQueue
@@ -48,6 +63,7 @@ impl ByteQueue {
         ByteQueue {
             bytes: Vec::new(alloc),
             taken: 0,
+            zeros: 0,
             alloc,
         }
     }
@@ -60,14 +76,16 @@ impl ByteQueue {
     /// Returns the number of bytes.
     pub(crate) fn len(&self) -> usize
         ensures value { result ≡ length self.now }
-        ensures bound { result < 2 ^ 63 }
+        ensures bound { result < 2 ^ 63 + 2 ^ 32 }
     {
-        self.bytes.len() - self.taken
+        self.bytes.len() - self.taken + self.zeros
     }
 
-    /// Returns the bytes.
-    pub(crate) fn as_slice(&self) -> &[u8]
-        ensures { result.now ≡ self.now }
+    /// Returns the bytes that are kept. All after them are zeros.
+    pub(crate) fn kept(&self) -> &[u8]
+        ensures zeros { self.now ≡ result.now ++ replicate (length self.now - length result.now) 0 }
+        ensures within { length result.now ≤ length self.now }
+        ensures few { length self.now - length result.now < 2 ^ 32 }
     {
         &self.bytes.as_slice()[self.taken..]
     }
@@ -86,6 +104,8 @@ impl ByteQueue {
     {
         cut_front(&mut self.bytes, self.taken);
         self.taken = 0;
+        put_zeros(&mut self.bytes, self.zeros)?;
+        self.zeros = 0;
         let room = room.max(piece.len());
         if self.bytes.is_empty() && self.bytes.capacity() < room {
             self.bytes = spares.take(room)?;
@@ -95,13 +115,32 @@ impl ByteQueue {
         Ok(())
     }
 
+    /// Appends the last piece and takes all bytes, in their buffer.
+    pub(crate) fn complete(&mut self, piece: &[u8]) -> Result<Vec<u8>, PduFault>
+        ensures bytes { IfOk result (λ bytes. bytes.items ≡ self.old ++ piece.now) }
+        ensures none { OnOk result (self.new ≡ []) }
+        ensures memory { IfErr result (λ fault. fault ≡ PduFault.Memory) }
+        ensures err { OnErr result (self.new ≡ self.old) }
+    {
+        cut_front(&mut self.bytes, self.taken);
+        self.taken = 0;
+        put_zeros(&mut self.bytes, self.zeros)?;
+        self.zeros = 0;
+        self.bytes.extend_from_slice(piece)?;
+        Ok(mem::replace(&mut self.bytes, Vec::new(self.alloc)))
+    }
+
     /// Returns a copy of `count` bytes, starting at `from`.
     pub(crate) fn copied(&self, from: usize, count: usize) -> Result<Vec<u8>, PduFault>
         requires { from + count ≤ length self.now }
         ensures value { IfOk result (λ bytes. bytes.items ≡ take count (drop from self.now)) }
         ensures memory { IfErr result (λ fault. fault ≡ PduFault.Memory) }
     {
-        let bytes = Vec::from_slice(self.alloc, &self.as_slice()[from..][..count])?;
+        let kept = self.kept();
+        let start = from.min(kept.len());
+        let some = count.min(kept.len() - start);
+        let mut bytes = Vec::from_slice(self.alloc, &kept[start..][..some])?;
+        put_zeros(&mut bytes, count - some)?;
         Ok(bytes)
     }
 
@@ -110,20 +149,32 @@ impl ByteQueue {
         requires { n ≤ length self.old }
         ensures { self.new ≡ drop n self.old }
     {
-        self.taken += n;
-        if self.taken == self.bytes.len() {
-            self.bytes = Vec::new(self.alloc);
-            self.taken = 0;
+        let kept = self.bytes.len() - self.taken;
+        if n < kept {
+            self.taken += n;
+            return;
         }
+        self.bytes = Vec::new(self.alloc);
+        self.taken = 0;
+        self.zeros -= n - kept;
     }
 
-    /// Takes all bytes, in their buffer.
-    pub(crate) fn take_all(&mut self) -> Vec<u8>
-        ensures bytes { result.items ≡ self.old }
-        ensures none { self.new ≡ [] }
+    /// Replaces all bytes by zeros, which are only counted, and appends `n` zeros.
+    pub(crate) fn forget(&mut self, n: usize)
+        requires { length self.old + n < 2 ^ 32 }
+        ensures { self.new ≡ replicate (length self.old + n) 0 }
     {
-        cut_front(&mut self.bytes, self.taken);
+        self.zeros = self.len() + n;
+        self.bytes = Vec::new(self.alloc);
         self.taken = 0;
-        mem::replace(&mut self.bytes, Vec::new(self.alloc))
+    }
+
+    /// Removes all bytes.
+    pub(crate) fn clear(&mut self)
+        ensures { self.new ≡ [] }
+    {
+        self.bytes = Vec::new(self.alloc);
+        self.taken = 0;
+        self.zeros = 0;
     }
 }

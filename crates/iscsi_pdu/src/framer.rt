@@ -1,12 +1,14 @@
 //! Cutting the bytes of a connection into frames.
 
 ghost use Rattle.std.specs.Prelude.{◌≡◌, ◌+◌, ◌<◌, ◌≤◌, ◌↔◌, ℕ, List, [], ◌∷◌, ◌++◌, length, take, drop, true, false, IsOk, IfOk, IfErr, IfSome, IfNone, OnOk, OnErr};
+ghost use Rattle.iscsi_pdu.specs.Parts.{is_data_out, HoldsOne, Takes};
 ghost use Rattle.std.specs.Result.{IsErrOf};
 
-use crate::byte_queue::ByteQueue;
+use crate::byte_queue::{ByteQueue, cut_front};
 use crate::fault::PduFault;
 use crate::frame::Frame;
 use crate::header::{HEADER_LENGTH, Header};
+use crate::part::Part;
 use crate::segment::{MOST_DATA, padded};
 use arrayvec::ArrayVec;
 use data_parts::SpareBuffers;
@@ -16,7 +18,8 @@ use std::marker::Model;
 /// Cuts the bytes of one connection into frames, whatever the pieces in which they come. Clauses see it as the bytes
 /// that were fed and not yet returned.
 ///
-/// If no byte has come after a frame, its data segment is returned in the buffer in which it came.
+/// If no byte has come after a frame, its data segment is returned in the buffer in which it came. If the bytes are
+/// given to [`take`](Framer::take), the data of a Data-Out is lent from them as it comes, and only counted here.
 #[derive(Drop)]
 pub struct Framer {
     /// The part of the first header that has come.
@@ -46,7 +49,7 @@ fn put(header: &mut ArrayVec<u8, HEADER_LENGTH>, bytes: &[u8])
 }
 
 impl Framer {
-    ghost use Rattle.iscsi_pdu.specs.Header.{header_length};
+    ghost use Rattle.iscsi_pdu.specs.Header.{header_length, data_length};
     ghost use Rattle.iscsi_pdu.specs.Segment.{most_data, padded as padded_to};
     ghost use Rattle.iscsi_pdu.specs.Frames.{frames, rest, has_frame, is_long, first_frame, frame_length, missing, wanted};
 
@@ -131,6 +134,111 @@ impl Framer {
         Ok(Some(Frame { header, body }))
     }
 
+    /// Takes the next bytes of a piece. Returns how many were used, and what they brought. The data of a Data-Out is
+    /// lent from the piece while its PDU arrives; any other PDU is kept until it is whole.
+    ///
+    /// May be called if no more than one Data-Out is kept, and of any other PDU less than all. That holds of a new
+    /// framer, and after each call. After [`PduFault::TooLong`] the header is kept, and out of memory changes nothing.
+    pub fn take<'p>(&mut self, piece: &'p [u8]) -> Result<(usize, Part<'p>), PduFault>
+        requires { HoldsOne self.old }
+        ensures part { IfOk result (λ r. Takes self.old piece.now r.0 r.1 self.new) }
+        ensures one { HoldsOne self.new }
+        ensures too_long { IsErrOf result PduFault.TooLong ↔ (is_long (self.old ++ piece.now) ≡ true) }
+        ensures long { IsErrOf result PduFault.TooLong → is_long self.new ≡ true }
+        ensures memory { IsErrOf result PduFault.Memory → self.new ≡ self.old }
+    {
+        let had = self.header.len();
+        let (front, more) = piece.split_at(piece.len().min(HEADER_LENGTH - had));
+        put(&mut self.header, front);
+        match self.take_more(more) {
+            Ok((used, part)) => Ok((front.len() + used, part)),
+            Err(PduFault::TooLong) => Err(PduFault::TooLong),
+            Err(PduFault::Memory) => {
+                self.header.truncate(had);
+                Err(PduFault::Memory)
+            }
+        }
+    }
+
+    /// Takes the next bytes of a piece, like [`take`](Framer::take), after those of the first header.
+    fn take_more<'p>(&mut self, more: &'p [u8]) -> Result<(usize, Part<'p>), PduFault>
+        requires within { is_long self.old ≡ false → length self.old ≤ frame_length self.old }
+        requires first { length self.old < header_length → more.now ≡ [] }
+        ensures part { IfOk result (λ r. Takes self.old more.now r.0 r.1 self.new) }
+        ensures one { OnOk result (HoldsOne self.new) }
+        ensures too_long { IsErrOf result PduFault.TooLong ↔ (is_long self.old ≡ true) }
+        ensures err { OnErr result (self.new ≡ self.old) }
+    {
+        let Some(header) = self.header() else {
+            return Ok((0, Part::Nothing));
+        };
+        if header.data_length() > MOST_DATA {
+            return Err(PduFault::TooLong);
+        }
+        if header.is_data_out() {
+            return Ok(self.lend(header, more));
+        }
+        self.gather(header, more)
+    }
+
+    /// Takes the next bytes of a Data-Out with this header. Its data is lent.
+    fn lend<'p>(&mut self, header: Header, more: &'p [u8]) -> (usize, Part<'p>)
+        requires there { header_length ≤ length self.old }
+        requires header { header ≡ take header_length self.old }
+        requires short { data_length header ≤ most_data }
+        requires within { length self.old ≤ frame_length self.old }
+        requires out { is_data_out self.old ≡ true }
+        ensures part { Takes self.old more.now result.0 result.1 self.new }
+        ensures one { HoldsOne self.new }
+    {
+        let had = self.len();
+        let start = HEADER_LENGTH + header.additional_length();
+        let end = start + header.data_length();
+        let whole = start + padded(header.data_length());
+        let skipped = start.saturating_sub(had).min(more.len());
+        let count = end.saturating_sub(had + skipped).min(more.len() - skipped);
+        if count > 0 {
+            let used = skipped + count;
+            self.behind.forget(used);
+            return (used, Part::Data(header, &more[skipped..used]));
+        }
+        let used = (whole - had).min(more.len());
+        if had + used < whole {
+            self.behind.forget(used);
+            return (used, Part::Nothing);
+        }
+        self.header.clear();
+        self.behind.clear();
+        (used, Part::End(header))
+    }
+
+    /// Takes the next bytes of any other PDU with this header. All are kept until it is whole.
+    fn gather<'p>(&mut self, header: Header, more: &'p [u8]) -> Result<(usize, Part<'p>), PduFault>
+        requires there { header_length ≤ length self.old }
+        requires header { header ≡ take header_length self.old }
+        requires short { data_length header ≤ most_data }
+        requires within { length self.old ≤ frame_length self.old }
+        requires other { is_data_out self.old ≡ false }
+        ensures part { IfOk result (λ r. Takes self.old more.now r.0 r.1 self.new) }
+        ensures one { OnOk result (HoldsOne self.new) }
+        ensures memory { IfErr result (λ fault. fault ≡ PduFault.Memory) }
+        ensures err { OnErr result (self.new ≡ self.old) }
+    {
+        let data = header.data_length();
+        let additional = header.additional_length();
+        let missing = HEADER_LENGTH + additional + padded(data) - self.len();
+        if more.len() < missing {
+            let mut spares = self.behind.no_spares();
+            self.behind.append(more, missing, &mut spares)?;
+            return Ok((more.len(), Part::Nothing));
+        }
+        let mut body = self.behind.complete(&more[..missing])?;
+        cut_front(&mut body, additional);
+        body.truncate(data);
+        self.header.clear();
+        Ok((missing, Part::Frame(Frame { header, body })))
+    }
+
     /// Takes the data segment after the header and `additional` bytes. The frame is removed from the bytes.
     fn take_body(&mut self, additional: usize, count: usize) -> Result<Vec<u8>, PduFault>
         requires short { count ≤ most_data }
@@ -143,10 +251,10 @@ impl Framer {
         let behind = self.behind.len();
         let end = additional + padded(count);
         if additional == 0 && behind == end {
-            let mut body = self.behind.take_all();
-            body.truncate(count);
+            let mut all = self.behind.complete(&[])?;
+            all.truncate(count);
             self.header.clear();
-            return Ok(body);
+            return Ok(all);
         }
         let body = self.behind.copied(additional, count)?;
         self.pass(end);
@@ -161,7 +269,10 @@ impl Framer {
         self.behind.skip(n);
         self.header.clear();
         let front = self.behind.len().min(HEADER_LENGTH);
-        put(&mut self.header, &self.behind.as_slice()[..front]);
+        let kept = self.behind.kept();
+        let some = front.min(kept.len());
+        put(&mut self.header, &kept[..some]);
+        put(&mut self.header, &[0; HEADER_LENGTH][..front - some]);
         self.behind.skip(front);
     }
 

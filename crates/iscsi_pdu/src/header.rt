@@ -3,7 +3,7 @@
 //! RFC 7143 numbers the bits of a byte from the most significant, which is bit 0. The masks here are by value, so
 //! that bit 0 is 0x80.
 
-ghost use Rattle.std.specs.Prelude.{◌≡◌, ℕ, List};
+ghost use Rattle.std.specs.Prelude.{◌≡◌, ◌==◌, ℕ, List};
 
 use byteorder::{BigEndian, ByteOrder};
 use std::marker::Model;
@@ -16,6 +16,9 @@ const IMMEDIATE: u8 = 0x40;
 
 /// The opcode, in byte 0.
 const OPCODE: u8 = 0x3F;
+
+/// The opcode of a Data-Out.
+const DATA_OUT: u8 = 0x05;
 
 /// The opcode of an initiator's PDU: the request that it makes (RFC 7143 §11.2.1.2).
 #[derive(Clone, Copy, Debug, PartialEq, Eq)]
@@ -80,6 +83,13 @@ impl Header {
             0x10 => Opcode::Snack,
             number => Opcode::Other(number),
         }
+    }
+
+    /// Returns whether the PDU is a Data-Out.
+    pub(crate) fn is_data_out(&self) -> bool
+        ensures { result ≡ (opcode_number self.now == 0x05) }
+    {
+        self.bytes[0] & OPCODE == DATA_OUT
     }
 
     /// Returns the I bit: whether the request is for immediate delivery.

@@ -1,7 +1,7 @@
 //! Laws of the frames of a connection's bytes, whatever the bytes. The functions do nothing: their contracts are the
 //! laws.
 
-ghost use Rattle.iscsi_pdu.specs.Laws.{FirstFrame, FirstRest, FirstIsShorter, NoFrames, NoFrameRest, LongIsNoFrame, LongStays, FramesInPieces, RestInPieces, FramesAreCut, OnlyFrames, OnlyRest};
+ghost use Rattle.iscsi_pdu.specs.Laws.{FirstFrame, FirstRest, FirstIsShorter, NoFrames, NoFrameRest, LongIsNoFrame, LongStays, FramesInPieces, RestInPieces, FramesAreCut, OnlyFrames, OnlyRest, PartsAreFrames, LeftIsTheRest};
 
 /// States that a frame at the front is the first frame. The frames after it are the others, and the rest is the same.
 pub fn first_frame()
@@ -38,4 +38,11 @@ pub fn frames_are_the_spellings()
 pub fn only_these_frames()
     ensures frames { OnlyFrames }
     ensures rest { OnlyRest }
+{}
+
+/// States that the parts that calls of [`take`](crate::Framer::take) give, put together, are the frames that
+/// [`feed`](crate::Framer::feed) and [`next`](crate::Framer::next) give of the same bytes.
+pub fn parts_are_frames()
+    ensures frames { PartsAreFrames }
+    ensures left { LeftIsTheRest }
 {}

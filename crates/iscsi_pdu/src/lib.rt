@@ -6,6 +6,7 @@
 //!
 //! ```text
 //!   bytes in ──> Framer::feed ──> Framer::next ──> Frame { header, body } ──> the target
+//!   bytes in ──> Framer::take ──> Part: a frame, or data lent from the bytes ─> a caller who has a place for it
 //!   bytes out <── BytesMut <──────────── Answer::write <── Answer <────────── the target
 //! ```
 //!
@@ -13,6 +14,7 @@
 //!
 //! - The frames are the same however the bytes are cut into pieces ([`laws::chunking`]). They are the only ones whose
 //!   spellings, joined, are the front of the bytes ([`laws::frames_are_the_spellings`], [`laws::only_these_frames`]).
+//! - The parts that [`Framer::take`] gives, put together, are the same frames ([`laws::parts_are_frames`]).
 //! - A data segment longer than 262144 bytes is refused as soon as its header is whole and the frames before it were
 //!   returned.
 //! - An answer is written whole, padding included, or the buffer keeps its bytes. If the buffer has room for the
@@ -34,6 +36,7 @@ mod login_response;
 mod logout_request;
 mod logout_response;
 mod nop_in;
+mod part;
 mod r2t;
 mod reject;
 mod scsi_command;
@@ -54,6 +57,7 @@ pub use header::{HEADER_LENGTH, Header, Opcode};
 pub use login_response::{LoginAccepted, LoginRefusal, LoginReply, LoginResponse, LoginStep};
 pub use logout_response::{LogoutResponse, LogoutResult};
 pub use nop_in::NopIn;
+pub use part::Part;
 pub use r2t::R2t;
 pub use reject::{Reject, RejectReason};
 pub use scsi_response::{Residual, ScsiResponse};

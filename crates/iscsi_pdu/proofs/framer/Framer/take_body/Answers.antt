@@ -1,4 +1,4 @@
-use Rattle.std.proofs.Common.{◌≡◌, ℕ, ◌+◌, List, ◌++◌, length, take, drop, sym, ap, ◌∙◌, arith, length-append}
+use Rattle.std.proofs.Common.{◌≡◌, ℕ, ◌+◌, List, ◌++◌, length, take, drop, sym, ap, ◌∙◌, arith, append-nil, length-append}
 use Rattle.std.proofs.lemmas.List.{drop_at, drop_all}
 use Rattle.iscsi_pdu.specs.Segment.{padded}
 use Rattle.iscsi_pdu.proofs.Split.{front_full, behind_dropped}
@@ -24,7 +24,7 @@ returns-then-behind-end-clause-body c =
     let at : b ≡ drop (48 + c.args.additional) c.args.self.now =
     sym (drop_at h b 48 full) ∙ ap (λ (x : List ℕ). drop 48 x) is
     ∙ ap (λ (n : ℕ). drop n c.args.self.now) (let e : 48 ≡ 48 + c.args.additional = omega (arith, c.if-additional-eq0.true) in e) in
-    c.truncate.ensures.items ∙ ap (λ (x : List ℕ). take c.args.count x) (c.take_all-body.ensures.bytes ∙ at)
+    c.truncate.ensures.items ∙ ap (λ (x : List ℕ). take c.args.count x) (c.in_ok-all.ensures.bytes ∙ append-nil b ∙ at)
 
 pub returns-then-behind-end-clause-rest : goal.returns-then-behind-end-clause-rest
 returns-then-behind-end-clause-rest c =
@@ -36,7 +36,7 @@ returns-then-behind-end-clause-rest c =
     let short = c.self.invariant.short in
     let none = drop_all (48 + c.args.additional + padded c.args.count) c.args.self.now
     (omega (arith, all, sum, short, c.len-behind.ensures.value, c.if-behind-end.true, c.padded.ensures)) in
-    ap (λ (x : List ℕ). x ++ c.take_all-body.new.self) c.clear.ensures ∙ c.take_all-body.ensures.none ∙ sym none
+    ap (λ (x : List ℕ). x ++ c.complete.new.self) c.clear.ensures ∙ c.in_ok-all.ensures.none ∙ sym none
 
 pub copied-requires : goal.copied-requires
 copied-requires c =
