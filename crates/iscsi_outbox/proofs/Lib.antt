@@ -3,3 +3,4 @@ pub mod Moves
 pub mod Starts
 pub mod Runs
 pub mod Copies
+pub mod Wholes

@@ -177,6 +177,13 @@ settles_ready c buffer head p placed found long written =
         below = lies;
         early = omega arith;
         cut = after.others;
+        by_4 = after.is_cut.aligned;
+        ends = record {
+          pdus = placed.ends.pdus;
+          spelled =
+              ap (drop (headroom + c.length)) written
+              ∙ behind c.buffer.items head c.offset (headroom + c.length) long (omega arith) (omega arith) ∙ placed.ends.spelled;
+        };
       };
       some = λ _. omega arith;
     }
@@ -236,6 +243,8 @@ moved_placed c n placed room near = record {
   below = placed.below;
   early = placed.early;
   cut = placed.cut;
+  by_4 = placed.by_4;
+  ends = placed.ends;
 }
 
 pub moves : (c : Cursor) (n end : ℕ) → IsPlaced c → (c.offset < c.length → end ≡ headroom + c.offset) → (c.length ≤ c.offset → end

@@ -8,6 +8,7 @@ use Rattle.scsi_sense.specs.Given.{headroom}
 use Rattle.iscsi_pdu.specs.Answer.{spelling}
 use Rattle.iscsi_pdu.specs.DataIn.{data_in_header}
 use Rattle.iscsi_pdu.specs.Segment.{padded}
+use Rattle.iscsi_pdu.specs.declared.answer.Answer.{Answer}
 use Rattle.iscsi_transfer.specs.declared.data_in.Piece.{Piece}
 use Rattle.iscsi_transfer.specs.DataIn.{pieces_of, part_of}
 use Rattle.iscsi_outbox.specs.declared.shared.SharedFields.{SharedFields}
@@ -50,7 +51,8 @@ one_padded : (head part rest pad : List ℕ) → (head ++ (part ++ [])) ++ (rest
 one_padded head part rest pad =
     ap (λ (xs : List ℕ). (head ++ xs) ++ (rest ++ pad)) (append-nil part) ∙ sym (append_assoc (head ++ part) rest pad)
 
-padded_last : (size burst from : ℕ) (pieces : List Piece) (number : ℕ) (shared : SharedFields) (d t : List ℕ)
+-- from a multiple of 4 on, pieces without padding, and the padding after the last, are whole Data-Ins
+pub padded_last : (size burst from : ℕ) (pieces : List Piece) (number : ℕ) (shared : SharedFields) (d t : List ℕ)
     → from % 4 ≡ 0 → size ≡ length d → AreCut size burst from size pieces
     → flat_map spelling (map (data_in shared d) (enumerate_from number pieces))
     ≡ flat_map (unpadded shared (d ++ t)) (enumerate_from number pieces) ++ padding size
@@ -93,19 +95,36 @@ abbrev pub start : Filled → SharedFields → Limits → ℕ → Cursor
 start buffer shared limits size =
     record { buffer = buffer; shared = shared; limits = limits; length = size; number = 0; offset = 0; at = headroom }
 
-pub start_placed : (buffer : Filled) (shared : SharedFields) (limits : Limits) (size : ℕ) → AreAligned limits → size < 2 ^ 32
-    → headroom + size ≤ length buffer.items → IsPlaced (start buffer shared limits size)
+pub start_placed : (buffer : Filled) (shared : SharedFields) (limits : Limits) (items : List ℕ) (last : Answer) (size : ℕ) → AreAligned limits
+    → size < 2 ^ 32 → length items ≡ headroom + size → buffer.items ≡ (items ++ padding size) ++ spelling last
+    → IsPlaced (start buffer shared limits size)
 unfolding pieces_left
-start_placed buffer shared limits size aligned short room = record {
-  limits = aligned;
-  short = short;
-  within = room;
-  at = omega arith;
-  near = λ _. omega arith;
-  below = omega arith;
-  early = omega arith;
-  cut = pieces_are_cut size limits.burst limits.segment aligned.burst aligned.segment aligned.burst_by_4 aligned.segment_by_4;
-}
+start_placed buffer shared limits items last size aligned short long written =
+    let room : headroom + size ≤ length buffer.items =
+    omega (
+      arith,
+      long,
+      ap (λ (xs : List ℕ). length xs) written,
+      length-append (items ++ padding size) (spelling last),
+      length-append items (padding size),
+    ) in record {
+      limits = aligned;
+      short = short;
+      within = room;
+      at = omega arith;
+      near = λ _. omega arith;
+      below = omega arith;
+      early = omega arith;
+      cut = pieces_are_cut size limits.burst limits.segment aligned.burst aligned.segment aligned.burst_by_4 aligned.segment_by_4;
+      by_4 = λ _. refl;
+      ends = record {
+        pdus = last ∷ [];
+        spelled =
+            ap (drop (headroom + size)) (written ∙ append_assoc items (padding size) (spelling last))
+            ∙ drop_at items (padding size ++ spelling last) (headroom + size) long
+            ∙ ap (λ (xs : List ℕ). padding size ++ xs) (sym (append-nil (spelling last)));
+      };
+    }
 
 pub start_answered : (buffer : Filled) (shared : SharedFields) (limits : Limits) (items last : List ℕ) (size : ℕ) → AreAligned limits
     → length items ≡ headroom + size → buffer.items ≡ (items ++ padding size) ++ last

@@ -10,6 +10,7 @@ ghost use Rattle.iscsi_transfer.specs.DataIn.{pieces_of, piece_count};
 ghost use Rattle.iscsi_outbox.specs.Answer.{AreAligned, answered, fields_of, unpadded};
 ghost use Rattle.iscsi_outbox.specs.Cut.{IsCut};
 ghost use Rattle.iscsi_outbox.specs.Cursor.{pieces_left, left, IsPlaced, IsReady};
+ghost use Rattle.iscsi_outbox.specs.Offered.{EndsPdu};
 
 use crate::limits::Limits;
 use crate::put::{padding, put};
@@ -143,6 +144,7 @@ impl Cursor {
         requires { IsReady self.now }
         ensures prefix { result.now ≡ take (length result.now) (left self.now) }
         ensures some { 0 < length (left self.now) → 0 < length result.now }
+        ensures ends { EndsPdu (left self.now) result.now }
     {
         &self.buffer.as_slice()[self.at..self.end()]
     }

@@ -15,9 +15,9 @@
 //! Promised, and proved:
 //!
 //! - A new [`DataIns`] has to send the command's Data-Ins, as RFC 7143 spells them, and the PDU after them.
-//!   [`DataIns::front`] is a prefix of what is left, empty only if nothing is left.
-//! - An [`Outbox`] holds all that waits in the order in which it was put. [`Outbox::front`] is all of it, if no data of
-//!   a command is among it. Sending allocates no memory.
+//! - An [`Outbox`] holds all that waits in the order in which it was put. [`Outbox::front`] is a prefix of it that ends
+//!   where a PDU does, empty only if nothing waits; it is all, if no data of a command waits. Sending allocates no
+//!   memory.
 #![tactic(auto)]
 
 mod cursor;
@@ -27,6 +27,7 @@ mod outbox;
 mod put;
 mod run;
 mod shared;
+mod unsent;
 
 pub use data_ins::DataIns;
 pub use limits::Limits;

@@ -2,6 +2,7 @@
 
 ghost use Rattle.std.specs.Prelude.{◌≡◌, ◌<◌, ◌≤◌, ◌+◌, ◌++◌, ◌==◌, [], length, take, drop, nat_lt, OnOk, IfSome};
 ghost use Rattle.iscsi_pdu.specs.Answer.{spelling};
+ghost use Rattle.iscsi_outbox.specs.Offered.{EndsPdu};
 
 use crate::data_ins::DataIns;
 use crate::put::put;
@@ -24,7 +25,7 @@ pub struct Outbox {
 impl Model for Outbox {
     ghost use Rattle.std.specs.Prelude.{◌-◌, ◌++◌, flat_map};
     ghost use Rattle.std.specs.VecDeque.{deque_len, deque_capacity};
-    ghost use Rattle.iscsi_outbox.specs.Outbox.{Waits, run_bytes, AreRunning};
+    ghost use Rattle.iscsi_outbox.specs.Outbox.{Waits, run_bytes, AreRunning, AreInOrder};
 
     ghost Value = { Waits };
 
@@ -35,7 +36,7 @@ impl Model for Outbox {
       slots = deque_capacity o.runs - deque_len o.runs;
     } };
 
-    ghost invariant = { λ o. AreRunning o.runs.items };
+    ghost invariant = { λ o. AreRunning o.runs.items × AreInOrder o.runs.items o.tail.items };
 }
 
 impl Outbox {
@@ -116,11 +117,12 @@ impl Outbox {
         left < self.tail.len()
     }
 
-    /// Returns the next bytes to send, as many as lie together: all of them, if no run waits.
+    /// Returns the next bytes to send, as many as lie together: all of them, if no run waits. They end where a PDU does.
     pub fn front(&self) -> &[u8]
         ensures prefix { result.now ≡ take (length result.now) self.now.items }
         ensures some { 0 < length self.now.items → 0 < length result.now }
         ensures whole { self.now.runs ≡ 0 → result.now ≡ self.now.items }
+        ensures ends { EndsPdu self.now.items result.now }
     {
         front_of(&self.runs, &self.tail)
     }
@@ -157,12 +159,17 @@ impl Outbox {
         bytes.extend_from_slice(self.tail.as_slice())
     }
 
-    /// Frees the reserved room, if nothing waits and there is room for more than `most` bytes.
+    /// Frees the reserved room, if nothing waits and there is room for more than `most` bytes. Frees the places of runs
+    /// as well, if nothing waits.
     pub fn trim(&mut self, alloc: Global, most: usize)
         ensures items { self.new.items ≡ self.old.items }
         ensures runs { self.new.runs ≡ self.old.runs }
     {
-        if self.is_empty() && self.tail.capacity() > most {
+        if !self.is_empty() {
+            return;
+        }
+        self.runs.shrink_to_fit();
+        if self.tail.capacity() > most {
             self.tail = BytesMut::new(alloc);
         }
     }

@@ -1,10 +1,12 @@
 //! The data of a command among small answers.
 
-ghost use Rattle.std.specs.Prelude.{◌≡◌, ◌<◌, ◌≤◌, ◌+◌, ◌++◌, [], length, take, drop, flat_map, IfSome, IfNone, OnOk};
+ghost use Rattle.std.specs.Prelude.{◌≡◌, ◌<◌, ◌≤◌, ◌+◌, ◌++◌, ℕ, List, [], length, take, drop, flat_map, IfSome, IfNone, OnOk};
 ghost use Rattle.std.specs.VecDeque.{deque_len, deque_capacity};
-ghost use Rattle.iscsi_outbox.specs.Outbox.{run_bytes, AreRunning};
+ghost use Rattle.iscsi_outbox.specs.Offered.{EndsPdu};
+ghost use Rattle.iscsi_outbox.specs.Outbox.{run_bytes, AreRunning, IsInOrder, AreInOrder};
 
 use crate::data_ins::DataIns;
+use crate::unsent::Unsent;
 use bytes::BytesMut;
 use std::alloc::{AllocError, Global};
 use std::collections::VecDeque;
@@ -14,7 +16,7 @@ use std::mem;
 #[derive(Drop)]
 pub(crate) struct Run {
     pub before: BytesMut,
-    pub data_ins: DataIns,
+    pub data_ins: Unsent,
 }
 
 impl Run {
@@ -22,6 +24,7 @@ impl Run {
     fn front(&self) -> &[u8]
         ensures prefix { result.now ≡ take (length result.now) (run_bytes self.now) }
         ensures some { 0 < length self.now.data_ins → 0 < length result.now }
+        ensures ends { IsInOrder self.now → EndsPdu (run_bytes self.now) result.now }
     {
         if self.before.is_empty() {
             return self.data_ins.front();
@@ -36,6 +39,7 @@ impl Run {
         ensures rest { run_bytes self.new ≡ drop result (run_bytes self.old) }
         ensures there { result ≤ length (run_bytes self.old) }
         ensures spent { 0 < length self.old.data_ins → length self.new.data_ins ≡ 0 → run_bytes self.new ≡ [] }
+        ensures order { IsInOrder self.old → IsInOrder self.new }
     {
         if self.before.is_empty() {
             return self.data_ins.skip_some(n);
@@ -60,11 +64,24 @@ pub(crate) fn front_of<'a>(runs: &'a VecDeque<Run>, tail: &'a BytesMut) -> &'a [
     ensures prefix { result.now ≡ take (length result.now) (flat_map run_bytes runs.now.items ++ tail.now.items) }
     ensures some { 0 < length (flat_map run_bytes runs.now.items ++ tail.now.items) → 0 < length result.now }
     ensures whole { deque_len runs.now ≡ 0 → result.now ≡ tail.now.items }
+    ensures ends { AreInOrder runs.now.items tail.now.items → EndsPdu (flat_map run_bytes runs.now.items ++ tail.now.items) result.now }
 {
     match runs.front() {
         None => tail.as_slice(),
         Some(run) => run.front(),
     }
+}
+
+/// Takes the small answers after the last run, with their room. If there are none, the room stays.
+fn take_tail(tail: &mut BytesMut, alloc: Global) -> BytesMut
+    ensures taken { result.items ≡ tail.old.items }
+    ensures none { tail.new.items ≡ [] }
+{
+    let none = BytesMut::new(alloc);
+    if tail.is_empty() {
+        return none;
+    }
+    mem::replace(tail, none)
 }
 
 /// Appends a run, with the small answers before it. Allocates no memory.
@@ -82,11 +99,10 @@ pub(crate) fn push_run(
     ensures running { AreRunning runs.new.items }
     ensures len { deque_len runs.new ≡ deque_len runs.old + 1 }
     ensures capacity { deque_capacity runs.new ≡ deque_capacity runs.old }
+    ensures order { AreInOrder runs.old.items tail.old.items → AreInOrder runs.new.items tail.new.items }
 {
-    let mut before = BytesMut::new(alloc);
-    if !tail.is_empty() {
-        before = mem::replace(tail, before);
-    }
+    let before = take_tail(tail, alloc);
+    let data_ins = data_ins.into_unsent();
     runs.push_back_reserved(Run { before, data_ins });
 }
 
@@ -103,6 +119,7 @@ pub(crate) fn skip_in(runs: &mut VecDeque<Run>, n: usize) -> (usize, Option<Byte
     ensures capacity { deque_capacity runs.new ≡ deque_capacity runs.old }
     ensures len { deque_len runs.new ≤ deque_len runs.old }
     ensures spent { IfSome result.1 (λ buffer. buffer.items ≡ []) }
+    ensures order { (tail : List ℕ) → AreInOrder runs.old.items tail → AreInOrder runs.new.items tail }
 {
     let run = &mut runs[0];
     let step = run.skip_some(n);

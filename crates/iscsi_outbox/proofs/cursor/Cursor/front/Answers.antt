@@ -2,6 +2,7 @@ use Rattle.std.proofs.Common.{◌≡◌, ◌≤◌, ◌-◌, ◌∙◌, ap, sym,
 use Rattle.std.proofs.lemmas.List.{length-take}
 use Rattle.iscsi_outbox.specs.Cursor.{left}
 use Rattle.iscsi_outbox.proofs.Moves.{fronts, some_stand}
+use Rattle.iscsi_outbox.proofs.Wholes.{front_ends}
 use Rattle.iscsi_outbox.proofs.cursor.Cursor.front.Goals as goal
 
 long : (xs : List ℕ) (at end : ℕ) → end ≤ length xs → length (take (end - at) (drop at xs)) ≡ end - at
@@ -24,3 +25,9 @@ returns-clause-some c some =
     let before = some_stand old end c.requires c.end.ensures.more c.end.ensures.last some in
     let room = ap (λ (xs : List ℕ). length xs) c.as_slice.ensures in
     omega (arith, before, room, is.0, long c.as_slice.result.now old.at end (omega (arith, room, is.0)))
+
+pub returns-clause-ends : goal.returns-clause-ends
+returns-clause-ends c =
+    let items = c.as_slice.ensures in
+    front_ends c.args.self.now _ c.end.result (ap (λ (xs : List ℕ). slice_range xs c.args.self.now.at c.end.result) items) c.requires.placed
+    c.end.ensures.more c.end.ensures.last

@@ -1,5 +1,4 @@
-use Rattle.std.proofs.Common.{◌-◌, ◌∙◌, ◌++◌, ℕ, List, [], ◌∷◌, length, take, ap, arith, length-drop}
-use Rattle.std.proofs.lemmas.List.{length-append}
+use Rattle.std.proofs.Common.{◌-◌, ◌∙◌, ◌++◌, ℕ, List, [], ◌∷◌, take, ap, arith, length-drop}
 use Rattle.iscsi_pdu.specs.Answer.{spelling}
 use Rattle.iscsi_outbox.proofs.Starts.{start_placed, start_answered, padding_is}
 use Rattle.iscsi_outbox.proofs.cursor.Cursor.new.Goals as goal
@@ -8,11 +7,14 @@ pub start_piece-requires : goal.start_piece-requires
 start_piece-requires c =
     let size = c.len-length.result - 48 in
     let short = c.requires.short in
-    let longer = ap (λ (xs : List ℕ). length xs) c.extend_reserved.ensures.items in
-    let longest = ap (λ (xs : List ℕ). length xs) c.put.ensures.written in
-    start_placed c.put.new.buffer c.args.shared c.args.limits size c.requires.limits
+    start_placed c.put.new.buffer c.args.shared c.args.limits c.args.buffer.items c.args.last.now size c.requires.limits
     (omega (arith, length-drop 48 c.args.buffer.items))
-    (omega (arith, simp length-append at longer, simp length-append at longest))
+    (omega arith)
+    (c.put.ensures.written
+    ∙ ap (λ (xs : List ℕ). xs ++ spelling c.args.last.now)
+    (c.extend_reserved.ensures.items
+    ∙ ap (λ (n : ℕ). c.args.buffer.items ++ take n (0 ∷ 0 ∷ 0 ∷ [])) c.padding.ensures.value
+    ∙ ap (λ (xs : List ℕ). c.args.buffer.items ++ xs) (padding_is size)))
 
 pub returns-clause-value : goal.returns-clause-value
 returns-clause-value c =

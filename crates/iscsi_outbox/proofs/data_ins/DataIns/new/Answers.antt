@@ -5,6 +5,7 @@ use Rattle.iscsi_transfer.proofs.Counts.{pieces_are_counted, count_fits}
 use Rattle.iscsi_outbox.specs.declared.limits.Limits.{Limits}
 use Rattle.iscsi_outbox.specs.Answer.{AreAligned}
 use Rattle.iscsi_outbox.proofs.Starts.{answer_long}
+use Rattle.iscsi_outbox.proofs.Wholes.{answer_whole}
 use Rattle.iscsi_outbox.proofs.data_ins.DataIns.new.Goals as goal
 
 -- there are no more pieces than bytes, and of these fewer than 2^32
@@ -38,5 +39,8 @@ invariant_of-result c =
     ap (λ (n : ℕ). length (pieces_of n limits.burst limits.segment)) (sym size)
     ∙ pieces_are_counted (c.len-length.result - 48) limits.burst limits.segment c.requires.limits.burst c.requires.limits.segment
     ∙ sym c.piece_count-count.ensures in
-    let long = ap (λ (xs : List ℕ). length xs) c.new.ensures.value ∙ answer_long c.args.shared limits bytes (spelling c.args.last.now) c.requires.limits in
-    (c.new.ensures.ready, omega (arith, size, counted, long))
+    let long = ap (λ (xs : List ℕ). length xs) c.new.ensures.value ∙ answer_long c.args.shared limits bytes (spelling c.args.last.now) c.requires.limits in (
+      c.new.ensures.ready,
+      omega (arith, size, counted, long),
+      answer_whole _ c.args.shared limits bytes c.args.last.now c.new.ensures.value,
+    )
