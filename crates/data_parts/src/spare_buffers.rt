@@ -18,10 +18,15 @@ const MOST_LONG: usize = 12;
 
 /// Buffers that are no longer used, 4 MiB at most, kept so that their memory is not allocated again. A buffer that is
 /// taken is empty.
+///
+/// A buffer that was allocated at a busy time may lie above much memory that is freed after it, which the C library gives
+/// back to the system only from its end. So [`SpareBuffers::trim`] frees all of them, to be called after such a time.
 #[derive(Drop)]
 pub struct SpareBuffers {
     short: Vec<Vec<u8>>,
     long: Vec<Vec<u8>>,
+    /// More were to be kept than there is place for.
+    is_overfull: bool,
     alloc: Global,
 }
 
@@ -36,11 +41,13 @@ fn taken(alloc: Global, kept: &mut Vec<Vec<u8>>, room: usize) -> Result<Vec<u8>,
     Ok(buffer)
 }
 
-/// Keeps a buffer if fewer than `most` are kept, and frees it otherwise.
-fn put(kept: &mut Vec<Vec<u8>>, most: usize, buffer: Vec<u8>) {
-    if kept.len() < most {
-        let _ = kept.push(buffer);
+/// Keeps a buffer if fewer than `most` are kept, and frees it otherwise. Returns whether there was a place for it.
+fn put(kept: &mut Vec<Vec<u8>>, most: usize, buffer: Vec<u8>) -> bool {
+    if kept.len() >= most {
+        return false;
     }
+    let _ = kept.push(buffer);
+    true
 }
 
 impl SpareBuffers {
@@ -49,6 +56,7 @@ impl SpareBuffers {
         SpareBuffers {
             short: Vec::new(alloc),
             long: Vec::new(alloc),
+            is_overfull: false,
             alloc,
         }
     }
@@ -68,10 +76,25 @@ impl SpareBuffers {
 
     /// Keeps a buffer that [`SpareBuffers::take`] returned, if few like it are kept.
     pub fn keep(&mut self, buffer: Vec<u8>) {
-        match buffer.capacity() {
+        let is_placed = match buffer.capacity() {
             LONG => put(&mut self.long, MOST_LONG, buffer),
             SHORT => put(&mut self.short, MOST_SHORT, buffer),
-            _ => {}
+            _ => true,
+        };
+        if !is_placed {
+            self.is_overfull = true;
         }
+    }
+
+    /// Returns whether more buffers were to be kept than there is place for, since the last [`SpareBuffers::trim`].
+    pub fn is_overfull(&self) -> bool {
+        self.is_overfull
+    }
+
+    /// Frees all buffers that are kept.
+    pub fn trim(&mut self) {
+        self.short = Vec::new(self.alloc);
+        self.long = Vec::new(self.alloc);
+        self.is_overfull = false;
     }
 }

@@ -18,6 +18,9 @@ use std::alloc::Global;
 use std::marker::Model;
 use target_limits::Memory;
 
+/// How many requests of a session are usually unfinished at most: those that have numbers. Few are for immediate delivery.
+pub(crate) const USUALLY_MOST: usize = 32;
+
 /// The requests of a session that are not finished. They are stored in a slab, so that one that moves from one line to
 /// another is not copied. Clauses see the three lines, and the window of the numbers.
 #[derive(Drop)]
@@ -75,6 +78,22 @@ impl RequestQueue {
             queue: Vec::new(alloc),
             alloc,
         }
+    }
+
+    /// Makes room for as many requests as are usually not finished at most. So the lists do not grow at a busy time, where
+    /// they would lie above much memory that is freed after it. If an allocation fails, nothing changes.
+    pub(crate) fn reserve(&mut self) -> Result<(), Memory>
+        ensures { self.new ≡ self.old }
+    {
+        self.requests.reserve(USUALLY_MOST)?;
+        self.due.reserve(USUALLY_MOST)?;
+        self.queue.reserve(USUALLY_MOST)?;
+        Ok(())
+    }
+
+    /// Returns whether no request is kept.
+    pub(crate) fn is_empty(&self) -> bool {
+        self.requests.is_empty()
     }
 
     /// Keeps an accepted request until it is executed. If an allocation fails, nothing changes.

@@ -1,6 +1,6 @@
 //! A session in full feature phase.
 
-ghost use Rattle.std.specs.Prelude.{◌≡◌, ◌∷◌, List, drop, true, IfSome, IfNone};
+ghost use Rattle.std.specs.Prelude.{◌≡◌, ◌∷◌, List, [], drop, true, IfSome, IfNone};
 ghost use Rattle.iscsi_pdu.specs.declared.answer.Answer.{Answer};
 ghost use Rattle.iscsi_session.specs.Requests.{Past, begun, bearing, stamp, answering};
 ghost use Rattle.iscsi_session.specs.State.{remembered, Stands, whole_at, place_for, is_waiting};
@@ -14,6 +14,7 @@ use iscsi_order::Stat;
 use iscsi_pdu::{Frame, Stamp};
 use std::alloc::Global;
 use std::marker::Model;
+use target_limits::Memory;
 
 /// No request that is to be answered has this tag (RFC 7143 §11.2.1.8).
 pub(crate) const RESERVED_TAG: u32 = 0xffff_ffff;
@@ -55,6 +56,22 @@ impl Session {
             exchange: Exchange::none(alloc),
             params,
         }
+    }
+
+    /// Makes room for the requests that are usually not finished at most, so that no list of the session grows while they
+    /// are. If an allocation fails, nothing changes.
+    pub fn reserve(&mut self) -> Result<(), Memory>
+        ensures { self.new ≡ self.old }
+    {
+        self.tasks.reserve()?;
+        self.transfers.reserve()
+    }
+
+    /// Returns whether no request is unfinished, and no data is drained.
+    pub fn is_idle(&self) -> bool
+        ensures { result ≡ true → self.now.transfers.drains ≡ [] }
+    {
+        self.tasks.is_empty() && self.transfers.drains.is_empty()
     }
 
     /// Returns whose session it is, with which target, and the values in force.

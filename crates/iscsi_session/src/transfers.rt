@@ -11,6 +11,7 @@ ghost use Rattle.iscsi_session.specs.State.{no_transfers, place_with, immediate_
 
 use crate::abort_scope::Reach;
 use crate::drained_transfers::DrainedTransfer;
+use crate::request_queue::USUALLY_MOST;
 use crate::verdict::Verdict;
 use data_parts::{Data, Parts};
 use iscsi_login::Values;
@@ -63,6 +64,15 @@ impl Transfers {
             drains: Vec::new(alloc),
             alloc,
         }
+    }
+
+    /// Makes room for the data of as many commands as are usually not finished at most. If an allocation fails, nothing
+    /// changes.
+    pub(crate) fn reserve(&mut self) -> Result<(), Memory>
+        ensures { self.new ≡ self.old }
+    {
+        self.list.reserve(USUALLY_MOST)?;
+        Ok(())
     }
 
     /// Returns the place of the unfinished command with this tag.
