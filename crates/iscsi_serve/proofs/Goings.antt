@@ -10,12 +10,13 @@ use Rattle.iscsi_target.specs.History.{connection_limit}
 use Rattle.iscsi_target.specs.Machine.{Machine, Feeds, link_at, with_link, is_open_at, is_closing, is_silent, opened_link, sent_link, closed, free_link}
 use Rattle.iscsi_target.proofs.Choices.{and_false, and_true, cond_true}
 use Rattle.target_limits.specs.Numbers.{is_number}
+use Rattle.iscsi_outbox.specs.Offered.{EndsPdu}
 use Rattle.iscsi_ports.specs.Log.{Carried, Bytes, Entry, Open, NobodyCame, Read, Wrote, Close}
 use Rattle.iscsi_serve.specs.Served.{IsFed}
 use Rattle.iscsi_serve.specs.Turn.{Moment, moment, changed, told, IfElse, opened, free_number, HasAccepted, is_read, room_for, HasFed, HasRead, Reads, piece_in, is_written, after_write, HasWritten, Writes, is_end, ends, is_closed, Closes}
 use Rattle.iscsi_serve.specs.Progress.{AreEnded, none_ended, IsDue, MovesBy}
 use Rattle.iscsi_ports.specs.declared.results.Named.{Named}
-use Rattle.iscsi_serve.proofs.Fronts.{offered_front, offered_within}
+use Rattle.iscsi_serve.proofs.Fronts.{offered_within}
 use Rattle.iscsi_serve.proofs.Moments.{none_more, one_more}
 
 where_due : (b : Bool) (A B : Type 0) → b ≡ true → A → IfElse b A B
@@ -139,43 +140,44 @@ silent_write log target ended c e = let link = link_at target c in
 
 -- a front of what waits was offered, and this is what came of it
 written : (m n : Moment) (c : ℕ) (offered unwritten : List ℕ) (carried : Carried) → is_open_at m.target c ≡ true
-    → offered ≡ take (length offered) (link_at m.target c).waiting → 0 < length offered → offered ≡ piece_in carried ++ unwritten
+    → offered ≡ take (length offered) (link_at m.target c).waiting → EndsPdu (link_at m.target c).waiting offered → 0 < length offered
+    → offered ≡ piece_in carried ++ unwritten
     → n ≡ changed (Wrote c (length offered) carried) (after_write c carried m.target) m → Writes c m n
-written m n c offered unwritten carried open_ front some all e =
+written m n c offered unwritten carried open_ front ends some all e =
     let waiting = (link_at m.target c).waiting in
     let due : is_written (link_at m.target c) ≡ true =
     ap (λ (b : Bool). b && nat_lt 0 (length waiting)) open_
     ∙ lt-ltb 0 (length waiting) (omega (arith, some, offered_within offered waiting front)) in
     where_due (is_written (link_at m.target c)) (HasWritten c waiting m n) (n ≡ m) due
-    (offered, drop (length offered) waiting, offered_front offered waiting front, some, (carried, unwritten, all, e))
+    (offered, ends.after, ends.front, some, ends.whole, (carried, unwritten, all, e))
 
 -- bytes were written
 pub write_some : (log log_then : List Entry) (target after : Machine) (ended : List Bool) (c n : ℕ) (offered : List ℕ) → is_open_at target c ≡ true
-    → offered ≡ take (length offered) (link_at target c).waiting → 0 < length offered → n ≤ length offered
-    → log_then ≡ log ++ Wrote c (length offered) (Bytes (take n offered)) ∷ [] → after ≡ with_link target c (sent_link (link_at target c) n) → MovesBy
-    (Writes c) log log_then target after ended ended
-write_some log log_then target after ended c n offered open_ front some le e now =
+    → offered ≡ take (length offered) (link_at target c).waiting → EndsPdu (link_at target c).waiting offered → 0 < length offered
+    → n ≤ length offered → log_then ≡ log ++ Wrote c (length offered) (Bytes (take n offered)) ∷ []
+    → after ≡ with_link target c (sent_link (link_at target c) n) → MovesBy (Writes c) log log_then target after ended ended
+write_some log log_then target after ended c n offered open_ front ends some le e now =
     let piece = take n offered in
     let entry : Entry = Wrote c (length offered) (Bytes piece) in
     let all : after ≡ after_write c (Bytes piece) target = now ∙ ap (λ (n : ℕ). with_link target c (sent_link (link_at target c) n))
     (sym (length-take-le n offered le)) in
     one_more (Writes c) log log_then target after ended ended entry (ended_same ended entry (λ d. and_false (eqb c d))) e
     (λ before turn are.
-    written (moment target before turn) (moment after before (turn ++ entry ∷ [])) c offered (drop n offered) (Bytes piece) open_ front some
+    written (moment target before turn) (moment after before (turn ++ entry ∷ [])) c offered (drop n offered) (Bytes piece) open_ front ends some
     (sym (take-append-drop n offered))
     (ap (λ (after : Machine). moment after before (turn ++ entry ∷ [])) all))
 
 -- the write told an end or a fault
 pub write_ended : (log log_then : List Entry) (target : Machine) (ended : List Bool) (c : ℕ) (carried : Carried) (offered : List ℕ)
     → c < connection_limit → length ended ≡ 64 → is_open_at target c ≡ true
-    → offered ≡ take (length offered) (link_at target c).waiting → 0 < length offered → is_end carried ≡ true
-    → log_then ≡ log ++ Wrote c (length offered) carried ∷ [] →
-    MovesBy (Writes c) log log_then target target ended (set ended c true)
-write_ended log log_then target ended c (Bytes piece) offered lt len open_ front some over e = absurd cc
-write_ended log log_then target ended c carried offered lt len open_ front some over e =
+    → offered ≡ take (length offered) (link_at target c).waiting → EndsPdu (link_at target c).waiting offered → 0 < length offered
+    → is_end carried ≡ true
+    → log_then ≡ log ++ Wrote c (length offered) carried ∷ [] → MovesBy (Writes c) log log_then target target ended (set ended c true)
+write_ended log log_then target ended c (Bytes piece) offered lt len open_ front ends some over e = absurd cc
+write_ended log log_then target ended c carried offered lt len open_ front ends some over e =
     let entry : Entry = Wrote c (length offered) carried in
     one_more (Writes c) log log_then target target ended (set ended c true) entry (ended_now ended entry c len lt (λ d. refl)) e
-    (λ before turn are. let m = moment target before turn in written m (told entry m) c offered offered carried open_ front some refl refl)
+    (λ before turn are. let m = moment target before turn in written m (told entry m) c offered offered carried open_ front ends some refl refl)
 
 -- ---- closes
 

@@ -4,6 +4,7 @@ use Rattle.std.specs.List.{list_any}
 use Rattle.iscsi_target.specs.History.{connection_limit, connections}
 use Rattle.iscsi_target.specs.Machine.{Machine, LinkState, Feeds, link_at, with_link, is_open_at, is_free, is_closing, want_of, opened_link, sent_link, closed, free_link}
 use Rattle.target_limits.specs.Numbers.{is_number}
+use Rattle.iscsi_outbox.specs.Offered.{AreWhole}
 use Rattle.iscsi_ports.specs.Log.{Entry, Carried, Bytes, End, Fault, Polled, Open, NobodyCame, AcceptFailed, Read, Wrote, Close}
 use Rattle.iscsi_serve.specs.Served.{IsFed}
 use Rattle.iscsi_ports.specs.declared.results.Named.{Named}
@@ -92,10 +93,10 @@ abbrev pub after_write : ℕ → Carried → Machine → Machine
 after_write c (Bytes piece) target = with_link target c (sent_link (link_at target c) (length piece))
 after_write c _ target = target
 
--- a nonempty front of what waits was offered, and a front of that was written
+-- a nonempty front of what waits was offered, up to the end of a PDU, and a front of that was written
 abbrev pub HasWritten : ℕ → List ℕ → Moment → Moment → Type 0
 HasWritten c waiting m n =
-    (offered : List ℕ) × (unoffered : List ℕ) × (waiting ≡ offered ++ unoffered) × (0 < length offered)
+    (offered : List ℕ) × (unoffered : List ℕ) × (waiting ≡ offered ++ unoffered) × (0 < length offered) × AreWhole unoffered
     × ((carried : Carried) × (unwritten : List ℕ) × (offered ≡ piece_in carried ++ unwritten)
     × (n ≡ changed (Wrote c (length offered) carried) (after_write c carried m.target) m))
 

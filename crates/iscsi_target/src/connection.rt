@@ -4,6 +4,7 @@ ghost use Rattle.std.specs.Prelude.{◌≡◌, ◌<◌, ◌≤◌, ◌++◌, ◌
 ghost use Rattle.std.specs.Result.{IsErrOf};
 ghost use Rattle.iscsi_pdu.specs.Frames.{frames, rest, has_frame, is_long, wanted};
 ghost use Rattle.iscsi_pdu.specs.Answer.{spelling};
+ghost use Rattle.iscsi_outbox.specs.Offered.{EndsPdu};
 ghost use Rattle.scsi_unit.specs.Units.{join as join_units};
 ghost use Rattle.iscsi_login.specs.Values.{AreInRange};
 ghost use Rattle.iscsi_login.specs.Lookup.{lookup_in};
@@ -194,12 +195,13 @@ impl Connection {
         Ok(())
     }
 
-    /// Returns the next bytes to be sent, as many as are contiguous.
+    /// Returns the next bytes to be sent, as many as are contiguous. They end where a PDU does.
     #[tactic(auto, using(crate::proofs::Sent::front_within))]
     pub(crate) fn out(&self) -> &[u8]
         ensures front { result.now ≡ take (length result.now) self.now.waiting }
         ensures some { 0 < length self.now.waiting → 0 < length result.now }
         ensures within { length result.now ≤ length self.now.waiting }
+        ensures ends { EndsPdu self.now.waiting result.now }
     {
         self.waiting.front()
     }

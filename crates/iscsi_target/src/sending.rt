@@ -2,6 +2,7 @@
 
 ghost use Rattle.std.specs.Prelude.{◌≡◌, ◌<◌, ◌≤◌, ◌+◌, ◌++◌, ℕ, true, length, take, IfSome, IfNone, OnOk};
 ghost use Rattle.iscsi_login.specs.LoginState.{IsTargetBelow};
+ghost use Rattle.iscsi_outbox.specs.Offered.{EndsPdu};
 ghost use Rattle.iscsi_target.specs.Bounded.{Bounded};
 ghost use Rattle.iscsi_target.specs.History.{History};
 ghost use Rattle.iscsi_target.specs.World.{Setting};
@@ -15,13 +16,16 @@ use target_limits::{CONNECTIONS, Memory};
 
 impl<S: Store> Target<S> {
     /// Returns the bytes to be sent next on a connection, as many as are contiguous. They are a prefix of all that
-    /// waits, empty only if nothing waits.
+    /// waits that ends where a PDU does, empty only if nothing waits.
     pub fn out(&self, c: usize) -> &[u8]
         requires in_range { c < 64 }
         requires open { is_open_at self.now c ≡ true }
         ensures front { result.now ≡ take (length result.now) (link_at self.now c).waiting }
         ensures some { 0 < length (link_at self.now c).waiting → 0 < length result.now }
         ensures within { length result.now ≤ length (link_at self.now c).waiting }
+
+        // Whole PDUs wait after it, so it has at least all that is left of the first one.
+        ensures ends { EndsPdu (link_at self.now c).waiting result.now }
     {
         self.connections.at(c).out()
     }

@@ -34,7 +34,8 @@ returns-in-Bytes-eq0-clause-does g c =
         bounded = λ bounded. bounded;
       };
       goes = λ tells.
-          write_some _ _ c.args.target.now _ _ c.args.c 0 c.out-offered.result.now c.requires.open c.out-offered.ensures.front some (omega arith)
+          write_some _ _ c.args.target.now _ _ c.args.c 0 c.out-offered.result.now c.requires.open c.out-offered.ensures.front
+          c.out-offered.ensures.ends some (omega arith)
           (rw c.in-Bytes-eq0.field-0-test at (c.in-Bytes-eq0.ensures.log tells)) (sent_none c.args.target.now c.args.c);
     }
 
@@ -56,7 +57,7 @@ returns-in-Bytes-clause-does g c =
         bounded = c.sent.ensures.bounded;
       };
       goes = λ tells.
-          write_some _ _ _ _ _ _ _ _ c.requires.open c.out-offered.ensures.front some c.in-Bytes.ensures.count
+          write_some _ _ _ _ _ _ _ _ c.requires.open c.out-offered.ensures.front c.out-offered.ensures.ends some c.in-Bytes.ensures.count
           (c.in-Bytes.ensures.log tells) c.sent.ensures.now;
     }
 
@@ -70,7 +71,7 @@ returns-in-End-clause-does g c =
             keeps_told _ _ _ _ _ (Wrote c.args.c (length c.out-offered.result.now) End) refl (λ rows. refl) c.write.ensures.back
             (λ tells. rw is at (c.write.ensures.log tells));
         goes = λ tells.
-            write_ended _ _ _ _ _ End _ c.requires.in_range long c.requires.open c.out-offered.ensures.front some refl
+            write_ended _ _ _ _ _ End _ c.requires.in_range long c.requires.open c.out-offered.ensures.front c.out-offered.ensures.ends some refl
             (rw is at (c.write.ensures.log tells));
       }
       | inr is ↦ record {
@@ -78,7 +79,7 @@ returns-in-End-clause-does g c =
             keeps_told _ _ _ _ _ (Wrote c.args.c (length c.out-offered.result.now) Fault) refl (λ rows. refl) c.write.ensures.back
             (λ tells. rw is at (c.write.ensures.log tells));
         goes = λ tells.
-            write_ended _ _ _ _ _ Fault _ c.requires.in_range long c.requires.open c.out-offered.ensures.front some refl
+            write_ended _ _ _ _ _ Fault _ c.requires.in_range long c.requires.open c.out-offered.ensures.front c.out-offered.ensures.ends some refl
             (rw is at (c.write.ensures.log tells));
       }
     ]
