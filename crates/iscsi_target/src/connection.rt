@@ -27,7 +27,7 @@ use std::marker::Model;
 use target_limits::Memory;
 
 /// The room, in bytes, that an idle connection keeps for its answers.
-const MOST_ROOM_KEPT: usize = 65_536;
+pub(crate) const MOST_ROOM_KEPT: usize = 65_536;
 
 /// The most bytes that may wait on a connection that is still read.
 const MOST_WAITING: usize = 1_048_576;
@@ -171,10 +171,12 @@ impl Connection {
         ensures err { OnErr result (self.new ≡ self.old) }
         ensures units_err { OnErr result (units.new ≡ units.old) }
     {
+        let mut begun = Session::new(alloc, session);
+        begun.reserve()?;
         self.waiting.reserve(answer.length())?;
-        units.join(&session.nexus)?;
+        units.join(&begun.params().nexus)?;
         self.waiting.put(answer);
-        self.phase = Phase::FullFeature(Session::new(alloc, session));
+        self.phase = Phase::FullFeature(begun);
         Ok(())
     }
 
@@ -190,8 +192,10 @@ impl Connection {
         ensures ok { OnOk result (self.new ≡ begun_link session answer.now self.old) }
         ensures err { OnErr result (self.new ≡ self.old) }
     {
+        let mut begun = Session::new(alloc, session);
+        begun.reserve()?;
         self.send(answer)?;
-        self.phase = Phase::FullFeature(Session::new(alloc, session));
+        self.phase = Phase::FullFeature(begun);
         Ok(())
     }
 
@@ -223,11 +227,22 @@ impl Connection {
         self.waiting.skip_front(n)
     }
 
-    /// Returns the room of large answers to the system if nothing waits.
-    pub(crate) fn trim(&mut self, alloc: Global)
+    /// Returns room of more than `most` bytes for answers to the system if nothing waits.
+    pub(crate) fn trim(&mut self, alloc: Global, most: usize)
         ensures { self.new ≡ self.old }
     {
-        self.waiting.trim(alloc, MOST_ROOM_KEPT);
+        self.waiting.trim(alloc, most);
+    }
+
+    /// Returns whether nothing waits to be sent, and no request of the session is unfinished.
+    pub(crate) fn is_quiet(&self) -> bool
+        ensures { result ≡ true → length self.now.waiting ≡ 0 }
+    {
+        let is_idle = match &self.phase {
+            Phase::FullFeature(session) => session.is_idle(),
+            _ => true,
+        };
+        is_idle && self.waiting.is_empty()
     }
 
     /// Returns whether more than 1,048,576 bytes wait, so that the connection is not to be read.

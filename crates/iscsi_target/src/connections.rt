@@ -145,12 +145,22 @@ impl Connections {
         }
     }
 
-    /// Releases room that the connection does not need.
-    pub(crate) fn trim(&mut self, alloc: Global, c: usize)
+    /// Releases room of more than `most` bytes that the connection does not need.
+    pub(crate) fn trim(&mut self, alloc: Global, c: usize, most: usize)
         requires { c < 64 }
         ensures { self.new ≡ self.old }
     {
-        self.items[c].trim(alloc);
+        self.items[c].trim(alloc, most);
         self.note(c);
+    }
+
+    /// Returns whether nothing waits to be sent on any connection, and no session has an unfinished request.
+    pub(crate) fn are_quiet(&self) -> bool {
+        for connection in &self.items {
+            if !connection.is_quiet() {
+                return false;
+            }
+        }
+        true
     }
 }

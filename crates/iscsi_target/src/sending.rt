@@ -9,6 +9,7 @@ ghost use Rattle.iscsi_target.specs.World.{Setting};
 ghost use Rattle.iscsi_target.specs.Machine.{IsSound, ReflectsSoundness, WhereSound, IsSure, sent_link, link_at, with_link, is_silent, is_open_at};
 ghost use Rattle.iscsi_target.specs.Stands.{Stands, with_sent};
 
+use crate::connection::MOST_ROOM_KEPT;
 use crate::target::Target;
 use bytes::BytesMut;
 use media_store::Store;
@@ -56,7 +57,7 @@ impl<S: Store> Target<S> {
     {
         self.advance(c, n);
         self.note(c);
-        self.trim_next();
+        self.trim(c);
     }
 
     /// Removes `n` bytes from the front of what waits on a connection. A data buffer that was sent completely is used
@@ -124,6 +125,15 @@ impl<S: Store> Target<S> {
         self.connections.note(c);
     }
 
+    /// Releases what is not needed, after bytes were sent on a connection.
+    fn trim(&mut self, c: usize)
+        requires { c < 64 }
+        ensures { self.new ≡ self.old }
+    {
+        self.trim_next();
+        self.trim_quiet(c);
+    }
+
     /// Releases unneeded room of one connection, the next one in turn at each call. So an idle connection does not
     /// keep what its largest answer took.
     fn trim_next(&mut self)
@@ -131,7 +141,36 @@ impl<S: Store> Target<S> {
     {
         let c = self.resting % CONNECTIONS;
         self.resting = c + 1;
-        self.connections.trim(self.alloc, c);
+        self.connections.trim(self.alloc, c, MOST_ROOM_KEPT);
+    }
+
+    /// Releases what a busy time has left, once a connection is quiet: its room, and the buffers of its target's units
+    /// if all connections are quiet. What was allocated at such a time may lie above much memory that is freed after it,
+    /// which the C library gives back to the system only from its end.
+    fn trim_quiet(&mut self, c: usize)
+        requires { c < 64 }
+        ensures { self.new ≡ self.old }
+    {
+        let Some(target) = self.home(c) else {
+            return;
+        };
+        if !self.units[target].is_overfull() || !self.connections.at(c).is_quiet() {
+            return;
+        }
+        self.connections.trim(self.alloc, c, 0);
+        if self.connections.are_quiet() {
+            self.trim_units(target);
+        }
+    }
+
+    /// Frees the buffers that the units of a target keep.
+    #[tactic(auto, using(crate::proofs::Sent::same_units))]
+    fn trim_units(&mut self, target: usize)
+        requires { target < length self.old.units }
+        ensures { self.new ≡ self.old }
+    {
+        let units = &mut self.units[target];
+        units.trim();
     }
 
     /// Returns whether nothing waits to be sent on the connection and it is not closing.
