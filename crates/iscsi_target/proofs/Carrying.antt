@@ -24,7 +24,7 @@ use Rattle.iscsi_target.proofs.Lists.{range_next}
 use Rattle.iscsi_target.proofs.Lives.{present-lives}
 use Rattle.iscsi_target.proofs.Linked.{serves_world, units_with}
 use Rattle.iscsi_target.proofs.Walks.{on-fold, on-lose_one, on-carry_out, on-carry_all}
-use Rattle.iscsi_target.proofs.Keeping.{Extends, goes_walk, on-reset}
+use Rattle.iscsi_target.proofs.Keeping.{Prolongs, goes_walk, on-reset}
 use Rattle.iscsi_target.proofs.Comings.{comings_reset}
 use Rattle.iscsi_target.proofs.Doing.{does_nothing, does_as, does_on, does_then}
 use Rattle.iscsi_target.proofs.AtWork.{IsCalled, call_does}
@@ -127,7 +127,7 @@ loses_called header target c d given after k other l =
 
 -- ---- one after the other
 
-pub carried_then : (f g : World → World) (given middle after : Machine) → ((w : World) → Extends w (f w)) → ((w : World) → Extends w (g w))
+pub carried_then : (f g : World → World) (given middle after : Machine) → ((w : World) → Prolongs w (f w)) → ((w : World) → Prolongs w (g w))
     → Preserves 0 None middle after
     → CarriesOut f given middle → CarriesOut g middle after → CarriesOut (λ w. g (f w)) given after
 carried_then f g given middle after goes further moves first second =

@@ -12,7 +12,7 @@ use Rattle.iscsi_target.specs.Stands.{stand_in, Begins}
 use Rattle.iscsi_target.specs.Serving.{Serves, Agrees, ActsAs, first_of, reached_since}
 use Rattle.iscsi_target.proofs.Sound.{sound_back}
 use Rattle.iscsi_target.proofs.Marks.{Apart, Wider, agrees_left, agrees_right, all_wider, all_append}
-use Rattle.iscsi_target.proofs.Keeping.{Extends}
+use Rattle.iscsi_target.proofs.Keeping.{Prolongs}
 
 abbrev pub Act : Type 0
 Act = Setting → List Mark → ℕ → World → World
@@ -45,11 +45,11 @@ in_order (m ∷ a) b [] ys h g = absurd cc
 in_order [] b (x ∷ xs) ys h g = one_more x (xs ++ ys) b (in_order [] b xs ys refl g)
 in_order (m ∷ a) b (x ∷ xs) ys h g = grind (arith, in_order a b xs ys, in_order (m ∷ a) b xs ys)
 
-pub since : (w v : World) (g : Extends w v) → reached_since w v ≡ g.reached.0
+pub since : (w v : World) (g : Prolongs w v) → reached_since w v ≡ g.reached.0
 since w v g = ap (drop (length w.reached)) g.reached.1 ∙ drop-append_seam w.reached g.reached.0
 
 -- in one World, and then in the next
-pub reached_both : (a b : List Mark) (w v u : World) → Extends w v → Extends v u → stand_in a (reached_since w v) ≡ true → stand_in b (reached_since v u) ≡ true
+pub reached_both : (a b : List Mark) (w v u : World) → Prolongs w v → Prolongs v u → stand_in a (reached_since w v) ≡ true → stand_in b (reached_since v u) ≡ true
     → stand_in (a ++ b) (reached_since w u) ≡ true
 reached_both a b w v u first second h g =
     let behind = first.reached.0 ++ second.reached.0 in
@@ -111,8 +111,8 @@ unfoldable pub does_then : (one two both : ℕ → Mark → Bool) (act_one act_t
     (given middle after : Machine)
     → ((place : ℕ) → Apart (one place) (two place)) → ((place : ℕ) → Apart (two place) (one place)) → ((place : ℕ) → Wider (one place) (both place))
     → ((place : ℕ) → Wider (two place) (both place))
-    → ReflectsSoundness middle after → ((s : Setting) (marks : List Mark) (place : ℕ) (w : World) → Extends w (act_one s marks place w))
-    → ((s : Setting) (marks : List Mark) (place : ℕ) (w : World) → Extends w (act_two s marks place w))
+    → ReflectsSoundness middle after → ((s : Setting) (marks : List Mark) (place : ℕ) (w : World) → Prolongs w (act_one s marks place w))
+    → ((s : Setting) (marks : List Mark) (place : ℕ) (w : World) → Prolongs w (act_two s marks place w))
     → ActsAs one act_one halves_one a given middle → ActsAs two act_two halves_two b middle after
     → ActsAs both (λ s marks place w. act_two s marks place (act_one s marks place w)) (λ half. halves_two (halves_one half)) (first_of a b) given after
 does_then one two both act_one act_two halves_one halves_two a b given middle after one_two two_one wide_one wide_two back goes_one goes_two first

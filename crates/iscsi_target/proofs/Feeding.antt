@@ -25,7 +25,7 @@ use Rattle.iscsi_target.proofs.Choices.{eqb_self, cond_true, cond_false}
 use Rattle.iscsi_target.proofs.Lives.{present-changed, present-changed_other, present_is}
 use Rattle.iscsi_target.proofs.Marks.{mark_at, marked_one, marked_none, unmarked}
 use Rattle.iscsi_target.proofs.Walks.{any_arrivals, on-arrivals}
-use Rattle.iscsi_target.proofs.Keeping.{Extends, Stays, goes, on-close, on-reaching, on-then, on-same, out-longer}
+use Rattle.iscsi_target.proofs.Keeping.{Prolongs, Stays, goes, on-close, on-reaching, on-then, on-same, out-longer}
 use Rattle.iscsi_target.proofs.Linked.{reads_there, some_reads, closes, present-close, serves_as, serves_reaching, present-reaching}
 use Rattle.iscsi_target.proofs.Comings.{comings_changed}
 use Rattle.iscsi_target.proofs.Standing.{fresh, present-begun, present-fresh, stands_as, machine_same, serving, link_stands, is_open_there, count_stands}
@@ -114,7 +114,7 @@ here_short bytes left_ x (Some y) e r s short = λ reads_y. ap is_long (ap rest 
 -- where the World that the arrivals made of the longer one is served, it is stood at
 pub stands_again : (s : Setting) (sent : ℕ → ℕ) (w v : World) (machine now : Machine) (comings : List Coming) (c : ℕ) (piece left_ : List ℕ) (life : Life)
     → c < connection_limit → StandsAt s sent w machine → present c w ≡ Some life
-    → Extends (piece_came comings c piece w) v → rest (life.bytes ++ piece) ≡ left_ → (reads_life (present c v) ≡ true → is_long left_ ≡ false)
+    → Prolongs (piece_came comings c piece w) v → rest (life.bytes ++ piece) ≡ left_ → (reads_life (present c v) ≡ true → is_long left_ ≡ false)
     → Serves s sent (with_half c left_ (λ d. half_of (present d w))) v now → StandsAt s sent v now
 stands_again s sent w v machine now comings c piece left_ life lt h at goes r short serves =
     let here : Stays (Some (longer piece life)) (present c v) = subst (λ (o : Option Life). Stays o (present c v)) (came_here comings c piece w life at)
@@ -145,7 +145,7 @@ record Ended (s : Setting) (sent : ℕ → ℕ) (half : ℕ → List ℕ) (marks
   last : World
   is : take_step marks c AtEnd (λ u. u) v ≡ last
   serves : Serves s sent half last machine
-  goes : Extends v last
+  goes : Prolongs v last
   reads_same : reads_life (present c last) ≡ reads_life (present c v)
 
 ended_by : (b : Bool) (s : Setting) (sent : ℕ → ℕ) (half : ℕ → List ℕ) (marks : List Mark) (c : ℕ) (v : World) (machine : Machine)

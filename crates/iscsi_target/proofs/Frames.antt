@@ -25,7 +25,7 @@ use Rattle.iscsi_target.proofs.Working.{at_work, left_by}
 use Rattle.iscsi_session.proofs.Came.{ahead_of}
 use Rattle.iscsi_target.proofs.Comings.{comings_close, comings_log_in}
 use Rattle.iscsi_target.proofs.Walks.{on-fold, on-take_in, on-settle_one, on-settle_for, on-carry_out_for}
-use Rattle.iscsi_target.proofs.Keeping.{Extends, goes_walk, on-then, on-reaching}
+use Rattle.iscsi_target.proofs.Keeping.{Prolongs, goes_walk, on-then, on-reaching}
 use Rattle.iscsi_target.proofs.Doing.{reached_both, does_nothing, does_as, does_from, does_then}
 use Rattle.iscsi_target.proofs.AtWork.{IsCalled, CallDoes, last_there, marks_of, starved_if, call_does, own_past, served_orders, serve_acts, serve_agrees}
 use Rattle.std.proofs.lemmas.Bool.Decides.{nat_tests}
@@ -200,9 +200,9 @@ takes_served failed goes_on orders c target frame given middle ended after starv
     let first = call_does run failed goes_on orders c target given middle ended k l e is_taken_at (λ s marks place w. take_in marks c place frame w)
     (λ s marks place w past at own. serve_acts c frame marks place w past at)
     (λ place marks work agree. serve_agrees failed c frame place marks work agree) of_kind in
-    let taking : (marks : List Mark) (place : ℕ) (w : World) → Extends w (take_in marks c place frame w) =
+    let taking : (marks : List Mark) (place : ℕ) (w : World) → Prolongs w (take_in marks c place frame w) =
     λ marks place w. on-take_in (goes_walk marks) c place frame w tt in
-    let finishing : (marks : List Mark) (place : ℕ) (w : World) → Extends w (settle_for marks place target (carry_out_for c target orders w)) =
+    let finishing : (marks : List Mark) (place : ℕ) (w : World) → Prolongs w (settle_for marks place target (carry_out_for c target orders w)) =
     λ marks place w. on-then w (carry_out_for c target orders w) _ (on-carry_out_for (goes_walk []) c target orders w (λ t e. tt))
     (on-settle_for (goes_walk marks) place target (carry_out_for c target orders w) (λ t e. tt)) in
     let both = does_then is_taken_at is_done_at is_step_at (λ s marks place w. take_in marks c place frame w)

@@ -8,7 +8,7 @@ use Rattle.iscsi_target.specs.Life.{Life, Over, ended_in, born}
 use Rattle.iscsi_target.specs.World.{Setting, World, is_present, over, end, bring, happen, begun_event, happened}
 use Rattle.iscsi_target.specs.Isolation.{named_in}
 use Rattle.iscsi_target.proofs.Following.{Asks, asks_same, LivesFollow}
-use Rattle.iscsi_target.proofs.Keeping.{Extends, on-bring}
+use Rattle.iscsi_target.proofs.Keeping.{Prolongs, on-bring}
 use Rattle.iscsi_target.proofs.Choices.{cond_true, cond_false}
 use Rattle.iscsi_target.proofs.IsolatedLives.{AllFrom, Selection, HasTarget, all_front}
 use Rattle.iscsi_target.proofs.IsolatedLogin.{named_later}
@@ -69,7 +69,7 @@ pub named_before : (g : Selection) (directory : KnownTargets) (w v : World) → 
 unfolding Adds
 named_before g directory w v adds all = back_from g directory 0 w.lives v.lives adds all
 
-pub adds-goes : (w v : World) → Extends w v → Adds w v
+pub adds-goes : (w v : World) → Prolongs w v → Adds w v
 unfolding Adds
 adds-goes w v goes = lives_ask w.lives v.lives goes.lives
 

@@ -18,7 +18,7 @@ use Rattle.iscsi_target.proofs.IsolatedLives.{AllFrom, Selection, HasTarget, Fit
 use Rattle.iscsi_target.proofs.IsolatedLogin.{target_of, named_asked, full_target, reply_alike}
 use Rattle.iscsi_target.specs.Laws.{LogsIn}
 use Rattle.iscsi_target.proofs.Walks.{EventWalk, IsAnyFrame, any_arrivals, logs_there, on-arrivals, on-brought}
-use Rattle.iscsi_target.proofs.Keeping.{Extends, goes, on-replied, asked_logs}
+use Rattle.iscsi_target.proofs.Keeping.{Prolongs, goes, on-replied, asked_logs}
 use Rattle.iscsi_target.proofs.IsolatedAsking.{Named, AreNamed, named_before, adds-goes}
 use Rattle.iscsi_target.proofs.IsolatedWorlds.{Agree, present_in, session_target, named_same}
 use Rattle.iscsi_target.proofs.IsolatedFits.{keeps_same}
@@ -207,7 +207,7 @@ in_bring g s c piece w v on named agree =
 
 -- what is done on a connection of another life leaves no trace where the other lives are left out
 out_event : (g : Selection) (s : Setting) (c : ℕ) (v : World) → g.keeps_on c ≡ false
-    → EventWalk s [] c (λ w u. Extends w u × (AreNamed g s.directory u → Agree g w v → Agree g u v)) IsAnyFrame
+    → EventWalk s [] c (λ w u. Prolongs w u × (AreNamed g s.directory u → Agree g w v → Agree g u v)) IsAnyFrame
 out_event g s c v on =
     let k = goes s [] c in
     record {

@@ -84,15 +84,15 @@ record Keeps (f : Life → Life) (x : Life) : Type 0 where
   past_login : IsPastLogin x (f x)
 
 -- each life goes on, and what was reached stays so
-pub record Extends (w v : World) : Type 0 where
+pub record Prolongs (w v : World) : Type 0 where
   pub lives : LivesFollow w.lives v.lives
   pub stays : (d : ℕ) → Stays (present d w) (present d v)
   pub reached : (more : List Mark) × (v.reached ≡ w.reached ++ more)
 
-pub on-same : (w : World) → Extends w w
+pub on-same : (w : World) → Prolongs w w
 on-same w = record { lives = lives_same w.lives; stays = λ d. stays_same (present d w); reached = ([], sym (append-nil w.reached)) }
 
-pub on-then : (w v u : World) → Extends w v → Extends v u → Extends w u
+pub on-then : (w v u : World) → Prolongs w v → Prolongs v u → Prolongs w u
 on-then w v u a b = record {
   lives = lives_then w.lives v.lives u.lives a.lives b.lives;
   stays = λ d. stays_then (present d w) (present d v) (present d u) (a.stays d) (b.stays d);
@@ -112,7 +112,7 @@ reached_same : (f : Life → Life) (c : ℕ) (w : World) → (changed f c w).rea
 unfolding changed
 reached_same f c w = sym (append-nil w.reached)
 
-on-changed : (f : Life → Life) (c : ℕ) (w : World) → IsPlaced f → ((life : Life) → present c w ≡ Some life → Keeps f life) → Extends w (changed f c w)
+on-changed : (f : Life → Life) (c : ℕ) (w : World) → IsPlaced f → ((life : Life) → present c w ≡ Some life → Keeps f life) → Prolongs w (changed f c w)
 on-changed f c w placed each = record {
   lives = lives_of f c w (λ life at. (each life at).goes);
   stays = λ d. elim (eqb_tells d c) [
@@ -122,12 +122,12 @@ on-changed f c w placed each = record {
   reached = ([], reached_same f c w);
 }
 
-on-cond : (b : Bool) (v u w : World) → Extends w v → Extends w u → Extends w (cond b v u)
+on-cond : (b : Bool) (v u w : World) → Prolongs w v → Prolongs w u → Prolongs w (cond b v u)
 on-cond true v u w d e = d
 on-cond false v u w d e = e
 
 -- the same lives
-with_lives : (w v u : World) → Extends w v → u.lives ≡ v.lives → (more : List Mark) → u.reached ≡ v.reached ++ more → Extends w u
+with_lives : (w v u : World) → Prolongs w v → u.lives ≡ v.lives → (more : List Mark) → u.reached ≡ v.reached ++ more → Prolongs w u
 with_lives w v u a e more r = record {
   lives = subst (LivesFollow w.lives) (sym e) a.lives;
   stays = λ d. subst (Stays (present d w)) (sym (present-lives d u v e)) (a.stays d);
@@ -150,12 +150,12 @@ ended_keeps life = record {
 
 -- ---- the steps
 
-pub on-close : (c : ℕ) (w : World) → Extends w (close c w)
+pub on-close : (c : ℕ) (w : World) → Prolongs w (close c w)
 unfolding close
 on-close c w = with_lives w (changed (ended_in Closing) c w) (close c w)
     (on-changed (ended_in Closing) c w ended_placed (λ life at. ended_keeps life)) refl [] (sym (append-nil _))
 
-pub on-reaching : (c : ℕ) (points : List Point) (w : World) → Extends w (reaching c points w)
+pub on-reaching : (c : ℕ) (points : List Point) (w : World) → Prolongs w (reaching c points w)
 on-reaching c points w = record {
   lives = lives_same w.lives;
   stays = λ d. subst (Stays (present d w)) (sym (present-reaching d c points w))
@@ -182,7 +182,7 @@ answered_continues answer life open_ none = record {
 logs_in_is : (phase : Phase) → phase ≡ LoggingIn → (is_over phase ≡ false) × (session_answers phase ≡ [])
 logs_in_is phase e = rw e (refl, refl)
 
-on-answered : (answer : Answer) (c : ℕ) (w : World) → LogsIn c w → Extends w (changed (answered answer) c w)
+on-answered : (answer : Answer) (c : ℕ) (w : World) → LogsIn c w → Prolongs w (changed (answered answer) c w)
 on-answered answer c w logs = on-changed (answered answer) c w (answered_placed answer) (λ life at.
     (let is = logs_in_is life.phase (logs life at) in
     record { goes = answered_continues answer life is.0 is.1; bytes = refl; reads_so = λ e. e; past_login = λ past. (past, refl) }))
@@ -204,17 +204,17 @@ begun_keeps : (session : SessionParams) (answer : Answer) (life : Life) → life
 begun_keeps session answer life e =
     record { goes = begun_continues session answer life e; bytes = refl; reads_so = λ r. ap reads e; past_login = λ past. (refl, refl) }
 
-on-begins : (session : SessionParams) (answer : Answer) (c : ℕ) (w : World) → LogsIn c w → Extends w (begins session answer c w)
+on-begins : (session : SessionParams) (answer : Answer) (c : ℕ) (w : World) → LogsIn c w → Prolongs w (begins session answer c w)
 on-begins session answer c w logs =
     with_lives w (changed (begun session answer) c w) (begins session answer c w)
     (on-changed (begun session answer) c w (begun_placed session answer) (λ life at. begun_keeps session answer life (logs life at))) refl []
     (sym (append-nil _))
 
-pub on-end_older : (o : Option ℕ) (w : World) → Extends w (end_older o w)
+pub on-end_older : (o : Option ℕ) (w : World) → Prolongs w (end_older o w)
 on-end_older None w = on-same w
 on-end_older (Some d) w = on-changed (ended_in Closing) d w ended_placed (λ life at. ended_keeps life)
 
-pub on-replied : (reply : Reply) (c : ℕ) (w : World) → LogsIn c w → Extends w (replied reply c w)
+pub on-replied : (reply : Reply) (c : ℕ) (w : World) → LogsIn c w → Prolongs w (replied reply c w)
 on-replied (GoOn response) c w logs = on-answered (answers.LoginResponse response) c w logs
 on-replied (Refused response) c w logs =
     let v = changed (answered (answers.LoginResponse response)) c w in
@@ -227,7 +227,7 @@ pub asked_logs : (c : ℕ) (request : Frame) (w : World) → LogsIn c w → Logs
 asked_logs c request w logs = λ life at. (let was = present-was (asked request) c w life (asked_placed request) at in
     ap (λ (l : Life). l.phase) (sym was.2) ∙ logs was.0 was.1)
 
-on-log_in : (s : Setting) (c : ℕ) (request : Frame) (w : World) → LogsIn c w → Extends w (log_in s c request w)
+on-log_in : (s : Setting) (c : ℕ) (request : Frame) (w : World) → LogsIn c w → Prolongs w (log_in s c request w)
 unfolding log_in
 on-log_in s c request w logs =
     let v = changed (asked request) c w in
@@ -270,26 +270,26 @@ past_keeps c w past then_ life more there at grow = record {
 
 -- the steps were done on the session of the connection
 on-worked_on : (c : ℕ) (past : Past) (work : Work) (w : World) → past_of (present c w) ≡ Some past → (more : List Answer)
-    → work.past.answers ≡ past.answers ++ more → Extends w (worked_on c work w)
+    → work.past.answers ≡ past.answers ++ more → Prolongs w (worked_on c work w)
 on-worked_on c past work w at more grow =
     with_lives w (changed (with_past work.past) c w) (worked_on c work w)
     (on-changed (with_past work.past) c w (worked_placed work.past) (λ life there. past_keeps c w past work.past life more there at grow)) refl _ refl
 
 on-worked : (c : ℕ) (past : Past) (work : Work) (w : World) → past_of (present c w) ≡ Some past → (more : List Answer)
-    → work.past.answers ≡ past.answers ++ more → Extends w (worked c work w)
+    → work.past.answers ≡ past.answers ++ more → Prolongs w (worked c work w)
 unfolding worked
 on-worked c past work w at more grow =
     let first = on-worked_on c past work w at more grow in
     on-cond work.goes_on (worked_on c work w) (close c (worked_on c work w)) w first
     (on-then w (worked_on c work w) (close c (worked_on c work w)) first (on-close c (worked_on c work w)))
 
-pub on-reset : (header : List ℕ) (target : ℕ) (w : World) → Extends w (reset header target w)
+pub on-reset : (header : List ℕ) (target : ℕ) (w : World) → Prolongs w (reset header target w)
 unfolding reset
 on-reset header target w = with_lives w w (reset header target w) (on-same w) refl [] (sym (append-nil w.reached))
 
 -- ---- all that a piece of bytes sets off
 
-pub goes_walk : (marks : List Mark) → Walk marks Extends IsAnyFrame IsAny
+pub goes_walk : (marks : List Mark) → Walk marks Prolongs IsAnyFrame IsAny
 goes_walk marks = record {
   same = on-same;
   then_ = on-then;
@@ -303,7 +303,7 @@ goes_walk marks = record {
   resets = λ header target w own. on-reset header target w;
 }
 
-pub goes : (s : Setting) (marks : List Mark) (c : ℕ) → EventWalk s marks c Extends IsAnyFrame
+pub goes : (s : Setting) (marks : List Mark) (c : ℕ) → EventWalk s marks c Prolongs IsAnyFrame
 goes s marks c = record {
   same = on-same;
   then_ = on-then;

@@ -26,7 +26,7 @@ use Rattle.iscsi_target.proofs.Standing.{present-begun}
 use Rattle.iscsi_target.proofs.LoggingIn.{map_sessions}
 use Rattle.iscsi_target.proofs.Marks.{unmarked}
 use Rattle.iscsi_target.proofs.Walks.{Walk, EventWalk, IsAny, IsAnyFrame, any_arrivals, logs_there, on-serve, on-brought}
-use Rattle.iscsi_target.proofs.Keeping.{Extends, Stays, goes_walk, on-end_older, world-push}
+use Rattle.iscsi_target.proofs.Keeping.{Prolongs, Stays, goes_walk, on-end_older, world-push}
 use Rattle.iscsi_pdu.specs.declared.answer.Answer.{Answer}
 
 -- ---- a session that is settled goes on, where no allocation fails
@@ -143,7 +143,7 @@ module _ (s : Setting) (c d : ℕ) (w : World) (differ : d ≢ c) where
       let both = stays.2 past in (both.1, λ z at is. (let same : y ≡ z = cc in absurd (cc (both.0, ap (λ (l : Life). logs_in l.phase) same, ap logs_in is))))
 
   -- after the login
-  behind : (v u : World) (x : Life) → Extends v u → present c v ≡ Some x → logs_in x.phase ≡ false → Spares d v u → Spared s c d w v → Spared s c d w u
+  behind : (v u : World) (x : Life) → Prolongs v u → present c v ≡ Some x → logs_in x.phase ≡ false → Spares d v u → Spared s c d w v → Spared s c d w u
   behind v u x goes at past forth spared =
       let kept = past_kept x (present c u) (subst (λ (o : Option Life). Stays o (present c u)) at (goes.stays c)) past in
       record {
