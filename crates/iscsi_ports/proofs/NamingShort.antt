@@ -2,7 +2,7 @@
 use Rattle.std.proofs.Common.{◌≡◌, ℕ, ◌+◌, ◌-◌, ◌<◌, ◌≤◌, min, List, length, Bool, true, false, ◌&&◌, not, refl, sym, ap, subst, ◌∙◌, inl, inr, arith}
 use Rattle.std.specs.Prelude.{nat_le, nat_lt, replicate, slice_set, if◌then◌else◌}
 use Rattle.std.proofs.lemmas.Bool.{leb-true, leb-false, le-leb, lt-leb, ltb-true, ltb-false, lt-ltb, cases_eq}
-use Rattle.std.proofs.lemmas.List.{get_or-set_same, get_or-set_other, get_or-replicate}
+use Rattle.std.proofs.lemmas.List.{get_or-set_same, get_or-set_other, get_or-replicate, length-replicate, length-set}
 use Rattle.iscsi_ports.specs.Flags.{flag_of}
 use Rattle.iscsi_ports.specs.Turns.{is_short, is_before, short_from, start_of, first_after, IsPart, turns_to}
 use Rattle.iscsi_ports.specs.declared.turns.Part.{Part}
@@ -33,6 +33,7 @@ module _ (ready : List Bool) (turns : Turns) where
     pub counted : short_from ready turns (start_of turns) ≡ count + short_from ready turns i
     pub few : count + start_of turns ≤ i
     pub limited : count ≤ turns.more + 1
+    pub all : length chosen ≡ 64
 
   pub none_chosen : AreChosen (replicate 64 false) 0 (start_of turns)
   none_chosen = record {
@@ -40,6 +41,7 @@ module _ (ready : List Bool) (turns : Turns) where
     counted = omega arith;
     few = omega arith;
     limited = omega arith;
+    all = length-replicate 64 false;
   }
 
   module _ (chosen : List Bool) (count i : ℕ) (lt : i < 64) (was : AreChosen chosen count i) where
@@ -52,8 +54,8 @@ module _ (ready : List Bool) (turns : Turns) where
         was.names d in_range
         ∙ ap (λ b. short d && (nat_le (start_of turns) d && not b)) (sym (past_one i d other))
 
-    pub one_more : length chosen ≡ 64 → short i ≡ true → count ≤ turns.more → AreChosen (slice_set chosen i true) (count + 1) (i + 1)
-    one_more all is few = record {
+    pub one_more : short i ≡ true → count ≤ turns.more → AreChosen (slice_set chosen i true) (count + 1) (i + 1)
+    one_more is few = record {
       names = λ d in_range. elim (cases_eq i d) [
         | inl same ↦ subst (λ k. flag_of k (slice_set chosen i true) ≡ is_before ready turns (i + 1) k) same here
         | inr other ↦ get_or-set_other chosen i d true false (λ same. other (sym same)) ∙ other_stays d in_range other
@@ -61,12 +63,13 @@ module _ (ready : List Bool) (turns : Turns) where
       counted = was.counted ∙ ap (λ n. count + n) (counted_here short i lt is) ∙ omega arith;
       few = omega (arith, was.few);
       limited = omega (arith, few);
+      all = length-set chosen i true ∙ was.all;
     }
       where
         here : flag_of i (slice_set chosen i true) ≡ is_before ready turns (i + 1) i
         here =
             let from_start : start_of turns ≤ i = omega (arith, was.few) in
-            get_or-set_same chosen i true false (omega (arith, lt, all))
+            get_or-set_same chosen i true false (omega (arith, lt, was.all))
             ∙ sym (rw (is, le-leb (start_of turns) i from_start, lt-leb (i + 1) i (omega arith)) refl)
 
     pub no_more : short i ≡ false → AreChosen chosen count (i + 1)
@@ -78,22 +81,23 @@ module _ (ready : List Bool) (turns : Turns) where
       counted = was.counted ∙ ap (λ n. count + n) (counted_next short i lt is);
       few = omega (arith, was.few);
       limited = was.limited;
+      all = was.all;
     }
 
     -- the one at this number is too many
-    pub is_full : length chosen ≡ 64 → short i ≡ true → turns.more < count → IsPart ready turns (record { named = chosen; count = count; next = i })
-    is_full all is full = record {
+    pub is_full : short i ≡ true → turns.more < count → IsPart ready turns (record { named = chosen; count = count; next = i })
+    is_full is full = record {
       names = was.names;
       counted = was.counted;
       few = was.limited;
       full = λ less. (omega (arith, was.few, full), is, omega (arith, was.limited, full));
       within = omega (arith, lt);
-      all = all;
+      all = was.all;
     }
 
-  pub is_whole : (chosen : List Bool) (count i : ℕ) → length chosen ≡ 64 → 64 ≤ i → AreChosen chosen count i
+  pub is_whole : (chosen : List Bool) (count i : ℕ) → 64 ≤ i → AreChosen chosen count i
       → IsPart ready turns (record { named = chosen; count = count; next = 64 })
-  is_whole chosen count i all above was = record {
+  is_whole chosen count i above was = record {
     names = λ d lt.
         let outside = lt-leb i d (omega (arith, lt, above)) ∙ sym (lt-leb 64 d lt) in
         was.names d lt ∙ ap (λ b. is_short ready turns d && (nat_le (start_of turns) d && not b)) outside;
@@ -101,7 +105,7 @@ module _ (ready : List Bool) (turns : Turns) where
     few = was.limited;
     full = λ less. absurd (omega (arith, less));
     within = omega arith;
-    all = all;
+    all = was.all;
   }
     where
       none_after : short_from ready turns i ≡ short_from ready turns 64

@@ -1,5 +1,5 @@
 -- For how long a poll waits that limits a wait.
-use Rattle.std.proofs.Common.{◌≡◌, ℕ, zero, suc, Option, Some, None, Bool, true, false, min, refl, arith}
+use Rattle.std.proofs.Common.{◌≡◌, ℕ, zero, suc, Option, Some, None, Bool, true, false, min, refl, sym, ◌∙◌, arith}
 use Rattle.std.proofs.lemmas.Bool.{ne_eqb}
 use Rattle.iscsi_ports.specs.Polls.{IsNoLonger, wait_for}
 use Rattle.iscsi_ports.specs.Lingering.{is_at_once}
@@ -24,4 +24,5 @@ pub limited_at_once : (limits : Bool) (wait : Option ℕ) → is_at_once (wait_f
 limited_at_once false wait = refl
 limited_at_once true None = refl
 limited_at_once true (Some zero) = refl
-limited_at_once true (Some (suc time)) = rw (ne_eqb (min (suc time) 1000000000) 0 (omega arith)) refl
+limited_at_once true (Some (suc time)) =
+    ne_eqb (min (suc time) 1000000000) 0 (omega arith) ∙ sym (ne_eqb (suc time) 0 (omega arith))

@@ -68,13 +68,13 @@ returns-clause-lingering c = λ d.
 pub returns-clause-idle : goal.returns-clause-idle
 returns-clause-idle c =
     let waited : waited_in c.polled.new.self ≡ option_map as_nanos c.wait_beside-wait.result = ap waited_in c.polled.ensures in
-    rw (waited, sym c.is_empty.ensures) c.drop_idle.ensures.idle
+    rw (waited, sym c.is_empty-met_event.ensures) c.drop_idle.ensures.idle
 
 pub returns-clause-lingers : goal.returns-clause-lingers
 returns-clause-lingers c =
     let waited : waited_in c.polled.new.self ≡ option_map as_nanos c.wait_beside-wait.result = ap waited_in c.polled.ensures in
     let turns : c.turns_of-turns.result ≡ turns_for (waited_in c.polled.new.self) (not (length (items c.poll.new.events) == 0)) =
-    rw (waited, sym c.is_empty.ensures) c.turns_of-turns.ensures.value in
+    rw (waited, sym c.is_empty-met_event.ensures) c.turns_of-turns.ensures.value in
     let at_once : is_at_once (waited_in c.polled.new.self) ≡ is_at_once (option_map as_nanos c.drain-wait.result) =
     ap is_at_once (waited ∙ c.wait_beside-wait.ensures)
     ∙ limited_at_once (nat_lt 0 (length c.args.self.now.spares.buffers.items)) (option_map as_nanos c.drain-wait.result) in

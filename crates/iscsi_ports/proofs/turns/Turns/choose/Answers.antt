@@ -12,7 +12,7 @@ loop-c-init c =
 pub returns-then-count-self : goal.returns-then-count-self
 returns-then-count-self c =
     is_full c.args.ready.now c.args.self.now c.loop-c.chosen c.loop-c.count c.loop-c.c c.loop-c-test.true c.loop-c.invariant
-    (omega arith) c.if-ready-c.true c.if-count-self.true
+    c.if-ready-c.true c.if-count-self.true
 
 pub loop-c-preserved : goal.loop-c-preserved
 loop-c-preserved c =
@@ -21,7 +21,7 @@ loop-c-preserved c =
       | then-ready-c+else-count-self w ↦
           rw (w.chosen-is, w.count-is)
           (one_more c.args.ready.now c.args.self.now c.loop-c.chosen c.loop-c.count i c.loop-c-test.true c.loop-c.invariant
-          (omega arith) w.if-ready-c.true w.if-count-self.false)
+          w.if-ready-c.true w.if-count-self.false)
       | else-ready-c w ↦
           rw (w.chosen-is, w.count-is)
           (no_more c.args.ready.now c.args.self.now c.loop-c.chosen c.loop-c.count i c.loop-c-test.true c.loop-c.invariant
@@ -30,5 +30,5 @@ loop-c-preserved c =
 
 pub returns : goal.returns
 returns c =
-    is_whole c.args.ready.now c.args.self.now c.loop-c.chosen c.loop-c.count c.loop-c.c (omega arith)
+    is_whole c.args.ready.now c.args.self.now c.loop-c.chosen c.loop-c.count c.loop-c.c
     (omega (arith, c.loop-c-test.false)) c.loop-c.invariant

@@ -20,8 +20,8 @@ returns-then-due-eq0 c =
       is_part = c.part-part.ensures;
       names = named_without ready turns c.part-part.result.named none;
       cursor = sym (ap (λ (t : Option ℕ). cursor_after t turns.cursor) none);
-      first = c.first_after.ensures;
-      more = c.more_after.ensures;
+      first = c.first_after-self.ensures;
+      more = c.more_after-self.ensures;
       left_out = left_out_is _ _ _ _ _ c.pass_over-due.ensures.count c.count_short-count.ensures;
       long = refl;
     }
@@ -36,8 +36,8 @@ returns-in-Some c =
       is_part = c.part-part.ensures;
       names = named_with ready turns c.part-part.result.named c.in-Some.c is c.part-part.ensures.all;
       cursor = sym (ap (λ (t : Option ℕ). cursor_after t turns.cursor) is);
-      first = c.first_after.ensures;
-      more = c.more_after.ensures;
+      first = c.first_after-self.ensures;
+      more = c.more_after-self.ensures;
       left_out = left_out_is _ _ _ _ _ c.pass_over-due.ensures.count c.count_short-count.ensures;
       long = refl;
     }
@@ -52,8 +52,8 @@ returns-in_default c =
       is_part = c.part-part.ensures;
       names = named_without ready turns c.part-part.result.named none;
       cursor = sym (ap (λ (t : Option ℕ). cursor_after t turns.cursor) none);
-      first = c.first_after.ensures;
-      more = c.more_after.ensures;
+      first = c.first_after-self.ensures;
+      more = c.more_after-self.ensures;
       left_out = left_out_is _ _ _ _ _ c.pass_over-due.ensures.count c.count_short-count.ensures;
       long = refl;
     }
