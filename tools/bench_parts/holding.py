@@ -18,6 +18,7 @@ WRITES = {"kind": "write", "length": MEBIBYTE, "window": 31}
 # Sessions that send the headers of WRITEs, and the aims in MiB and for the longest wait in milliseconds.
 ASKED, HEADERS_AIM, WAIT_AIM = 32, 32, 20
 ENDED, ENDED_AIM = 64, 8  # sessions that write and end, and the aim in MiB
+KEPT = 2  # seconds, more than the one for which read buffers are kept while nothing happens
 UNREAD_AIM, TURNS = 4, 3  # in KiB
 # The bytes that Data-Outs have, and the aim: how many times as much as has come may be held, beside so many KiB.
 LENGTHS, PARTS_AIM, BESIDE = (512, 4096, 16384, 65536, 262144), 2, 64
@@ -110,6 +111,7 @@ def left_of(bench, name):
         before = resident(served.pid)
         bench.ends.ask(served, connections=ENDED, count=WRITES["window"], **WRITES)
         settle(served.pid)
+        time.sleep(KEPT)
         return (resident(served.pid) - before) / MEBIBYTE
 
 
