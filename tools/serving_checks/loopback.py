@@ -176,16 +176,21 @@ def answer_of(client):
         data += segment
 
 
-def data_asked_for(client, number, content):
-    """For each R2T of the command with this number sends its data in pieces; says None for it, and last the status."""
+def send_asked(client, asked, content):
+    """Sends the data that an R2T asks for, in pieces."""
+    number, tag, at, length = struct.unpack(">II16xII", asked[16:48])
+    starts = range(at, at + length, 65536)
+    for n, start in enumerate(starts):
+        piece = content[start:min(start + 65536, at + length)]
+        client.sendall(notation.data(
+            f"[Data-Out {'F' if n + 1 == len(starts) else ''} ITT={number} TTT={tag} DataSN={n} "
+            f"BufferOffset={start} DataSegmentLength={len(piece)}]", {}) + piece)
+
+
+def data_asked_for(client, content):
+    """For each R2T of the one command that waits sends its data; says None for it, and last the status."""
     while (header := read(client, pdu.HEADER))[0] == 0x31:
-        tag, at, length = struct.unpack(">I", header[20:24]) + struct.unpack(">II", header[40:48])
-        starts = range(at, at + length, 65536)
-        for n, start in enumerate(starts):
-            piece = content[start:min(start + 65536, at + length)]
-            client.sendall(notation.data(
-                f"[Data-Out {'F' if n + 1 == len(starts) else ''} ITT={number} TTT={tag} DataSN={n} "
-                f"BufferOffset={start} DataSegmentLength={len(piece)}]", {}) + piece)
+        send_asked(client, header, content)
         yield None
     yield header[3]
 
@@ -195,7 +200,7 @@ def writing(client, number, address, content):
     client.sendall(notation.data(f"[SCSI-Command F W ITT={number} CmdSN={number} "
                                  f"ExpectedDataTransferLength={len(content)} "
                                  f"CDB=2a00{address:08x}00{len(content) // 512:04x}]", {}))
-    yield from data_asked_for(client, number, content)
+    yield from data_asked_for(client, content)
 
 
 def held_clients(address, count):

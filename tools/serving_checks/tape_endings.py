@@ -55,7 +55,7 @@ def is_written(tape, content):
     tape.number += 1
     tape.client.sendall(notation.data(f"[SCSI-Command F W ITT={tape.number} CmdSN={tape.number} "
                                       f"ExpectedDataTransferLength={len(content)} CDB=0a00{len(content):06x}00]", {}))
-    return list(data_asked_for(tape.client, tape.number, content))[-1] == 0
+    return list(data_asked_for(tape.client, content))[-1] == 0
 
 
 def grows(path):
