@@ -53,7 +53,7 @@ count_below (suc n) k (suc i) came true h lt =
     ap (has_come came) at ∙ count_below n (suc k) i came _ refl below
 count_below (suc n) k i came false h lt = absurd (omega (arith, count_missing n k came h))
 
--- the one behind them has not, where some were left to count
+-- the one after them has not, where some were left to count
 count_stops : (n k : ℕ) (came : List ℕ) (b : Bool) → has_come came k ≡ b → count n k came < n → has_come came (k + count n k came) ≡ false
 count_stops zero k came b h lt = absurd (omega arith)
 count_stops (suc n) k came true h lt =

@@ -84,7 +84,7 @@ blocks_of-append count rest bytes content long =
     let same : blocks_of count (bytes ++ content) ≡ blocks_of count bytes = rw front at (sym (blocks_of-take count count (bytes ++ content) (omega arith))) in
     blocks_of-split count (count + rest) (bytes ++ content) (omega arith) ∙ rw (others, behind, same) refl
 
--- the blocks behind a range
+-- the blocks after a range
 drop-range : (first count n : ℕ) (content : List ℕ) → first + count ≤ n
     → drop (first + count) (blocks_of n content) ≡ blocks_of (n - (first + count)) (drop (block_length * first + block_length * count) content)
 drop-range first count n content within =

@@ -29,7 +29,7 @@ front-same first k block blocks within =
     rw (← append_assoc (take first blocks) (replicate k block) (drop (first + length (replicate k block)) blocks))
     (take_at (take first blocks ++ replicate k block) _ (first + k) long)
 
--- what lies behind the first k blocks
+-- what lies after the first k blocks
 behind-same : (first k m : ℕ) (block : List ℕ) (blocks : List (List ℕ)) → first + k ≤ length blocks
     → drop (first + k + m) (replaced first (replicate k block) blocks) ≡ drop (first + k + m) blocks
 behind-same first k m block blocks within =

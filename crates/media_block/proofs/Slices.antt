@@ -1,4 +1,4 @@
--- Bytes that are written slice by slice, one behind the other.
+-- Bytes that are written slice by slice, one after the other.
 use Rattle.std.proofs.Common.{◌≡◌, ℕ, ◌+◌, ◌-◌, ◌≤◌, min, List, ◌++◌, length, take, drop, refl, ap, sym, subst, ◌∙◌, arith, append_assoc}
 use Rattle.std.proofs.Math.Seq.{take-add}
 use Rattle.std.proofs.lemmas.List.{take-take, take-append-le, drop-drop, take_at, drop_at, length-append, length-drop, length-take-le}
@@ -22,7 +22,7 @@ behind-written at m bytes content within =
     (drop_at (take at content ++ bytes) (drop (at + length bytes) content) (at + length bytes) long) in
     sym (drop-drop m (at + length bytes) (written at bytes content)) ∙ ap (drop m) rest ∙ drop-drop m (at + length bytes) content
 
--- two slices that are written one behind the other are written joined
+-- two slices that are written one after the other are written joined
 pub written-joined : (at : ℕ) (first second content : List ℕ) → at + (length first + length second) ≤ length content
     → written (at + length first) second (written at first content) ≡ written at (first ++ second) content
 written-joined at first second content within =
@@ -32,7 +32,7 @@ written-joined at first second content within =
     ∙ rw (front-written at first content (omega arith), behind-written at (length second) first content (omega arith)) (
     sym (written-within at (first ++ second) content (omega arith) ∙ rw both (simp append_assoc)))
 
--- m more bytes of the data, behind the first k
+-- m more bytes of the data, after the first k
 pub written-more : (at k m : ℕ) (bytes «data» content : List ℕ) → k + m ≤ length «data» → at + (k + m) ≤ length content
     → bytes ≡ take m (drop k «data»)
     → written (at + k) bytes (written at (take k «data») content) ≡ written at (take (k + m) «data») content
@@ -44,7 +44,7 @@ written-more at k m bytes «data» content enough within is =
     ∙ written-joined at (take k «data») bytes content (omega (arith, first, second, within))
     ∙ ap (λ (x : List ℕ). written at x content) both
 
--- a slice behind the first k bytes whose write failed
+-- a slice after the first k bytes whose write failed
 torn-behind : (at m n : ℕ) (bytes content new : List ℕ) → length bytes + m ≤ n → at + n ≤ length content
     → KeepsOutside (at + length bytes) m (written at bytes content) new → KeepsOutside at n content new
 torn-behind at m n bytes content new below within kept =
@@ -71,7 +71,7 @@ torn-more at k m n bytes content new is below within kept =
     torn-behind at m n bytes content new (omega (arith, is, below)) within
     (subst (λ (x : ℕ). KeepsOutside (at + x) m (written at bytes content) new) (sym is) kept)
 
--- of data from a place on, the bytes in front, and what lies behind them
+-- of data from a place on, the bytes in front, and what lies after them
 pub front-slice : (k m : ℕ) (front behind «data» : List ℕ) → front ++ behind ≡ drop k «data» → m ≤ length front → take m front ≡ take m (drop k «data»)
 front-slice k m front behind «data» is within = sym (take-append-le m front behind within) ∙ ap (take m) is
 

@@ -1,4 +1,4 @@
--- What a store says of a call, from what the whole read or write behind it was.
+-- What a store says of a call, from what the whole read or write below it was.
 use Rattle.std.proofs.Common.{◌≡◌, ℕ, ◌+◌, ◌&&◌, Bool, true, IsTrue, List, length, take, slice_range, refl, sym, ◌∙◌, ap, arith, rules, Result, Ok, Err, is_ok, OnOk, OnErr, bytes_eq}
 use Rattle.std.proofs.lemmas.List.{take_all, places}
 use Rattle.std.proofs.lemmas.Bool.{and_parts}

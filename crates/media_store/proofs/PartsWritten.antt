@@ -10,7 +10,7 @@ use Rattle.media_store.specs.Whole.{HasWritten}
 use Rattle.media_store.proofs.Writes.{written-some}
 use Rattle.media_store.proofs.Joined.{and_true}
 
--- so many of the bytes have been written; behind them a failed call may have left others
+-- so many of the bytes have been written; after them a failed call may have left others
 pub record HasPutTo (origin : Origin) (at : ℕ) (bytes : List ℕ) (done : ℕ) (old new : List FileCall) : Type 0 where
   pub put : List ℕ
   pub within : length put ≤ length bytes
@@ -25,7 +25,7 @@ length-overlaid at bytes content = search (rules, places)
 regrouped : (a b c d e : List ℕ) → (a ++ b) ++ (c ++ (d ++ e)) ≡ a ++ ((b ++ (c ++ d)) ++ e)
 regrouped a b c d e = simp append_assoc
 
--- bytes behind each other, cut within the second list
+-- bytes after each other, cut within the second list
 head : (front middle back : List ℕ) (at d : ℕ) → length front ≡ at → d ≤ length middle
     → take (at + d) (front ++ (middle ++ back)) ≡ front ++ take d middle
 head front middle back at d is within = same_lists _ _ (search (rules, places)) (λ k e h. grind (arith, places))
@@ -42,7 +42,7 @@ resized-below n content within =
     let none : n - length content ≡ 0 = omega arith in
     rw (none, append-nil (take n content)) refl
 
--- a write over a part of another one, or on behind it
+-- a write over a part of another one, or going on after it
 overlaid-overlaid : (at d : ℕ) (first second content : List ℕ) → d ≤ length first
     → overlaid (at + d) second (overlaid at first content) ≡ overlaid at (overlaid d second first) content
 overlaid-overlaid at d first second content within =
@@ -184,7 +184,7 @@ HasPutTo-none origin at bytes calls = record {
   honest = refl;
 }
 
--- a part is put behind those that stand there, of the bytes that are to be written or, where the call failed, of any
+-- a part is put after those that stand there, of the bytes that are to be written or, where the call failed, of any
 put-more : (origin : Origin) (at : ℕ) (bytes part : List ℕ) (done end : ℕ) (old now after : List FileCall)
     → done ≤ length bytes → done + length part ≤ length bytes
     → (p : HasPutTo origin at bytes done old now)

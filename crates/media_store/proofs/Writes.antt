@@ -1,4 +1,4 @@
--- Bytes written over others, and behind them.
+-- Bytes written over others, and after them.
 use Rattle.std.proofs.Common.{◌≡◌, ℕ, ◌+◌, ◌-◌, ◌<◌, ◌≤◌, nat_lt, true, List, [], ◌++◌, length, take, drop, refl, arith, rules}
 use Rattle.std.proofs.lemmas.List.{append-nil, take_all, drop_all, same_lists, places, length-append, length-replicate}
 use Rattle.media_store.specs.Content.{resized, overlaid, written}

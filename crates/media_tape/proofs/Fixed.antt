@@ -1,4 +1,4 @@
--- Blocks among the items behind a position: what a read gives of them.
+-- Blocks among the items after a position: what a read gives of them.
 use Rattle.std.proofs.Common.{◌≡◌, ℕ, zero, suc, ◌+◌, ◌-◌, ◌*◌, ◌≤◌, ◌<◌, List, [], ◌∷◌, length, take, drop, sum, slice_range, get_or, drop-cons, ◌++◌}
 use Rattle.std.proofs.Common.{Bool, true, false, ◌==◌, ◌⊎◌, inl, inr, refl, ap, sym, ◌∙◌, arith, eq-eqb}
 use Rattle.std.proofs.Math.Nat.{eq-or-lt_of_le}

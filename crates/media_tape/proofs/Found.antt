@@ -6,7 +6,7 @@ use Rattle.byteorder.specs.Numbers.{big_from-take}
 use Rattle.media_tape.specs.Items.{most_bytes, front}
 use Rattle.media_tape.proofs.Items.{front-is, is-front, front-cases}
 
--- the number k bytes behind a place, below an end
+-- the number k bytes after a place, below an end
 pub number-behind : (content : List ℕ) (place k end : ℕ) → place + k + 4 ≤ end
     → big_number 4 (slice_range content (place + k) (place + k + 4)) ≡ big_number 4 (drop k (drop place (take end content)))
 number-behind content place k end within =

@@ -31,7 +31,7 @@ pub placed : (content sizes : List ℕ) (is_torn : Bool) (position : ℕ) → Ar
 placed content sizes is_torn position are =
     sym (sum-sizes (take position (shown content sizes))) ∙ ap sum (before_sized content sizes is_torn position are)
 
--- ---- others behind a position
+-- ---- others after a position
 
 -- a content goes on with these items from a place on, and where it is not torn it ends with them
 pub record HasEnd (place : ℕ) (new : List ℕ) (more : List Item) (is_torn : Bool) : Type 0 where
@@ -68,7 +68,7 @@ written_there content sizes new others was_torn position more are items long is 
       whole = λ none. all;
     }
 
--- the items before a position are left, and these stand behind them
+-- the items before a position are left, and these stand after them
 pub record IsLeft (content sizes new now : List ℕ) (position at : ℕ) (more : List Item) (is_torn : Bool) : Type 0 where
   pub are : AreIn new now is_torn
   pub before : take at (shown new now) ≡ take position (shown content sizes) ++ more
@@ -134,7 +134,7 @@ cut_indexed honest was_torn is_torn content sizes new position capacity was keep
   are_in = λ is. (cut_left content sizes new was_torn is_torn position (was.are_in is) was.within keeps (λ none. whole none is)).are;
 }
 
--- ---- the item behind a position
+-- ---- the item after a position
 
 -- of this length
 pub record IsNext (content sizes : List ℕ) (position n : ℕ) : Type 0 where

@@ -1,4 +1,4 @@
--- Items in front of bytes: one after the other, behind a place, and behind other bytes.
+-- Items in front of bytes: one after the other, after a place, and after other bytes.
 use Rattle.std.proofs.Common.{◌≡◌, ℕ, zero, suc, ◌+◌, ◌-◌, ◌≤◌, ◌<◌, Bool, true, false, IsTrue, if◌then◌else◌, List, [], ◌∷◌, ◌++◌, length}
 use Rattle.std.proofs.Common.{take, drop, Option, Some, None, ◌⊎◌, inl, inr, refl, ap, sym, subst, ◌∙◌, arith, rules, length-drop}
 use Rattle.std.proofs.Common.{length-append, All}
@@ -51,7 +51,7 @@ is-front bytes n is =
     ap (λ (m : ℕ). if is_whole m bytes then Some m else None) is.number
     ∙ if-true (is_whole n bytes) n (is-whole n bytes is.most is.within is.again)
 
--- ---- one item and those behind it
+-- ---- one item and those after it
 
 next : Option ℕ → ℕ → List ℕ → List Item
 next found most bytes =
@@ -124,7 +124,7 @@ found-cases (Some n) = inr (n, refl)
 pub front-cases : (bytes : List ℕ) → (front bytes ≡ None) ⊎ ((n : ℕ) × (front bytes ≡ Some n))
 front-cases bytes = found-cases (front bytes)
 
--- where a place is a sum of sizes, the items behind it are those of the bytes from there on
+-- where a place is a sum of sizes, the items after it are those of the bytes from there on
 pub drop-items_of : (k : ℕ) (bytes : List ℕ) → k ≤ length (items_of bytes)
     → drop k (items_of bytes) ≡ items_of (drop (size_of (take k (items_of bytes))) bytes)
 drop-items_of zero bytes within = refl
@@ -139,7 +139,7 @@ drop-items_of (suc k) bytes within =
           rw (is, length-front bytes n found.1, ← drop-drop (size_of (take k (items_of rest))) (n + 8) bytes) (drop-items_of k rest below)
     ]
 
--- bytes behind an item change nothing
+-- bytes after an item change nothing
 pub front-append : (n : ℕ) (bytes others : List ℕ) → front bytes ≡ Some n → front (bytes ++ others) ≡ Some n
 front-append n bytes others found =
     let is = front-is bytes n found in
@@ -154,7 +154,7 @@ front-append n bytes others found =
           ∙ big_from-append 4 (drop (n + 4) bytes) others (omega arith) ∙ is.again;
     })
 
--- nor those cut off behind it
+-- nor those cut off after it
 pub front-take : (n m : ℕ) (bytes : List ℕ) → front bytes ≡ Some n → n + 8 ≤ m → front (take m bytes) ≡ Some n
 front-take n m bytes found below =
     let is = front-is bytes n found in
@@ -186,7 +186,7 @@ items_of-front n bytes others found =
     items_of-next (take (n + 8) bytes ++ others) n (front-append n (take (n + 8) bytes) others cut)
     ∙ rw (bytes_in, drop_at (take (n + 8) bytes) others (n + 8) whole) refl
 
--- what comes behind a place leaves the items before it
+-- what comes after a place leaves the items before it
 pub items_of-replaced : (k : ℕ) (bytes others : List ℕ)
     → items_of (take (size_of (take k (items_of bytes))) bytes ++ others) ≡ take k (items_of bytes) ++ items_of others
 items_of-replaced zero bytes others = refl

@@ -36,7 +36,7 @@ run_here : (runs : List Run) (i : ℕ) → AreRuns no_run runs → i < length ru
     → HasRun (sizes_of no_run runs) (run_before runs i) (run_before runs (suc i))
 run_here runs i are lt = rw add-one at (has_run runs i are lt)
 
--- ---- behind a position
+-- ---- after a position
 
 on-mark : (runs : List Run) (at i : ℕ) → AreRuns no_run runs → i < length runs → count_to runs i ≤ at
     → at < count_to runs (suc i) → run_size runs i ≡ mark_size → past_records Forward at (sizes_of no_run runs) ≡ at

@@ -1,4 +1,4 @@
--- What runs say of the sizes of their items: those before a run, its own, and those behind it.
+-- What runs say of the sizes of their items: those before a run, its own, and those after it.
 use Rattle.std.proofs.Common.{◌≡◌, ℕ, zero, suc, ◌+◌, ◌-◌, ◌*◌, ◌^◌, ◌≤◌, ◌<◌, List, [], ◌∷◌, ◌++◌, length}
 use Rattle.std.proofs.Common.{take, drop, get_or, sum, refl, ap, sym, ◌∙◌, arith, append_assoc, add-one, mul-le-mul_left, drop-cons}
 use Rattle.std.specs.Prelude.{replicate}
@@ -10,7 +10,7 @@ use Rattle.media_tape.specs.Runs.{no_run, run_before, sizes_of, Follows, AreRuns
 use Rattle.media_tape.specs.declared.run.Run.{Run}
 use Rattle.media_tape.proofs.Alike.{sum-append, sum-replicate, alike-front, alike-behind, alike-taken, alike-sum, alike-size, alike-back}
 
--- runs up to one, which ends them, and those behind it; and where another ends them
+-- runs up to one, which ends them, and those after it; and where another ends them
 record IsCut (before : Run) (runs : List Run) (i : ℕ) (last : Run) : Type 0 where
   pub is : sizes_of before runs ≡ sizes_of before (take i runs) ++ sizes_of last (drop i runs)
   pub count : before.count + length (sizes_of before (take i runs)) ≡ last.count
@@ -164,7 +164,7 @@ is_last (run ∷ runs) last are is =
     (omega (arith, all.count)) in
     rw is (record { count = all.count; end = all.end; few = omega (arith, all.count, all.few); size = sym last_one })
 
--- ---- and others in the place of those behind it
+-- ---- and others in the place of those after it
 
 pub record AreThose (runs : List Run) (sizes : List ℕ) : Type 0 where
   pub are : AreRuns no_run runs

@@ -169,7 +169,7 @@ data-more (suc count) block_length from bytes is =
     ∙ ap (λ (xs : List ℕ). head ++ xs) (data-more count block_length inner rest refl)
     ∙ ap (λ n. data_in n block_length bytes) (sym e)
 
--- bytes behind them change nothing
+-- bytes after them change nothing
 pub data-take : (count block_length many : ℕ) (bytes : List ℕ) → count * (block_length + 8) ≤ many
     → data_in count block_length (take many bytes) ≡ data_in count block_length bytes
 data-take zero block_length many bytes long = refl

@@ -38,7 +38,7 @@ KeepsBefore-torn place at n old new below torn within = (
   sym (take-take place (min at (length old)) new (omega arith)) ∙ ap (take place) torn.before ∙ take-take place at old below,
 )
 
--- bytes behind all others
+-- bytes after all others
 pub written-behind : (at : ℕ) (bytes content : List ℕ) → length content ≡ at → written at bytes content ≡ content ++ bytes
 written-behind at [] content is = sym (append-nil content)
 written-behind at (byte ∷ bytes) content is =

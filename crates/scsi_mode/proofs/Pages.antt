@@ -27,7 +27,7 @@ and_then_same : (f g : Parameters → Result Parameters ListFault) (after : Resu
 and_then_same f g (Ok parameters) same = same parameters
 and_then_same f g (Err fault) same = refl
 
--- a whole page in front, then what is behind it
+-- a whole page in front, then what is after it
 pages_within-whole : (n : ℕ) (parameters : Parameters) (bytes : List ℕ) → has_page bytes ≡ true
     → pages_within (suc n) parameters bytes
     ≡ and_then (λ after. pages_within n after (drop (page_length bytes) bytes)) (after_page parameters (take (page_length bytes) bytes))

@@ -51,7 +51,7 @@ all_left (Some range) true blocks =
     (blocks_same (drop (range.first + range.count) blocks) (drop (range.first + range.count) blocks) refl)) (same_byte (length blocks))
 all_left (Some range) false blocks = same_byte (length blocks)
 
--- blocks behind a write to a range
+-- blocks after a write to a range
 pub others_left : (range : Range) (honest : Bool) (old left : List (List ℕ)) → (IsTrue honest → KeepsOthers range.first range.count old left)
     → length left ≡ length old → are_left (Some range) honest old left ≡ true
 others_left range true old left others as_many =

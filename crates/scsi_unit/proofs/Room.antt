@@ -1,8 +1,8 @@
--- Bytes that are read behind room for a header.
+-- Bytes that are read after room for a header.
 use Rattle.std.proofs.Common.{◌≡◌, ℕ, ◌+◌, ◌≤◌, List, ◌++◌, length, take, drop, ap, ◌∙◌, arith}
 use Rattle.std.proofs.lemmas.List.{take-append-le, drop-append-le, drop-take, drop_all, take_all, length-take, append_assoc}
 
--- the front of a buffer and the bytes behind it, whatever its length would leave behind them
+-- the front of a buffer and the bytes after it, whatever its length would leave after them
 pub read_behind : (whole got post rest : List ℕ) (n : ℕ) → 48 ≤ n → length whole ≡ n → length got + 48 ≡ n
     → drop 48 (take n ((take 48 whole ++ (got ++ post)) ++ rest)) ≡ got
 read_behind whole got post rest n above long fills =

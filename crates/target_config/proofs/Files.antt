@@ -29,7 +29,7 @@ true_or : (a b : Bool) → b ≡ true → (a || b) ≡ true
 true_or true b e = refl
 true_or false b e = e
 
--- the file of a unit comes again among those behind it
+-- the file of a unit comes again among those after it
 pub file_repeats : (units : List UnitConfiguration) (others : List UnitEntry) (i : ℕ) (unit : UnitConfiguration)
     → i < length units → unit ≡ get_or units i unit
     → list_any (λ other. shares_file (unit_view other) (unit_view unit)) (behind i units) ≡ true
@@ -39,7 +39,7 @@ file_repeats units others i unit lt e found =
     sym (tests (λ other. shares_file other (unit_view unit)) (drop (i + 1) units)) ∙ rw (behind-drop i units) at found in
     rw (drop_more units i unit lt, ← e, again) refl
 
--- or among those of the targets behind
+-- or among those of the targets after it
 pub file_repeats_behind : (units : List UnitConfiguration) (targets : List TargetConfiguration) (i : ℕ) (unit : UnitConfiguration)
     → i < length units → unit ≡ get_or units i unit
     → list_any (λ target. list_any (λ other. shares_file (unit_view other) (unit_view unit)) target.units.items) targets ≡ true
@@ -49,7 +49,7 @@ file_repeats_behind units targets i unit lt e found =
     (sym (tests_in (λ other. shares_file other (unit_view unit)) targets) ∙ found) in
     rw (drop_more units i unit lt, ← e, again) refl
 
--- it comes in neither, and the units behind it decide
+-- it comes in neither, and the units after it decide
 pub file_differs : (units : List UnitConfiguration) (targets : List TargetConfiguration) (i : ℕ) (unit : UnitConfiguration)
     → i < length units → unit ≡ get_or units i unit
     → list_any (λ other. shares_file (unit_view other) (unit_view unit)) (behind i units) ≡ false
@@ -66,7 +66,7 @@ and_assoc : (a b c : Bool) → ((a && b) && c) ≡ (a && (b && c))
 and_assoc true b c = refl
 and_assoc false b c = refl
 
--- nothing comes twice in two lists, one behind the other
+-- nothing comes twice in two lists, one after the other
 distinct_append : {X : Type 0} (same : X → X → Bool) (xs ys : List X)
     → is_distinct same (xs ++ ys) ≡ (is_distinct_before same xs ys && is_distinct same ys)
 distinct_append same [] ys = refl
@@ -74,7 +74,7 @@ distinct_append same (x ∷ xs) ys =
     rw (list_any-append (λ y. same y x) xs ys, distinct_append same xs ys)
     (sym (and_assoc (not (list_any (λ y. same y x) xs || list_any (λ y. same y x) ys)) (is_distinct_before same xs ys) (is_distinct same ys)))
 
--- the units of the targets from one on: its own come again, or those behind it decide
+-- the units of the targets from one on: its own come again, or those after it decide
 from_target : (targets : List TargetConfiguration) (i : ℕ) (target : TargetConfiguration) → i < length targets
     → target ≡ get_or targets i target
     → is_distinct shares_file (units_in (targets_view (drop i targets)))

@@ -46,14 +46,14 @@ pub targets_decide : (configuration : Configuration) → length (string_bytes co
 targets_decide configuration listen targets =
     rw (le-leb _ _ listen, length-map configuration.targets.items target_view, le-leb _ _ targets) (tests_targets target_keeps configuration.targets.items)
 
--- what a slice of all behind a place holds
+-- what a slice of all after a place holds
 abbrev pub behind : {X : Type 0} → ℕ → List X → List X
 behind i xs = take (length xs - (i + 1)) (drop (i + 1) xs)
 
 pub behind-drop : {X : Type 0} (i : ℕ) (xs : List X) → behind i xs ≡ drop (i + 1) xs
 behind-drop i xs = rw (← length-drop (i + 1) xs) (take-length (drop (i + 1) xs))
 
--- the LUNs from a unit on: one behind it is the same, or those behind it decide
+-- the LUNs from a unit on: one after it is the same, or those after it decide
 pub lun_repeats : (units : List UnitConfiguration) (i : ℕ) (unit : UnitConfiguration) → i < length units
     → unit ≡ get_or units i unit → list_any (λ other. int_eq other.lun unit.lun) (behind i units) ≡ true
     → is_distinct int_eq (luns_of (units_view (drop i units))) ≡ false

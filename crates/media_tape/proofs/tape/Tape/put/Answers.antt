@@ -45,7 +45,7 @@ push_reserved-requires-clause-fits g c =
     ap (λ (n : ℕ). n * c.each_size.result) c.many.ensures ∙ ap (λ (n : ℕ). count_of c.args.objects.now * n) c.each_size.ensures ∙ sym c.requires.total in
     omega (arith, ap sum sizes, total, c.place_of-place.ensures, c.size-size.ensures, c.if-self-place.false, c.self.ranges)
 
--- ---- behind a write
+-- ---- after a write
 
 fits : (g : given.Over) (c : goal.After-told g) → IsTrue c.args.self.now.honest
     → size_of c.args.self.now.before + length (bytes_of c.args.objects.now) ≤ c.args.self.now.capacity
