@@ -1,4 +1,4 @@
-"""What is wrong with a configuration of targetd, each fault at its line and key (docs/PROFILE.md, "Configuration")."""
+"""What is wrong with a configuration of targetd, each fault at its line and key (targetd.toml(5))."""
 
 import difflib
 import os

@@ -1,4 +1,4 @@
-"""Reads TOML 1.1 as targetd does (docs/PROFILE.md, "Configuration"), and keeps the line of each key and value."""
+"""Reads TOML 1.1 as targetd does (targetd.toml(5)), and keeps the line of each key and value."""
 
 import bisect
 import datetime
