@@ -8,7 +8,7 @@ use Rattle.media_tape.specs.Items.{Item, Filemark, size, size_of, items_of, torn
 use Rattle.media_tape.specs.Tape.{AreIn}
 use Rattle.media_tape.specs.Writing.{StandsBetween}
 use Rattle.media_tape.proofs.Alike.{sum-append, sum-replicate}
-use Rattle.media_tape.proofs.Indexed.{shown, many_shown, placed, or_false}
+use Rattle.media_tape.proofs.Indexed.{parsed, many_parsed, placed_parsed, or_false}
 use Rattle.media_tape.proofs.Items.{drop-items_of, items_of-replaced}
 use Rattle.media_tape.proofs.Sizes.{sum-sizes}
 use Rattle.media_tape.proofs.Spelled.{items_of-zeros, sizes-filemarks}
@@ -37,12 +37,12 @@ whole_after content sizes is_torn position are within whole =
     let place = sum (take position sizes) in
     let bytes = take end content in
     let tail = drop end content in
-    let items = shown content sizes in
+    let items = parsed content sizes in
     let below : place ≤ end = sum_by-take-le (λ n. n) sizes position in
     let long : length bytes ≡ end = length-take-le end content are.long in
-    let before = placed content sizes is_torn position are in
+    let before = placed_parsed content sizes is_torn position are in
     let here : drop position items ≡ items_of (drop place bytes) =
-    rw before at (drop-items_of position bytes (omega (arith, within, many_shown content sizes is_torn are))) in
+    rw before at (drop-items_of position bytes (omega (arith, within, many_parsed content sizes is_torn are))) in
     let all : size_of items ≡ end = sym (sum-sizes items) ∙ ap sum are.sized in
     let parts = ap size_of (take-append-drop position items) in
     let split = size_of-append (take position items) (drop position items) in

@@ -1,20 +1,19 @@
 -- Blocks among the items after a position: what a read gives of them.
-use Rattle.std.proofs.Common.{◌≡◌, ℕ, zero, suc, ◌+◌, ◌-◌, ◌*◌, ◌≤◌, ◌<◌, List, [], ◌∷◌, length, take, drop, sum, slice_range, get_or, drop-cons, ◌++◌}
+use Rattle.std.proofs.Common.{◌≡◌, ℕ, zero, suc, ◌+◌, ◌-◌, ◌*◌, ◌≤◌, ◌<◌, List, [], ◌∷◌, length, take, drop, sum, slice_range, get_or, drop-cons, ◌++◌, map, All}
 use Rattle.std.proofs.Common.{Bool, true, false, ◌==◌, ◌⊎◌, inl, inr, refl, ap, sym, ◌∙◌, arith, eq-eqb}
 use Rattle.std.proofs.Math.Nat.{eq-or-lt_of_le}
 use Rattle.std.proofs.lemmas.Bool.{ne_eqb, eqb-true}
-use Rattle.std.specs.Prelude.{replicate}
-use Rattle.std.proofs.lemmas.List.{drop-drop, drop_all, length-take-le, length-drop, length-replicate, take-append-drop}
+use Rattle.std.proofs.lemmas.List.{drop-drop, drop_all}
+use Rattle.std.proofs.lemmas.List.Elements.{All-head, All-tail, All-drop}
 use Rattle.std.proofs.lemmas.List.Sums.{sum_by-take-le}
-use Rattle.media_tape.specs.Items.{Item, Record, Filemark, item_of}
+use Rattle.media_tape.specs.Items.{Item, Record, Filemark, IsSize, item_of, size}
 use Rattle.media_tape.specs.Tape.{AreIn}
-use Rattle.media_tape.specs.Fixed.{Fixed, ending, giving, fixed, Gives, blocks_of}
+use Rattle.media_tape.specs.Fixed.{Fixed, fixed}
 use Rattle.media_tape.specs.SizeFixed.{behind, size_fixed, data_in}
-use Rattle.media_tape.specs.declared.outcome.FixedEnd.{FixedEnd}
-use Rattle.media_tape.specs.declared.outcome.FixedEnd.TheVariants as end
 use Rattle.media_tape.specs.declared.outcome.FixedRead.{FixedRead}
-use Rattle.media_tape.proofs.Indexed.{shown, many_shown, is_next, sum-next}
-use Rattle.media_tape.proofs.SizeFixed.{by_size}
+use Rattle.media_tape.proofs.Indexed.{shown, after_sized, is_next, sum-next}
+use Rattle.media_tape.proofs.Items.{HasBytes}
+use Rattle.media_tape.proofs.Sized.{length-sized, items_sized-have}
 
 -- what is given by the items is told by their sizes, and its bytes stand from a place on
 pub record IsRead (content : List ℕ) (place block_length : ℕ) (of_items : Fixed) (by_sizes : FixedRead) : Type 0 where
@@ -73,7 +72,7 @@ read_there content sizes is_torn (suc count) block_length position are few =
     let place = sum (take position sizes) in
     elim (eq-or-lt_of_le few) [
       | inl last ↦
-          rw (drop_all position items (omega (arith, many_shown content sizes is_torn are)), drop_all position sizes (omega arith))
+          rw (drop_all position items (omega (arith, length-sized sizes content)), drop_all position sizes (omega arith))
           (record { told = refl; bytes = refl; within = omega (arith, sum_by-take-le (λ n. n) sizes position, are.long) })
       | inr less ↦
           let own = slice_range content (place + 4) (place + 4 + (get_or sizes position 0 - 8)) in
@@ -97,52 +96,42 @@ pub is_read : (content sizes : List ℕ) (is_torn : Bool) (count block_length po
 is_read content sizes is_torn count block_length position place read are few place_is read_is =
     rw (read_is, place_is) (read_there content sizes is_torn count block_length position are few)
 
--- ---- what a store that is not honest can have told
+-- ---- by the sizes alone, whatever their bytes
 
--- what ended a read, as items
-abbrev last_items : FixedEnd → List Item
-last_items end.Whole = []
-last_items end.Filemark = Filemark ∷ []
-last_items end.EndOfData = []
-last_items (end.Length length) = Record (replicate length 0) ∷ []
+-- its number of blocks, and what ended them
+abbrev pub told_of : Fixed → FixedRead
+told_of of_items = record { given = of_items.given; ended = of_items.ended }
 
--- whatever its bytes, a read that came out so gives them on some items
-abbrev IsGiving : ℕ → ℕ → FixedRead → Type 0
-IsGiving count block_length read = (bytes : List ℕ) → length bytes ≡ read.given * block_length
-    → fixed count block_length (blocks_of read.given block_length bytes ++ last_items read.ended)
-    ≡ record { given = read.given; bytes = bytes; ended = read.ended }
+one_told : (block_length count : ℕ) (bytes : List ℕ) (items : List Item) (sizes : List ℕ) → 0 < length bytes
+    → size_fixed count block_length sizes ≡ told_of (fixed count block_length items)
+    → size_fixed (suc count) block_length ((length bytes + 8) ∷ sizes) ≡ told_of (fixed (suc count) block_length (Record bytes ∷ items))
+one_told block_length count bytes items sizes some rest =
+    let n = length bytes in
+    let of_items = fixed count block_length items in
+    let no_mark : (n + 8 == 8) ≡ false = ne_eqb (n + 8) 8 (λ e. omega arith) in
+    elim (same_or_other n block_length) [
+      | inl same ↦
+          let one : 1 + of_items.given ≡ suc of_items.given = omega arith in
+          rw (no_mark, eq-eqb n block_length same, eq-eqb (n + 8) (block_length + 8) (omega arith))
+          (ap (behind 1) rest ∙ ap (λ (g : ℕ). record { given = g; ended = of_items.ended }) one)
+      | inr other ↦
+          let length_is : n + 8 - 8 ≡ n = omega arith in
+          rw (no_mark, ne_eqb n block_length other, ne_eqb (n + 8) (block_length + 8) (λ e. other (omega arith)), length_is) refl
+    ]
 
-none_given : (ended : FixedEnd) (block_length : ℕ) (bytes : List ℕ) → length bytes ≡ 0 * block_length
-    → ending ended ≡ record { given = 0; bytes = bytes; ended = ended }
-none_given ended block_length [] none = refl
-none_given ended block_length (byte ∷ bytes) none = absurd (omega arith)
+fixed-sized : (count block_length : ℕ) (items : List Item) → All HasBytes items
+    → size_fixed count block_length (map size items) ≡ told_of (fixed count block_length items)
+fixed-sized zero block_length items have = refl
+fixed-sized (suc count) block_length [] have = refl
+fixed-sized (suc count) block_length (Filemark ∷ items) have = refl
+fixed-sized (suc count) block_length (Record bytes ∷ items) have =
+    one_told block_length count bytes items (map size items) (All-head HasBytes (Record bytes) items have)
+    (fixed-sized count block_length items (All-tail HasBytes (Record bytes) items have))
 
-is_giving : (count block_length : ℕ) (sizes : List ℕ) → 0 < block_length → IsGiving count block_length (size_fixed count block_length sizes)
-is_giving zero block_length sizes some = λ bytes long. none_given end.Whole block_length bytes long
-is_giving (suc count) block_length [] some = λ bytes long. none_given end.EndOfData block_length bytes long
-is_giving (suc count) block_length (size ∷ sizes) some =
-    let rest = size_fixed count block_length sizes in
-    by_size (IsGiving (suc count) block_length) (size == 8) (size == block_length + 8) _ _ _
-    (λ bytes long. none_given end.Filemark block_length bytes long)
-    (λ is bytes long.
-    let one : 1 + rest.given ≡ suc rest.given = omega arith in
-    let more : (1 + rest.given) * block_length ≡ block_length + rest.given * block_length = grind arith in
-    let whole : length (take block_length bytes) ≡ block_length = length-take-le block_length bytes (omega (arith, long, more)) in
-    let behind_it = is_giving count block_length sizes some (drop block_length bytes) (omega (arith, long, more, length-drop block_length bytes)) in
-    rw (one, eq-eqb (length (take block_length bytes)) block_length whole)
-    (ap (giving (take block_length bytes)) behind_it
-    ∙ ap (λ (xs : List ℕ). record { given = suc rest.given; bytes = xs; ended = rest.ended }) (take-append-drop block_length bytes)))
-    (λ other bytes long.
-    let n : ℕ = size - 8 in
-    let zeros : List ℕ = replicate n 0 in
-    let length_is : length zeros ≡ n = length-replicate n 0 in
-    let differs : n ≡ block_length → ⊥ = λ e. let is_block = eq-eqb size (block_length + 8) (omega arith) in cc in
-    rw (length_is, ne_eqb n block_length differs) (none_given (end.Length n) block_length bytes long))
-
-pub gives : (count block_length : ℕ) (sizes bytes : List ℕ) (read : FixedRead) → read ≡ size_fixed count block_length sizes → 0 < block_length
-    → length bytes ≡ read.given * block_length → Gives count block_length read bytes
-gives count block_length sizes bytes read is some =
-    rw is (λ long. (
-      blocks_of (size_fixed count block_length sizes).given block_length bytes ++ last_items (size_fixed count block_length sizes).ended,
-      is_giving count block_length sizes some bytes long,
-    ))
+pub read-sized : (content sizes : List ℕ) (count block_length position : ℕ) (read : FixedRead) → All IsSize sizes
+    → read ≡ size_fixed count block_length (drop position sizes)
+    → read ≡ told_of (fixed count block_length (drop position (shown content sizes)))
+read-sized content sizes count block_length position read are is =
+    is ∙ ap (size_fixed count block_length) (sym (after_sized content sizes position are))
+    ∙ fixed-sized count block_length (drop position (shown content sizes))
+    (All-drop HasBytes position (shown content sizes) (items_sized-have sizes content))

@@ -213,7 +213,7 @@ abbrev pub HasBytes : Item → Type 0
 HasBytes (Record bytes) = 0 < length bytes
 HasBytes Filemark = Unit {0}
 
-item_of-has : (bytes : List ℕ) → HasBytes (item_of bytes)
+pub item_of-has : (bytes : List ℕ) → HasBytes (item_of bytes)
 item_of-has [] = tt
 item_of-has (byte ∷ bytes) = omega arith
 

@@ -12,6 +12,7 @@ pub mod Marks
 pub mod SizeFixed
 pub mod Sizes
 pub mod Walks
+pub mod Sized
 pub mod Indexed
 pub mod Fixed
 pub mod There

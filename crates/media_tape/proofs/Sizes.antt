@@ -1,6 +1,6 @@
 -- Items by their sizes.
 use Rattle.std.proofs.Common.{◌≡◌, ℕ, zero, suc, ◌+◌, ◌≤◌, ◌<◌, List, [], ◌∷◌, ◌++◌, length, take}
-use Rattle.std.proofs.Common.{drop, reverse, map, sum, All, Bool, true, false, ◌==◌, if◌then◌else◌, refl, ap, sym, ◌∙◌, arith}
+use Rattle.std.proofs.Common.{drop, reverse, map, sum, All, false, ◌==◌, refl, ap, sym, ◌∙◌, arith}
 use Rattle.std.proofs.lemmas.Bool.{ne_eqb}
 use Rattle.std.proofs.lemmas.List.{reverse-append, map-append, take-map, drop-map, take-append-drop, length-take-le}
 use Rattle.std.proofs.lemmas.List.Elements.{All-head, All-tail, All-nil, All-cons, All-append, All-drop, All-take}
@@ -15,7 +15,6 @@ use Rattle.media_tape.specs.declared.outcome.Over.{Over}
 use Rattle.media_tape.specs.declared.outcome.Over.TheVariants.{Records, Filemarks}
 use Rattle.media_tape.specs.declared.outcome.Direction.{Direction}
 use Rattle.media_tape.specs.declared.outcome.Direction.TheVariants.{Forward, Backward}
-use Rattle.media_tape.specs.declared.outcome.Spaced.TheVariants as spaced
 
 pub sum-sizes : (items : List Item) → sum (map size items) ≡ size_of items
 sum-sizes [] = refl
@@ -83,33 +82,3 @@ spaced_is toward over count position number sizes tape all before after are have
     ap (λ (n : ℕ). record tape { before = take n all; after = drop n all }) to
     ∙ ap (λ (xs : List Item). let n = spaced_to toward (length tape.before) (way toward over count (ahead toward tape)).passed in
     record tape { before = take n xs; after = drop n xs }) (sym items)
-
--- ---- any sizes are those of some items, as far as spacing goes
-
-abbrev pub item_by : Bool → Item
-item_by true = Filemark
-item_by false = Record (0 ∷ [])
-
-abbrev pub item_sized : ℕ → Item
-item_sized size = item_by (size == mark_size)
-
-by_record : (is_mark : Bool) (direction : Direction) (left : ℕ) (on : Way) (items : List Item) → on ≡ way direction Records left items
-    → (if is_mark then record { passed = 1; told = spaced.Filemark (suc left) } else further 1 on) ≡ way direction Records (suc left) (item_by is_mark ∷ items)
-by_record true direction left on items is = refl
-by_record false direction left on items is = ap (further 1) is ∙ one_further (way direction Records left items)
-
-by_filemark : (is_mark : Bool) (direction : Direction) (left : ℕ) (on past : Way) (items : List Item) → on ≡ way direction Filemarks left items
-    → past ≡ way direction Filemarks (suc left) items
-    → (if is_mark then further 1 on else further 1 past) ≡ way direction Filemarks (suc left) (item_by is_mark ∷ items)
-by_filemark true direction left on past items is passed = ap (further 1) is ∙ one_further (way direction Filemarks left items)
-by_filemark false direction left on past items is passed = ap (further 1) passed ∙ one_further (way direction Filemarks (suc left) items)
-
-pub ways_sized : (direction : Direction) (over : Over) (count : ℕ) (sizes : List ℕ)
-    → size_way direction over count sizes ≡ way direction over count (map item_sized sizes)
-ways_sized direction over zero sizes = refl
-ways_sized direction over (suc left) [] = refl
-ways_sized direction Records (suc left) (size ∷ sizes) =
-    by_record (size == mark_size) direction left _ (map item_sized sizes) (ways_sized direction Records left sizes)
-ways_sized direction Filemarks (suc left) (size ∷ sizes) =
-    by_filemark (size == mark_size) direction left _ _ (map item_sized sizes) (ways_sized direction Filemarks left sizes)
-    (ways_sized direction Filemarks (suc left) sizes)

@@ -1,6 +1,6 @@
 -- What stands on a tape (SSC-4 "Tape model"): records and filemarks, item after item, and how their bytes are laid out.
 use Rattle.std.specs.Prelude.{ℕ, zero, suc, ◌+◌, ◌≤◌, ◌<◌, ◌==◌, ◌&&◌, nat_le, List, [], ◌∷◌, ◌++◌, length, take, drop}
-use Rattle.std.specs.Prelude.{flat_map, Bool, Option, Some, None, if◌then◌else◌}
+use Rattle.std.specs.Prelude.{◌-◌, replicate, flat_map, Bool, Option, Some, None, if◌then◌else◌}
 use Rattle.byteorder.specs.Endian.{big_bytes, big_number}
 
 -- profile: the greatest length of a record in bytes
@@ -68,3 +68,19 @@ torn_at bytes = size_of (items_of bytes)
 -- profile: bytes that are items and nothing else
 abbrev pub is_tape : List ℕ → Bool
 is_tape bytes = torn_at bytes == length bytes
+
+-- ---- own: items by their sizes, which a tape knows
+
+-- an item takes eight bytes at least, and no more than the longest record
+pub record IsSize (n : ℕ) : Type 0 where
+  pub least : 8 ≤ n
+  pub most : n ≤ most_bytes + 8
+
+-- this many bytes: the first of these, and then zeros
+abbrev pub padded : ℕ → List ℕ → List ℕ
+padded n bytes = take n (bytes ++ replicate n 0)
+
+-- items of these sizes, one after the other, with the bytes that stand there
+abbrev pub items_sized : List ℕ → List ℕ → List Item
+items_sized [] bytes = []
+items_sized (n ∷ sizes) bytes = item_of (padded (n - 8) (drop 4 bytes)) ∷ items_sized sizes (drop n bytes)

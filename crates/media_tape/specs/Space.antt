@@ -1,5 +1,5 @@
 -- SPACE (6) (SSC-4): from item to item, over records or over filemarks, after the position or before it.
-use Rattle.std.specs.Prelude.{◌≡◌, ℕ, zero, suc, ◌+◌, ◌-◌, List, [], ◌∷◌, length, reverse}
+use Rattle.std.specs.Prelude.{ℕ, zero, suc, ◌+◌, ◌-◌, List, [], ◌∷◌, length, reverse}
 use Rattle.media_tape.specs.Items.{Item, Record, Filemark}
 use Rattle.media_tape.specs.Tape.{TapeState, items, located_at}
 use Rattle.media_tape.specs.declared.outcome.Over.{Over}
@@ -39,10 +39,6 @@ ahead Backward tape = reverse tape.before
 abbrev pub spaced_to : Direction → ℕ → ℕ → ℕ
 spaced_to Forward position passed = position + passed
 spaced_to Backward position passed = position - passed
-
--- own: spacing over this many can end so, since it does on some items
-abbrev pub Ends : Direction → Over → ℕ → Spaced → Type 0
-Ends toward over count told = (ahead : List Item) × (told ≡ (way toward over count ahead).told)
 
 -- SPACE (6) with the code for logical blocks, or for filemarks
 abbrev pub spaced_told : Direction → Over → ℕ → TapeState → Spaced

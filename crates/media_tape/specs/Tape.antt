@@ -1,9 +1,9 @@
 -- A tape as the items before its position and those after it (SSC-4 "Position within a partition"), and what commands
 -- do to it.
 use Rattle.std.specs.Prelude.{◌≡◌, ℕ, ◌+◌, ◌*◌, ◌≤◌, ◌==◌, nat_lt, nat_le, List, [], ◌∷◌, ◌++◌, length, take, drop, replicate}
-use Rattle.std.specs.Prelude.{Bool, true, false, IsTrue, sum, map, if◌then◌else◌}
+use Rattle.std.specs.Prelude.{Bool, true, false, IsTrue, All, sum, map, if◌then◌else◌}
 use Rattle.media_store.specs.Failures.{risen}
-use Rattle.media_tape.specs.Items.{Item, Record, Filemark, size, size_of, items_of}
+use Rattle.media_tape.specs.Items.{Item, Record, Filemark, IsSize, size, size_of, items_of}
 use Rattle.media_tape.specs.declared.outcome.Located.{Located}
 use Rattle.media_tape.specs.declared.outcome.Located.TheVariants as located
 use Rattle.media_tape.specs.declared.outcome.Passed.{Passed}
@@ -32,6 +32,11 @@ pub record TapeState : Type 0 where
 
 abbrev pub items : TapeState → List Item
 items tape = tape.before ++ tape.after
+
+-- own: its items are of the same sizes as those of another, and its position is the same
+pub record IsSizedAs (other tape : TapeState) : Type 0 where
+  pub before : map size tape.before ≡ map size other.before
+  pub after : map size tape.after ≡ map size other.after
 
 -- own: the tape with its position after this many items
 abbrev pub located_at : ℕ → TapeState → TapeState
@@ -155,8 +160,9 @@ pub record AreIn (content sizes : List ℕ) (is_torn : Bool) : Type 0 where
   pub sized : map size (items_of (take (sum sizes) content)) ≡ sizes
   pub whole : is_torn ≡ false → length content ≡ sum sizes
 
--- if a store is honest, its items are of these sizes, and the position is among them
+-- the position is among items of these sizes, which stand in the store if it is honest
 pub record IsIndexed (honest : Bool) (content sizes : List ℕ) (is_torn : Bool) (position capacity : ℕ) : Type 0 where
   pub within : position ≤ length sizes
   pub fits : sum sizes ≤ capacity
+  pub sized : All IsSize sizes
   pub are_in : IsTrue honest → AreIn content sizes is_torn

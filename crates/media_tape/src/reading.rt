@@ -1,10 +1,10 @@
 //! READ of a tape.
 
-ghost use Rattle.std.specs.Prelude.{◌≡◌, ◌+◌, ◌*◌, ◌≤◌, ◌<◌, ℕ, [], ◌++◌, length, take, drop, min, IsTrue, IsOk, IfOk, OnOk, OnErr};
+ghost use Rattle.std.specs.Prelude.{◌≡◌, ◌+◌, ◌*◌, ◌≤◌, ℕ, [], ◌++◌, length, take, min, IsTrue, IsOk, IfOk, OnOk, OnErr};
 ghost use Rattle.media_store.specs.Failures.{counted, risen};
 ghost use Rattle.media_tape.specs.Items.{most_bytes};
 ghost use Rattle.media_tape.specs.Tape.{read_told, passed_length, first_data, tape_read};
-ghost use Rattle.media_tape.specs.Fixed.{fixed_told, fixed_data, tape_read_fixed, Gives};
+ghost use Rattle.media_tape.specs.Fixed.{fixed_told, fixed_data, tape_read_fixed};
 ghost use Rattle.media_tape.specs.declared.outcome.Passed.TheVariants as passed;
 
 use crate::outcome::{FixedRead, Passed, passed_blocks, passed_item};
@@ -25,7 +25,7 @@ impl<S: Store> Tape<S> {
         buffer: &mut BytesMut,
         tailroom: u32,
     ) -> Result<Result<Passed, StoreFault>, Memory>
-        ensures passed { IfOk result (λ done. IfOk done (λ passed. IsTrue self.new.honest → passed ≡ read_told asked self.old)) }
+        ensures passed { IfOk result (λ done. IfOk done (λ passed. passed ≡ read_told asked self.old)) }
         ensures nothing { IfOk result (λ done. IfOk done (λ told. told ≡ passed.Nothing → asked ≡ 0)) }
         ensures fits { IfOk result (λ done. IfOk done (λ passed. passed_length passed ≤ most_bytes)) }
         ensures given { IfOk result (λ done. OnOk done (IsTrue self.new.honest
@@ -33,7 +33,7 @@ impl<S: Store> Tape<S> {
         ensures length { IfOk result (λ done. IfOk done (λ passed. length buffer.new.items
             ≡ length buffer.old.items + min asked (passed_length passed))) }
         ensures spare { IfOk result (λ done. IfOk done (λ told. (n : ℕ) → told ≡ passed.Record n → tailroom ≤ buffer.new.spare)) }
-        ensures tape { IfOk result (λ done. OnOk done (IsTrue self.new.honest → self.new ≡ tape_read asked self.old)) }
+        ensures tape { IfOk result (λ done. OnOk done (self.new ≡ record (tape_read asked self.old) { honest = self.new.honest })) }
         ensures failed { IfOk result (λ done. OnErr done (self.new
             ≡ record self.old { failures = risen self.old.failures; honest = self.new.honest })) }
         ensures rest { IfOk result (λ done. self.new ≡ record self.old {
@@ -45,7 +45,7 @@ impl<S: Store> Tape<S> {
         ensures back { IsTrue self.new.honest → IsTrue self.old.honest }
         ensures succeeds { IfOk result (λ done. IsTrue self.old.steady → IsTrue self.old.honest
             → IsOk done × (self.new.honest ≡ self.old.honest)) }
-        ensures unread { IfOk result (λ done. IsTrue self.old.honest → first_data self.old.after ≡ []
+        ensures unread { IfOk result (λ done. first_data self.old.after ≡ []
             → IsOk done × (self.new.honest ≡ self.old.honest)) }
         ensures err { OnErr result (self.new ≡ self.old) }
     {
@@ -80,16 +80,15 @@ impl<S: Store> Tape<S> {
         tailroom: u32,
     ) -> Result<Result<FixedRead, StoreFault>, Memory>
         requires { count * block_length ≤ most_bytes }
-        ensures read { IfOk result (λ done. IfOk done (λ read. IsTrue self.new.honest → read ≡ fixed_told count block_length self.old)) }
+        ensures read { IfOk result (λ done. IfOk done (λ read. read ≡ fixed_told count block_length self.old)) }
         ensures few { IfOk result (λ done. IfOk done (λ read. read.given ≤ count)) }
         ensures given { IfOk result (λ done. OnOk done (IsTrue self.new.honest
             → buffer.new.items ≡ buffer.old.items ++ fixed_data count block_length self.old)) }
         ensures length { IfOk result (λ done. IfOk done (λ read. length buffer.new.items
             ≡ length buffer.old.items + read.given * block_length)) }
         ensures spare { IfOk result (λ _. tailroom ≤ buffer.new.spare) }
-        ensures shown { IfOk result (λ done. IfOk done (λ read. 0 < block_length
-            → Gives count block_length read (drop (length buffer.old.items) buffer.new.items))) }
-        ensures tape { IfOk result (λ done. OnOk done (IsTrue self.new.honest → self.new ≡ tape_read_fixed count block_length self.old)) }
+        ensures tape { IfOk result (λ done. OnOk done (self.new
+            ≡ record (tape_read_fixed count block_length self.old) { honest = self.new.honest })) }
         ensures failed { IfOk result (λ done. OnErr done (self.new
             ≡ record self.old { failures = risen self.old.failures; honest = self.new.honest })) }
         ensures rest { IfOk result (λ done. self.new ≡ record self.old {
@@ -101,7 +100,7 @@ impl<S: Store> Tape<S> {
         ensures back { IsTrue self.new.honest → IsTrue self.old.honest }
         ensures succeeds { IfOk result (λ done. IsTrue self.old.steady → IsTrue self.old.honest
             → IsOk done × (self.new.honest ≡ self.old.honest)) }
-        ensures unread { IfOk result (λ done. IsTrue self.old.honest → (fixed_told count block_length self.old).given ≡ 0
+        ensures unread { IfOk result (λ done. (fixed_told count block_length self.old).given ≡ 0
             → IsOk done × (self.new.honest ≡ self.old.honest)) }
         ensures err { OnErr result (self.new ≡ self.old) }
     {

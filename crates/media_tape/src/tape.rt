@@ -1,12 +1,11 @@
 //! The calls on a tape.
 
-ghost use Rattle.std.specs.Prelude.{◌≡◌, ◌<◌, ◌≤◌, [], length, true, IsTrue, IfOk, IfErr};
-ghost use Rattle.media_tape.specs.Items.{items_of, is_tape};
+ghost use Rattle.std.specs.Prelude.{◌≡◌, ◌≤◌, [], length, true, IsTrue, IfOk, IfErr};
+ghost use Rattle.media_tape.specs.Items.{items_of, is_tape, size_of};
 ghost use Rattle.media_tape.specs.Fault.{failures_after, Explains};
-ghost use Rattle.media_tape.specs.Tape.{items, located_at, located_told, is_early};
-ghost use Rattle.media_tape.specs.Space.{spaced_told, tape_spaced, tape_ended, Ends};
+ghost use Rattle.media_tape.specs.Tape.{located_at, located_told, is_early};
+ghost use Rattle.media_tape.specs.Space.{spaced_told, tape_spaced, tape_ended};
 ghost use Rattle.media_tape.specs.declared.fault.TapeOpenFault.TheVariants.{OutOfMemory};
-ghost use Rattle.media_tape.specs.declared.outcome.Located.TheVariants as located;
 
 use crate::fault::{NotOpened, TapeOpenFault};
 use crate::index::Index;
@@ -34,14 +33,14 @@ pub struct Tape<S: Store> {
 
 impl<S: Store> Model for Tape<S> {
     ghost use Rattle.std.specs.Prelude.{take, drop, sum};
-    ghost use Rattle.media_tape.specs.Items.{items_of};
+    ghost use Rattle.media_tape.specs.Items.{items_sized};
     ghost use Rattle.media_tape.specs.Tape.{TapeState, IsIndexed};
 
     ghost Value = { TapeState };
 
     ghost view = { λ tape. record {
-      before = take tape.position (items_of (take (sum tape.index.sizes) (S.Store.content tape.store)));
-      after = drop tape.position (items_of (take (sum tape.index.sizes) (S.Store.content tape.store)));
+      before = take tape.position (items_sized tape.index.sizes (S.Store.content tape.store));
+      after = drop tape.position (items_sized tape.index.sizes (S.Store.content tape.store));
       tail = drop (sum tape.index.sizes) (S.Store.content tape.store);
       is_loaded = tape.is_loaded;
       capacity = tape.capacity;
@@ -66,11 +65,12 @@ impl<S: Store> Tape<S> {
         capacity: u64,
         early_mark: u64,
     ) -> Result<Tape<S>, NotOpened<S>>
-        ensures before { IfOk result (λ tape. IsTrue tape.honest → tape.before ≡ []) }
+        ensures before { IfOk result (λ tape. tape.before ≡ []) }
         ensures after { IfOk result (λ tape. IsTrue tape.honest → tape.after ≡ items_of (S.Store.content store)) }
         ensures tail { IfOk result (λ tape. IsTrue tape.honest → tape.tail ≡ []) }
         ensures tape { IfOk result (λ tape. IsTrue tape.honest → is_tape (S.Store.content store) ≡ true) }
         ensures fits { IfOk result (λ tape. IsTrue tape.honest → length (S.Store.content store) ≤ capacity) }
+        ensures sized { IfOk result (λ tape. size_of tape.after ≤ capacity) }
         ensures set { IfOk result (λ tape. (tape.is_loaded ≡ true) × (tape.capacity ≡ capacity) × (tape.early_mark ≡ early_mark)) }
         ensures synced { IfOk result (λ tape. tape.synced ≡ S.Store.synced store) }
         ensures failures { IfOk result (λ tape. tape.failures ≡ S.Store.failures store) }
@@ -125,7 +125,7 @@ impl<S: Store> Tape<S> {
 
     /// Returns the number of items before the position (SSC-4 "READ POSITION").
     pub fn position(&self) -> u64
-        ensures { IsTrue self.now.honest → result ≡ length self.now.before }
+        ensures { result ≡ length self.now.before }
     {
         self.position
     }
@@ -133,11 +133,8 @@ impl<S: Store> Tape<S> {
     /// Sets the position after `number` items, or after all if there are fewer (SSC-4 "LOCATE (10)"). It calls no
     /// store.
     pub fn locate(&mut self, number: u64) -> Located
-        ensures told { IsTrue self.old.honest → result ≡ located_told number self.old }
-        ensures tape { IsTrue self.old.honest → self.new ≡ located_at number self.old }
-        ensures past { result ≡ located.EndOfData → 0 < number }
-        ensures items { items self.new ≡ items self.old }
-        ensures rest { self.new ≡ record self.old { before = self.new.before; after = self.new.after } }
+        ensures told { result ≡ located_told number self.old }
+        ensures tape { self.new ≡ located_at number self.old }
     {
         let count = self.index.count();
         if count < number {
@@ -151,11 +148,8 @@ impl<S: Store> Tape<S> {
     /// Moves the position over `count` records or filemarks, or until spacing ends before that (SSC-4 "SPACE (6)"). It
     /// calls no store.
     pub fn space(&mut self, toward: Direction, over: Over, count: u32) -> Spaced
-        ensures told { IsTrue self.old.honest → result ≡ spaced_told toward over count self.old }
-        ensures shown { Ends toward over count result }
-        ensures tape { IsTrue self.old.honest → self.new ≡ tape_spaced toward over count self.old }
-        ensures items { items self.new ≡ items self.old }
-        ensures rest { self.new ≡ record self.old { before = self.new.before; after = self.new.after } }
+        ensures told { result ≡ spaced_told toward over count self.old }
+        ensures tape { self.new ≡ tape_spaced toward over count self.old }
     {
         let ended = self.index.space(toward, over, self.position, count);
         self.position = ended.number;
@@ -164,16 +158,14 @@ impl<S: Store> Tape<S> {
 
     /// Sets the position after all items (SSC-4 "SPACE (6)", end of data). It calls no store.
     pub fn space_to_end(&mut self)
-        ensures tape { IsTrue self.old.honest → self.new ≡ tape_ended self.old }
-        ensures items { items self.new ≡ items self.old }
-        ensures rest { self.new ≡ record self.old { before = self.new.before; after = self.new.after } }
+        ensures { self.new ≡ tape_ended self.old }
     {
         self.position = self.index.count();
     }
 
     /// Returns whether the items before the position exceed the early warning mark.
     pub fn is_early(&self) -> bool
-        ensures { IsTrue self.now.honest → result ≡ is_early self.now }
+        ensures { result ≡ is_early self.now }
     {
         self.early_mark < self.index.place_of(self.position)
     }

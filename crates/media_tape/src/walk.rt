@@ -1,8 +1,8 @@
 //! The items of a store, one after the other.
 
-ghost use Rattle.std.specs.Prelude.{◌≡◌, ℕ, ◌≤◌, length, take, map, sum, IsTrue, IfOk, IfErr, OnOk};
+ghost use Rattle.std.specs.Prelude.{◌≡◌, ℕ, ◌≤◌, length, take, map, sum, All, IsTrue, IfOk, IfErr, OnOk};
 ghost use Rattle.media_tape.specs.Fault.{failures_after, Explains};
-ghost use Rattle.media_tape.specs.Items.{items_of, size, size_of};
+ghost use Rattle.media_tape.specs.Items.{IsSize, items_of, size, size_of};
 ghost use Rattle.media_tape.specs.declared.fault.TapeOpenFault.TheVariants.{OutOfMemory};
 
 use crate::fault::TapeOpenFault;
@@ -20,6 +20,7 @@ pub(crate) fn walk<S: Store>(alloc: Global, store: &mut S, end: u64) -> Result<I
     ensures place { IfOk result (λ index. IsTrue (S.Store.honest store.new) → end ≤ length (S.Store.content store.old)
         → sum index.sizes ≡ size_of (items_of (take end (S.Store.content store.old)))) }
     ensures within { IfOk result (λ index. sum index.sizes ≤ end) }
+    ensures each { IfOk result (λ index. All IsSize index.sizes) }
     ensures why { IfErr result (λ fault. (capacity : ℕ) → Explains (S.Store.content store.old) capacity fault) }
     ensures back { IsTrue (S.Store.honest store.new) → IsTrue (S.Store.honest store.old) }
     ensures content { S.Store.content store.new ≡ S.Store.content store.old }

@@ -3,7 +3,7 @@
 ghost use Rattle.std.specs.Prelude.{◌≡◌, ◌≢◌, ◌+◌, ◌*◌, ◌≤◌, ◌<◌, [], length, nat_lt, true, false, if◌then◌else◌, ◌||◌, IsTrue, IsOk, IfOk, OnOk, OnErr};
 ghost use Rattle.media_store.specs.Failures.{counted, risen};
 ghost use Rattle.media_tape.specs.Items.{most_bytes, size_of, is_tape};
-ghost use Rattle.media_tape.specs.Tape.{size_told, write_told, tape_written, written_synced, marks_told, marked_synced, tape_marked, lost, erased};
+ghost use Rattle.media_tape.specs.Tape.{IsSizedAs, size_told, write_told, tape_written, written_synced, marks_told, marked_synced, tape_marked, lost, erased};
 ghost use Rattle.media_tape.specs.Fixed.{fixed_written_told, tape_written_fixed, fixed_synced, IsPart};
 ghost use Rattle.media_tape.specs.Writing.{AreWhole, bytes_of, part_told, put_if_told, put_synced};
 ghost use Rattle.media_tape.specs.declared.outcome.FixedWritten.TheVariants as fixed_written;
@@ -52,16 +52,17 @@ impl<S: Store> Tape<S> {
     /// nothing. If an allocation fails, nothing changes; if the store fails, the items before the position remain.
     pub fn write(&mut self, bytes: &[u8]) -> Result<Result<Written, StoreFault>, Memory>
         requires { length bytes.now ≤ most_bytes }
-        ensures told { IfOk result (λ done. IfOk done (λ told. IsTrue self.old.honest → told ≡ write_told bytes.now self.old)) }
+        ensures told { IfOk result (λ done. IfOk done (λ told. told ≡ write_told bytes.now self.old)) }
         ensures tape { IfOk result (λ done. OnOk done (IsTrue self.old.honest → self.new ≡ tape_written bytes.now self.old)) }
+        ensures sized { IfOk result (λ done. OnOk done (IsSizedAs (tape_written bytes.now self.old) self.new)) }
         ensures failed { IfOk result (λ done. OnErr done (IsTrue self.old.honest → self.new ≡ lost self.new.tail false self.old)) }
+        ensures kept { IfOk result (λ done. OnErr done (IsSizedAs (erased self.old) self.new)) }
         ensures between { IfOk result (λ done. OnErr done (IsTrue self.old.honest → IsTrue self.old.atomic → is_tape self.old.tail ≡ true
             → is_tape self.new.tail ≡ true)) }
         ensures refused { IfOk result (λ done. IfOk done (λ told. told ≡ written.Refused → self.new ≡ self.old)) }
         ensures synced { IfOk result (λ done. IfOk done (λ told. bytes.now ≢ [] → self.new.synced ≡ written_synced told self.old.synced)) }
         ensures unsynced { IfOk result (λ done. OnErr done (self.new.synced ≡ false)) }
-        ensures fits { IfOk result (λ done. OnErr done (IsTrue self.old.honest
-            → size_of self.old.before + (length bytes.now + 8) ≤ self.old.capacity)) }
+        ensures fits { IfOk result (λ done. OnErr done (size_of self.old.before + (length bytes.now + 8) ≤ self.old.capacity)) }
         ensures honest { self.new.honest ≡ self.old.honest }
         ensures rest { IfOk result (λ done. self.new ≡ record self.old {
           before = self.new.before;
@@ -99,18 +100,19 @@ impl<S: Store> Tape<S> {
     ) -> Result<Result<FixedWritten, StoreFault>, Memory>
         requires whole { length bytes.now ≡ count * block_length }
         requires few { count * block_length ≤ most_bytes }
-        ensures told { IfOk result (λ done. IfOk done (λ told. IsTrue self.old.honest → told ≡ fixed_written_told count block_length self.old)) }
+        ensures told { IfOk result (λ done. IfOk done (λ told. told ≡ fixed_written_told count block_length self.old)) }
         ensures tape { IfOk result (λ done. OnOk done (IsTrue self.old.honest
             → self.new ≡ tape_written_fixed count block_length bytes.now self.old)) }
+        ensures sized { IfOk result (λ done. OnOk done (IsSizedAs (tape_written_fixed count block_length bytes.now self.old) self.new)) }
         ensures failed { IfOk result (λ done. OnErr done (IsTrue self.old.honest → self.new ≡ lost self.new.tail false self.old)) }
+        ensures kept { IfOk result (λ done. OnErr done (IsSizedAs (erased self.old) self.new)) }
         ensures between { IfOk result (λ done. OnErr done (IsTrue self.old.honest → IsTrue self.old.atomic → is_tape self.old.tail ≡ true
             → is_tape self.new.tail ≡ true)) }
         ensures part { IfOk result (λ done. IfOk done (λ told. IsPart count told)) }
         ensures refused { IfOk result (λ done. IfOk done (λ told. told ≡ fixed_written.Part 0 → self.new ≡ self.old)) }
         ensures synced { IfOk result (λ done. IfOk done (λ told. bytes.now ≢ [] → self.new.synced ≡ fixed_synced told self.old.synced)) }
         ensures unsynced { IfOk result (λ done. OnErr done (self.new.synced ≡ false)) }
-        ensures fits { IfOk result (λ done. OnErr done (IsTrue self.old.honest
-            → size_of self.old.before + (block_length + 8) ≤ self.old.capacity)) }
+        ensures fits { IfOk result (λ done. OnErr done (size_of self.old.before + (block_length + 8) ≤ self.old.capacity)) }
         ensures honest { self.new.honest ≡ self.old.honest }
         ensures rest { IfOk result (λ done. self.new ≡ record self.old {
           before = self.new.before;
@@ -148,9 +150,11 @@ impl<S: Store> Tape<S> {
     /// "WRITE FILEMARKS (6)"). If an allocation fails, nothing changes; if the store fails, the items before the
     /// position remain.
     pub fn marks(&mut self, count: u32) -> Result<Result<Written, StoreFault>, Memory>
-        ensures told { IfOk result (λ done. IfOk done (λ told. IsTrue self.old.honest → told ≡ marks_told count self.old)) }
+        ensures told { IfOk result (λ done. IfOk done (λ told. told ≡ marks_told count self.old)) }
         ensures tape { IfOk result (λ done. OnOk done (IsTrue self.old.honest → self.new ≡ tape_marked count self.old)) }
+        ensures sized { IfOk result (λ done. OnOk done (IsSizedAs (tape_marked count self.old) self.new)) }
         ensures failed { IfOk result (λ done. OnErr done (IsTrue self.old.honest → count ≢ 0 → self.new ≡ lost self.new.tail false self.old)) }
+        ensures kept { IfOk result (λ done. OnErr done (count ≢ 0 → IsSizedAs (erased self.old) self.new)) }
         ensures between { IfOk result (λ done. OnErr done (IsTrue self.old.honest → IsTrue self.old.atomic → is_tape self.old.tail ≡ true
             → is_tape self.new.tail ≡ true)) }
         ensures none { IfOk result (λ done. IfOk done (λ told. count ≡ 0
@@ -159,7 +163,7 @@ impl<S: Store> Tape<S> {
         ensures refused { IfOk result (λ done. IfOk done (λ told. told ≡ written.Refused → self.new ≡ self.old)) }
         ensures synced { IfOk result (λ done. IfOk done (λ told. self.new.synced ≡ marked_synced told self.old.synced)) }
         ensures unsynced { IfOk result (λ done. OnErr done (count ≢ 0 → self.new.synced ≡ false)) }
-        ensures fits { IfOk result (λ done. OnErr done (IsTrue self.old.honest → count ≢ 0
+        ensures fits { IfOk result (λ done. OnErr done (count ≢ 0
             → size_of self.old.before + 8 * count ≤ self.old.capacity)) }
         ensures honest { self.new.honest ≡ self.old.honest }
         ensures rest { IfOk result (λ done. self.new ≡ record self.old {
@@ -183,18 +187,19 @@ impl<S: Store> Tape<S> {
     /// fails, nothing changes; if the store fails, the items before the position remain.
     fn put(&mut self, objects: &Objects) -> Result<Result<Written, StoreFault>, AllocError>
         requires { AreWhole objects.now }
-        ensures told { IfOk result (λ done. IfOk done (λ told. IsTrue self.old.honest
-            → told ≡ size_told (length (bytes_of objects.now)) self.old)) }
+        ensures told { IfOk result (λ done. IfOk done (λ told. told ≡ size_told (length (bytes_of objects.now)) self.old)) }
         ensures tape { IfOk result (λ done. OnOk done (IsTrue self.old.honest
             → self.new ≡ put_if_told objects.now (size_told (length (bytes_of objects.now)) self.old) self.old)) }
+        ensures sized { IfOk result (λ done. OnOk done (IsSizedAs
+            (put_if_told objects.now (size_told (length (bytes_of objects.now)) self.old) self.old) self.new)) }
         ensures failed { IfOk result (λ done. OnErr done (IsTrue self.old.honest → self.new ≡ lost self.new.tail false self.old)) }
+        ensures kept { IfOk result (λ done. OnErr done (IsSizedAs (erased self.old) self.new)) }
         ensures between { IfOk result (λ done. OnErr done (IsTrue self.old.honest → IsTrue self.old.atomic → is_tape self.old.tail ≡ true
             → is_tape self.new.tail ≡ true)) }
         ensures refused { IfOk result (λ done. IfOk done (λ told. told ≡ written.Refused → self.new ≡ self.old)) }
         ensures synced { IfOk result (λ done. IfOk done (λ told. self.new.synced ≡ put_synced objects.now told self.old.synced)) }
         ensures unsynced { IfOk result (λ done. OnErr done (self.new.synced ≡ false)) }
-        ensures fits { IfOk result (λ done. OnErr done (IsTrue self.old.honest
-            → size_of self.old.before + length (bytes_of objects.now) ≤ self.old.capacity)) }
+        ensures fits { IfOk result (λ done. OnErr done (size_of self.old.before + length (bytes_of objects.now) ≤ self.old.capacity)) }
         ensures honest { self.new.honest ≡ self.old.honest }
         ensures rest { IfOk result (λ done. self.new ≡ record self.old {
           before = self.new.before;
@@ -243,6 +248,7 @@ impl<S: Store> Tape<S> {
     /// Removes everything after the position (SSC-4 "ERASE (6)"). If it fails, the items before the position remain.
     pub fn erase(&mut self) -> Result<(), StoreFault>
         ensures tape { OnOk result (IsTrue self.old.honest → self.new ≡ erased self.old) }
+        ensures sized { IsSizedAs (erased self.old) self.new }
         ensures failed { OnErr result (IsTrue self.old.honest → self.new ≡ lost self.new.tail false self.old) }
         ensures between { OnErr result (IsTrue self.old.honest → IsTrue self.old.atomic → is_tape self.old.tail ≡ true
             → is_tape self.new.tail ≡ true) }

@@ -1,8 +1,10 @@
 use Rattle.std.proofs.Common.{◌+◌, take, sum, ap, ◌∙◌, arith}
 use Rattle.std.specs.Prelude.{replicate}
-use Rattle.media_tape.specs.Items.{items_of}
+use Rattle.std.proofs.lemmas.List.Elements.{All-append}
+use Rattle.media_tape.specs.Items.{IsSize, items_of}
 use Rattle.media_tape.proofs.Alike.{sum-append, sum-replicate}
 use Rattle.media_tape.proofs.Sizes.{sum-sizes}
+use Rattle.media_tape.proofs.Sized.{are_sizes}
 use Rattle.media_tape.proofs.Walks.{walked-next, walked-last}
 use Rattle.media_tape.proofs.walk.walk.Goals as goal
 
@@ -18,6 +20,8 @@ loop-window-preserved g c =
     let shown = rw kept.content at told.shows in
     record {
       within = rw grown (omega (arith, sum-append sizes (replicate 1 (n + 8)), sum-replicate 1 (n + 8), within.0, c.end.ensures.end));
+      each = rw grown (All-append IsSize sizes (replicate 1 (n + 8)) kept.each
+          (are_sizes 1 (n + 8) (record { least = omega arith; most = omega (arith, within.1) })));
       content = told.content ∙ kept.content;
       synced = told.synced ∙ kept.synced;
       failures = told.failures ∙ kept.failures;

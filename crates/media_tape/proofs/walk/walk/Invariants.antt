@@ -1,4 +1,5 @@
-use Rattle.std.proofs.Common.{◌≡◌, ◌-◌, ◌≤◌, length, take, sum, IsTrue}
+use Rattle.std.proofs.Common.{◌≡◌, ◌-◌, ◌≤◌, length, take, sum, All, IsTrue}
+use Rattle.media_tape.specs.Items.{IsSize}
 use Rattle.media_tape.specs.Window.{IsWindow, Shows}
 use Rattle.media_tape.proofs.Walks.{IsWalked}
 use Rattle.media_tape.proofs.walk.walk.Given as goal
@@ -6,6 +7,7 @@ use Rattle.media_tape.proofs.walk.walk.Given as goal
 abbrev pub invariant-loop-window : goal.invariant-loop-window
 invariant-loop-window g l = record {
   within : sum l.index.sizes ≤ l.end;
+  each : All IsSize l.index.sizes;
   content : g.S.Store.content l.store ≡ g.S.Store.content l.initial.store;
   synced : g.S.Store.synced l.store ≡ g.S.Store.synced l.initial.store;
   failures : g.S.Store.failures l.store ≡ g.S.Store.failures l.initial.store;

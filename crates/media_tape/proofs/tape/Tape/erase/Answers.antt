@@ -1,7 +1,7 @@
 use Rattle.std.proofs.Common.{◌≡◌, ◌≤◌, length, take, sum, ap, refl, arith, ◌∙◌, true, false, IsTrue, inl}
 use Rattle.std.proofs.lemmas.List.{append-nil, length-take-le}
 use Rattle.std.proofs.lemmas.List.Sums.{sum_by-take-le}
-use Rattle.media_tape.proofs.Indexed.{cut_left, cut_indexed}
+use Rattle.media_tape.proofs.Indexed.{are_cut, cut_left, cut_indexed}
 use Rattle.media_store.proofs.Outcomes.{OnErr-always}
 use Rattle.media_tape.proofs.Between.{between}
 use Rattle.media_tape.proofs.tape.Tape.erase.Given as given
@@ -61,3 +61,17 @@ returns-clause-tape g c honest =
     let kept = c.cut_at.ensures in
     rw (← c.self.view_is, c.truncate.ensures.sizes, are.before, are.after, are.tail refl, c.in_ok-cut_at.ensures.synced refl)
     (rw (c.in_ok-cut_at.ensures.failures, kept.honest, kept.steady, kept.reach, kept.atomic) refl)
+
+pub returns-in_err-cut_at-clause-sized : goal.returns-in_err-cut_at-clause-sized
+returns-in_err-cut_at-clause-sized g c =
+    let old = c.self.inside in
+    let are = are_cut (g.S.Store.content old.store) old.index.sizes (g.S.Store.content c.cut_at.new.store) old.position c.self.invariant.sized
+    c.self.invariant.within in
+    rw (← c.self.view_is, c.truncate.ensures.sizes) (record { before = are.before; after = are.after })
+
+pub returns-clause-sized : goal.returns-clause-sized
+returns-clause-sized g c =
+    let old = c.self.inside in
+    let are = are_cut (g.S.Store.content old.store) old.index.sizes (g.S.Store.content c.cut_at.new.store) old.position c.self.invariant.sized
+    c.self.invariant.within in
+    rw (← c.self.view_is, c.truncate.ensures.sizes) (record { before = are.before; after = are.after })

@@ -26,6 +26,15 @@ returns-clause-tape g c =
     let tape = rw (items_of-zeros c.args.count, length-replicate {A = ℕ} (8 * c.args.count) 0) at c.in_ok-done.ensures.tape in
     rw some tape
 
+pub returns-clause-sized : goal.returns-clause-sized
+returns-clause-sized g c =
+    let some : (c.args.count == 0) ≡ false = search rules in
+    let sized = rw (items_of-zeros c.args.count, length-replicate {A = ℕ} (8 * c.args.count) 0) at c.in_ok-done.ensures.sized in
+    rw some sized
+
+pub returns-clause-kept : goal.returns-clause-kept
+returns-clause-kept g c = on_err_weaker c.in_ok-done.done (λ is some. is) c.in_ok-done.ensures.kept
+
 pub returns-clause-failed : goal.returns-clause-failed
 returns-clause-failed g c = on_err_weaker c.in_ok-done.done (λ is honest some. is honest) c.in_ok-done.ensures.failed
 
@@ -41,4 +50,4 @@ returns-clause-unsynced g c = on_err_weaker c.in_ok-done.done (λ is some. is) c
 pub returns-clause-fits : goal.returns-clause-fits
 returns-clause-fits g c =
     let fits = rw (length-replicate {A = ℕ} (8 * c.args.count) 0) at c.in_ok-done.ensures.fits in
-    on_err_weaker c.in_ok-done.done (λ is honest some. is honest) fits
+    on_err_weaker c.in_ok-done.done (λ is some. is) fits

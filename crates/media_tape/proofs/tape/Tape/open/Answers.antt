@@ -1,4 +1,32 @@
+use Rattle.std.proofs.Common.{◌≡◌, ℕ, List, length, take, map, sum, sym, ap, ◌∙◌, arith}
+use Rattle.std.proofs.lemmas.List.{take_all}
+use Rattle.media_tape.specs.Items.{items_sized, items_of, size}
+use Rattle.media_tape.proofs.Sized.{items_sized-is, sizes-sized}
+use Rattle.media_tape.proofs.Sizes.{sum-sizes}
 use Rattle.media_tape.proofs.tape.Tape.open.Goals as goal
 
 pub returns-in-Err-clause-explained : goal.returns-in-Err-clause-explained
 returns-in-Err-clause-explained g c honest = rw c.len.ensures.content at (c.in-Err.ensures.why c.args.capacity)
+
+pub returns-clause-sized : goal.returns-clause-sized
+returns-clause-sized g c =
+    let sizes = c.in-Ok-walk.index.sizes in
+    let content = g.S.Store.content c.walk.new.store in
+    let total = sym (sum-sizes (items_sized sizes content)) ∙ ap sum (sizes-sized sizes content c.in-Ok-walk.ensures.each) in
+    omega (arith, total, c.in-Ok-walk.ensures.within, c.if-capacity-end.false)
+
+pub returns-clause-after : goal.returns-clause-after
+returns-clause-after g c honest =
+    let sizes = c.in-Ok-walk.index.sizes in
+    let walked = c.in-Ok-walk.ensures in
+    let content = g.S.Store.content c.walk.new.store in
+    let same : content ≡ g.S.Store.content c.args.store = walked.content ∙ c.in-Ok.ensures.content in
+    let end : c.in-Ok.end ≡ length (g.S.Store.content c.args.store) = c.in-Ok.ensures.len (walked.back honest) in
+    let long : length (g.S.Store.content c.len.new.self) ≡ c.in-Ok.end = ap length c.in-Ok.ensures.content ∙ sym end in
+    let total : sum sizes ≡ c.in-Ok.end = omega (arith, c.end-place.ensures.end, c.if-place-end.false, walked.within) in
+    let parsed = walked.sizes honest (omega (arith, long)) in
+    let parse : map size (items_of (take (sum sizes) content)) ≡ sizes =
+    ap (λ (n : ℕ). map size (items_of (take n content))) total
+    ∙ ap (λ (xs : List ℕ). map size (items_of (take c.in-Ok.end xs))) walked.content ∙ sym parsed in
+    items_sized-is sizes content (omega (arith, total, ap length walked.content, long)) parse
+    ∙ ap items_of (take_all (sum sizes) content (omega (arith, total, ap length walked.content, long)) ∙ same)

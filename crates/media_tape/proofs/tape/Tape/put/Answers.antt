@@ -1,7 +1,8 @@
-use Rattle.std.proofs.Common.{◌≡◌, ◌+◌, ◌*◌, ◌≤◌, ◌++◌, length, take, sum, map, nat_lt, ℕ, IsTrue, true, false, refl, sym, ap, ◌∙◌, arith}
+use Rattle.std.proofs.Common.{◌≡◌, ◌+◌, ◌*◌, ◌≤◌, ◌++◌, length, take, sum, map, nat_lt, ℕ, All, IsTrue, true, false, refl, sym, ap, ◌∙◌, arith}
 use Rattle.std.proofs.lemmas.List.{length-map, length-append, length-take-le, append-nil}
+use Rattle.std.proofs.lemmas.List.Elements.{All-append, All-take}
 use Rattle.std.proofs.lemmas.List.Sums.{sum_by-take-le}
-use Rattle.media_tape.specs.Items.{size, size_of, items_of}
+use Rattle.media_tape.specs.Items.{IsSize, size, size_of, items_of}
 use Rattle.media_tape.specs.Writing.{AreWhole, bytes_of, count_of, each_size, put_if_told, put_synced}
 use Rattle.media_tape.specs.Tape.{size_told}
 use Rattle.media_tape.specs.declared.outcome.Written.{Written}
@@ -9,7 +10,8 @@ use Rattle.media_tape.specs.declared.outcome.Written.TheVariants as written
 use Rattle.media_tape.specs.declared.write.Objects.{Objects}
 use Rattle.media_tape.proofs.Alike.{sum-replicate}
 use Rattle.media_tape.proofs.Sizes.{sum-sizes}
-use Rattle.media_tape.proofs.Indexed.{placed, HasEnd, written_there, left, left_indexed, cut_left, cut_indexed}
+use Rattle.media_tape.proofs.Sized.{are_sizes}
+use Rattle.media_tape.proofs.Indexed.{placed, HasEnd, written_there, left, left_indexed, are_left, are_cut, cut_left, cut_indexed}
 use Rattle.media_tape.proofs.Commands.{refused_told, put_refused, fitting_told, put_fitting}
 use Rattle.media_tape.proofs.Between.{between}
 use Rattle.media_tape.proofs.tape.Tape.put.Given as given
@@ -20,20 +22,31 @@ sized : (objects : Objects) → AreWhole objects → length (bytes_of objects) �
 sized objects are =
     are.total ∙ sym (sum-replicate (count_of objects) (each_size objects)) ∙ sym (ap sum are.sized) ∙ sum-sizes (items_of (bytes_of objects))
 
-over : (g : given.Over) (c : goal.Then-self-place g) → IsTrue c.args.self.now.honest
-    → size_told (length (bytes_of c.args.objects.now)) c.args.self.now ≡ written.Refused
-over g c honest =
+each_is : (objects : Objects) → AreWhole objects → All IsSize (map size (items_of (bytes_of objects)))
+each_is objects are =
+    rw are.sized (are_sizes (count_of objects) (each_size objects) (record { least = are.least; most = are.most }))
+
+over : (g : given.Over) (c : goal.Then-self-place g) → size_told (length (bytes_of c.args.objects.now)) c.args.self.now ≡ written.Refused
+over g c =
     let old = c.self.inside in
-    let here = placed (g.S.Store.content old.store) old.index.sizes old.is_torn old.position (c.self.invariant.are_in (rw (← c.self.view_is) at honest)) in
+    let here = placed (g.S.Store.content old.store) old.index.sizes old.position c.self.invariant.sized in
     refused_told (length (bytes_of c.args.objects.now)) c.args.self.now (rw (← c.self.view_is) (omega
     (arith, here, c.place_of-place.ensures, c.size-size.ensures, c.self.invariant.fits)))
 
 pub returns-then-self-place-clause-told : goal.returns-then-self-place-clause-told
-returns-then-self-place-clause-told g c honest = sym (over g c honest)
+returns-then-self-place-clause-told g c = sym (over g c)
+
+as_it_was : (g : given.Over) (c : goal.Then-self-place g)
+    → put_if_told c.args.objects.now (size_told (length (bytes_of c.args.objects.now)) c.args.self.now) c.args.self.now ≡ c.args.self.now
+as_it_was g c =
+    ap (λ (t : Written). put_if_told c.args.objects.now t c.args.self.now) (over g c)
+    ∙ (put_refused c.args.objects.now c.args.self.now.synced c.args.self.now).0
 
 pub returns-then-self-place-clause-tape : goal.returns-then-self-place-clause-tape
-returns-then-self-place-clause-tape g c honest =
-    sym (ap (λ (t : Written). put_if_told c.args.objects.now t c.args.self.now) (over g c honest) ∙ (put_refused c.args.objects.now c.args.self.now.synced c.args.self.now).0)
+returns-then-self-place-clause-tape g c honest = sym (as_it_was g c)
+
+pub returns-then-self-place-clause-sized : goal.returns-then-self-place-clause-sized
+returns-then-self-place-clause-sized g c = rw (as_it_was g c) (record { before = refl; after = refl })
 
 pub returns-then-self-place-clause-synced : goal.returns-then-self-place-clause-synced
 returns-then-self-place-clause-synced g c = sym (put_refused c.args.objects.now c.args.self.now.synced c.args.self.now).1
@@ -47,11 +60,11 @@ push_reserved-requires-clause-fits g c =
 
 -- ---- after a write
 
-fits : (g : given.Over) (c : goal.After-told g) → IsTrue c.args.self.now.honest
+fits : (g : given.Over) (c : goal.After-told g)
     → size_of c.args.self.now.before + length (bytes_of c.args.objects.now) ≤ c.args.self.now.capacity
-fits g c honest =
+fits g c =
     let old = c.self.inside in
-    let here = placed (g.S.Store.content old.store) old.index.sizes old.is_torn old.position (c.self.invariant.are_in (rw (← c.self.view_is) at honest)) in
+    let here = placed (g.S.Store.content old.store) old.index.sizes old.position c.self.invariant.sized in
     let below = sum_by-take-le (λ n. n) old.index.sizes old.position in
     rw (← c.self.view_is)
     (omega (arith, here, c.place_of-place.ensures, c.size-size.ensures, c.if-self-place.false, c.self.invariant.fits, below))
@@ -93,14 +106,15 @@ invariant_of-self-in-Ok g c =
     omega (arith, long, c.place_of-place.ensures, c.size-size.ensures, c.if-self-place.false, c.self.invariant.fits, below) in
     rw (c.in-Ok.ensures.honest, sizes_are g c)
     (left_indexed (g.S.Store.honest old.store) old.is_torn false (g.S.Store.content old.store) old.index.sizes (g.S.Store.content c.write_objects.new.store)
-    (front ++ map size items) old.position c.count-self-inside.result old.capacity items c.self.invariant keeps (ends g c) refl (position_is g c) room)
+    (front ++ map size items) old.position c.count-self-inside.result old.capacity items c.self.invariant keeps (ends g c) refl (position_is g c) room
+    (each_is c.args.objects.now c.requires))
 
 pub returns-in-Ok-clause-told : goal.returns-in-Ok-clause-told
-returns-in-Ok-clause-told g c honest =
+returns-in-Ok-clause-told g c =
     let old = c.self.inside in
-    let here = placed (g.S.Store.content old.store) old.index.sizes old.is_torn old.position (c.self.invariant.are_in (rw (← c.self.view_is) at honest)) in
+    let here = placed (g.S.Store.content old.store) old.index.sizes old.position c.self.invariant.sized in
     let told = rw (c.place_of-place.ensures, c.size-size.ensures) at c.told.ensures in
-    rw (fitting_told (length (bytes_of c.args.objects.now)) c.args.self.now (fits g c honest)) (rw (← c.self.view_is, here) told)
+    rw (fitting_told (length (bytes_of c.args.objects.now)) c.args.self.now (fits g c)) (rw (← c.self.view_is, here) told)
 
 pub returns-in-Ok-clause-synced : goal.returns-in-Ok-clause-synced
 returns-in-Ok-clause-synced g c =
@@ -119,11 +133,25 @@ returns-in-Ok-clause-tape g c honest =
     let done = left (g.S.Store.content old.store) old.index.sizes (g.S.Store.content c.write_objects.new.store)
     (take old.position old.index.sizes ++ map size items) old.is_torn false old.position c.count-self-inside.result items (c.self.invariant.are_in was)
     c.self.invariant.within keeps (ends g c was) refl (position_is g c) in
-    let told = fitting_told (length (bytes_of objects)) tape (fits g c honest) in
+    let told = fitting_told (length (bytes_of objects)) tape (fits g c) in
     let kept = c.in-Ok.ensures in
     rw (told, (put_fitting objects (nat_lt tape.early_mark (size_of tape.before + length (bytes_of objects))) tape.synced tape).0)
     (rw (← c.self.view_is, sizes_are g c, done.before, done.after, done.tail refl)
     (rw (kept.synced, kept.failures, kept.honest, kept.steady, kept.reach, kept.atomic) refl))
+
+pub returns-in-Ok-clause-sized : goal.returns-in-Ok-clause-sized
+returns-in-Ok-clause-sized g c =
+    let old = c.self.inside in
+    let objects = c.args.objects.now in
+    let items = items_of (bytes_of objects) in
+    let tape = c.args.self.now in
+    let front = take old.position old.index.sizes in
+    let all = All-append IsSize front (map size items) (All-take IsSize old.position old.index.sizes c.self.invariant.sized) (each_is objects c.requires) in
+    let done = are_left (g.S.Store.content old.store) old.index.sizes (g.S.Store.content c.write_objects.new.store) (front ++ map size items)
+    old.position c.count-self-inside.result items c.self.invariant.sized all refl (c.count-self-inside.ensures ∙ ap length (sizes_are g c)) in
+    let told = fitting_told (length (bytes_of objects)) tape (fits g c) in
+    rw (told, (put_fitting objects (nat_lt tape.early_mark (size_of tape.before + length (bytes_of objects))) tape.synced tape).0)
+    (rw (← c.self.view_is, sizes_are g c) (record { before = done.before; after = done.after }))
 
 pub invariant_of-self-in-Err : goal.invariant_of-self-in-Err
 invariant_of-self-in-Err g c =
@@ -144,9 +172,9 @@ returns-in-Err-clause-failed g c honest =
     (rw (kept.unsynced, kept.failures, kept.honest, kept.steady, kept.reach, kept.atomic) refl)
 
 pub returns-in-Err-clause-fits : goal.returns-in-Err-clause-fits
-returns-in-Err-clause-fits g c honest =
+returns-in-Err-clause-fits g c =
     let old = c.self.inside in
-    let here = placed (g.S.Store.content old.store) old.index.sizes old.is_torn old.position (c.self.invariant.are_in (rw (← c.self.view_is) at honest)) in
+    let here = placed (g.S.Store.content old.store) old.index.sizes old.position c.self.invariant.sized in
     let below = sum_by-take-le (λ n. n) old.index.sizes old.position in
     rw (← c.self.view_is)
     (omega (arith, here, c.place_of-place.ensures, c.size-size.ensures, c.if-self-place.false, c.self.invariant.fits, below))
@@ -160,3 +188,10 @@ returns-in-Err-clause-between g c honest atomic whole =
     (c.self.invariant.are_in (rw (← c.self.view_is) at honest)) c.self.invariant.within (rw (← c.self.view_is) at whole)
     (stands (rw (← c.self.view_is) at atomic)) in
     rw (c.truncate.ensures.sizes, c.in_ok-reserve_one.ensures.sizes) is
+
+pub returns-in-Err-clause-kept : goal.returns-in-Err-clause-kept
+returns-in-Err-clause-kept g c =
+    let old = c.self.inside in
+    let are = are_cut (g.S.Store.content old.store) old.index.sizes (g.S.Store.content c.write_objects.new.store) old.position c.self.invariant.sized
+    c.self.invariant.within in
+    rw (← c.self.view_is, c.truncate.ensures.sizes, c.in_ok-reserve_one.ensures.sizes) (record { before = are.before; after = are.after })
