@@ -1,11 +1,13 @@
 -- How WRITE of some fixed blocks came out.
-use Rattle.std.proofs.Common.{◌≡◌, ◌≢◌, ℕ, zero, suc, ◌+◌, ◌*◌, ◌≤◌, ◌<◌, List, [], length, take, Bool, true, false, IsTrue, nat_lt, refl, sym, ap, ◌∙◌, arith}
-use Rattle.std.proofs.Common.{mul-pos, pos_of_ne-zero, suc-ne-zero}
+use Rattle.std.proofs.Common.{◌≡◌, ◌≢◌, ℕ, zero, suc, ◌+◌, ◌-◌, ◌*◌, ◌/◌, ◌==◌, ◌≤◌, ◌<◌, nat_lt, List, [], length, take, Bool, true, false, IsTrue}
+use Rattle.std.proofs.Common.{if◌then◌else◌, refl, ap, ◌∙◌, arith, mul-pos, ne_of_gt, pos_of_ne-zero, suc-mul}
+use Rattle.std.proofs.Math.Nat.{div-mul-le_self}
+use Rattle.std.proofs.lemmas.Bool.{ne_eqb, lt-ltb, leb-false}
 use Rattle.std.proofs.lemmas.List.{length-take}
 use Rattle.media_store.specs.Failures.{risen}
-use Rattle.media_tape.specs.Items.{size_of}
-use Rattle.media_tape.specs.Tape.{TapeState, lost}
-use Rattle.media_tape.specs.Fixed.{fixed_written_told, tape_written_fixed, fixed_synced, IsPart}
+use Rattle.media_tape.specs.Items.{Item, size_of}
+use Rattle.media_tape.specs.Tape.{TapeState, IsSizedAs, wrote, lost, erased}
+use Rattle.media_tape.specs.Fixed.{fitting, blocks_of, fixed_written_told, tape_written_fixed, fixed_synced}
 use Rattle.media_tape.specs.declared.outcome.FixedWritten.{FixedWritten}
 use Rattle.media_tape.specs.declared.outcome.FixedWritten.TheVariants as fixed
 use Rattle.scsi_sense.specs.Done.{Outcome, check_condition}
@@ -14,25 +16,38 @@ use Rattle.scsi_cdb.specs.declared.tape.TapeCommand.TheVariants.{WriteFixed}
 use Rattle.scsi_tape.specs.TapeSense.{write_error}
 use Rattle.scsi_tape.specs.State.{TapeUnitState}
 use Rattle.scsi_tape.specs.Commands.{fixed_write_outcome}
-use Rattle.scsi_tape.specs.CameOut.{IsTapeDone, Shown, standing_of, showing, tape_after, Dishonest}
-use Rattle.scsi_tape.proofs.Came.{with_tape, unsynced_rest, answered, write_fails, rewritten, left, torn_items, none_given}
-use Rattle.scsi_tape.proofs.Records.{some_byte}
-use Rattle.scsi_tape.proofs.MarksDone.{can_fit_so}
-use Rattle.scsi_tape.proofs.FixedShown.{fixed_shown, fixed_seen, fixed_fits, fixed_refused, fixed_synced_seen}
+use Rattle.scsi_tape.specs.CameOut.{IsTapeDone, can_fit, standing_of}
+use Rattle.scsi_tape.proofs.Came.{with_tape, unsynced_rest, write_answered, write_fails, torn_items, torn_sizes}
+use Rattle.scsi_tape.proofs.Records.{some_byte, not_zero}
+use Rattle.scsi_tape.proofs.WriteDone.{fits_so}
 
-abbrev part_of : FixedWritten → ℕ
-part_of fixed.Whole = 0
-part_of fixed.Early = 0
-part_of (fixed.Part n) = n
+by_quotient : (a b many : ℕ) → many * b ≤ a → a < b → many ≡ 0
+by_quotient a b zero most less = refl
+by_quotient a b (suc many) most less = absurd (omega (arith, most, less, suc-mul many b))
 
-some_part : (n : ℕ) → fixed.Part (suc n) ≡ fixed.Part 0 → ⊥
-some_part n is = suc-ne-zero n (ap part_of is)
+-- none fits where one does not
+none_fits : (count block_length : ℕ) (tape : TapeState) → can_fit (block_length + 8) tape ≡ false → fitting count block_length tape ≡ 0
+none_fits count block_length tape none =
+    let room : ℕ = tape.capacity - size_of tape.before in
+    let less = leb-false (size_of tape.before + (block_length + 8)) tape.capacity none in
+    let zero_fit = by_quotient room (block_length + 8) (room / (block_length + 8)) (div-mul-le_self room (block_length + 8)) (omega (arith, less)) in
+    omega (arith, zero_fit)
 
-early_part : fixed.Early ≡ fixed.Part 0 → ⊥
-early_part is = cc
+abbrev told_by : Bool → Bool → ℕ → FixedWritten
+told_by part early fits = if part then fixed.Part fits else if early then fixed.Early else fixed.Whole
 
-whole_part : fixed.Whole ≡ fixed.Part 0 → ⊥
-whole_part is = cc
+some_synced : (part early before : Bool) (fits : ℕ) → fixed_synced (told_by part early (suc fits)) before ≡ false
+some_synced true early before fits = rw (not_zero fits) refl
+some_synced false true before fits = refl
+some_synced false false before fits = refl
+
+-- but for the items and what stands after them
+by_fits : (count fits : ℕ) (early : Bool) (others before after : List Item) (tail : List ℕ) (tape : TapeState) → 0 < count
+    → record tape { before = before; after = after; tail = tail; synced = fixed_synced (told_by (nat_lt fits count) early fits) tape.synced }
+    ≡ record (if fits == 0 then tape else wrote others tape) { before = before; after = after; tail = tail; honest = tape.honest }
+by_fits count zero early others before after tail tape some = rw (lt-ltb 0 count some) refl
+by_fits count (suc fits) early others before after tail tape some =
+    rw (some_synced (nat_lt (suc fits) count) early tape.synced fits, not_zero fits) refl
 
 module _ (blocks : Blocks) (bytes : List ℕ) (unit : TapeUnitState) (new : TapeState) (any : blocks.count ≢ 0) (long : 0 < blocks.block_length) where
   positive : 0 < blocks.count
@@ -41,66 +56,51 @@ module _ (blocks : Blocks) (bytes : List ℕ) (unit : TapeUnitState) (new : Tape
   some : nat_lt 0 blocks.count ≡ true
   some = some_byte blocks.count any
 
-  synced_on : (told : FixedWritten) → IsPart blocks.count told → new.synced ≡ fixed_synced told unit.tape.synced
-      → (tape_written_fixed blocks.count blocks.block_length (take (bytes_of blocks) bytes)
-      (showing (fixed_shown blocks.count blocks.block_length told) unit.tape)).synced ≡ new.synced
-  synced_on told part synced =
-      fixed_synced_seen blocks.count blocks.block_length told (take (bytes_of blocks) bytes) unit.tape positive long part ∙ sym synced
-
-  -- what it leaves where its store is not honest
-  misled_blocks : (told : FixedWritten) → IsPart blocks.count told → new.honest ≡ unit.tape.honest → (told ≡ fixed.Part 0 → new ≡ unit.tape)
-      → new.synced ≡ fixed_synced told unit.tape.synced
-      → new ≡ record unit.tape { before = new.before; after = new.after; tail = new.tail; synced = new.synced }
-      → new.honest ≡ false
-      → with_tape unit new
-      ≡ tape_after (Dishonest (fixed_shown blocks.count blocks.block_length told) (standing_of new)) (WriteFixed blocks) bytes unit
-  misled_blocks (fixed.Part zero) part kept refused synced rest wrong =
-      rw (some, synced_on (fixed.Part 0) part synced, fixed_refused blocks.count blocks.block_length unit.tape, refused refl)
-      (left unit (sym kept ∙ wrong))
-  misled_blocks (fixed.Part (suc n)) part kept refused synced rest wrong =
-      rw (
-        some,
-        synced_on (fixed.Part (suc n)) part synced,
-        fixed_fits blocks.count blocks.block_length (fixed.Part (suc n)) unit.tape positive (λ is. some_part n is),
-      )
-      (rewritten unit new new.synced rest kept wrong)
-  misled_blocks fixed.Early part kept refused synced rest wrong =
-      rw (some, synced_on fixed.Early part synced, fixed_fits blocks.count blocks.block_length fixed.Early unit.tape positive (λ is. early_part is))
-      (rewritten unit new new.synced rest kept wrong)
-  misled_blocks fixed.Whole part kept refused synced rest wrong =
-      rw (some, synced_on fixed.Whole part synced, fixed_fits blocks.count blocks.block_length fixed.Whole unit.tape positive (λ is. whole_part is))
-      (rewritten unit new new.synced rest kept wrong)
+  no_none : (blocks.count * blocks.block_length == 0) ≡ false
+  no_none = ne_eqb (blocks.count * blocks.block_length) 0 (ne_of_gt (mul-pos positive long))
 
   pub blocks_done : (ended : FixedWritten) (done : Outcome)
       → new.honest ≡ unit.tape.honest
       → (IsTrue unit.tape.honest → new ≡ tape_written_fixed blocks.count blocks.block_length (take (bytes_of blocks) bytes) unit.tape)
-      → (IsTrue unit.tape.honest → ended ≡ fixed_written_told blocks.count blocks.block_length unit.tape)
+      → IsSizedAs (tape_written_fixed blocks.count blocks.block_length (take (bytes_of blocks) bytes) unit.tape) new
+      → ended ≡ fixed_written_told blocks.count blocks.block_length unit.tape
       → (ended ≡ fixed.Part 0 → new ≡ unit.tape)
-      → IsPart blocks.count ended
       → new.synced ≡ fixed_synced ended unit.tape.synced
       → new ≡ record unit.tape { before = new.before; after = new.after; tail = new.tail; synced = new.synced }
       → done ≡ fixed_write_outcome blocks ended → done.given ≡ []
       → IsTapeDone (WriteFixed blocks) bytes unit (with_tape unit new) done
-  blocks_done ended done honest tape told refused part synced rest outcome given =
-      answered (WriteFixed blocks) bytes unit (fixed_shown blocks.count blocks.block_length ended) (standing_of new) new done
-      (rw some refl) (λ none is. honest)
-      (λ is. tape (sym honest ∙ is)) (λ is. outcome ∙ ap (fixed_write_outcome blocks) (told (sym honest ∙ is)))
-      (λ steady is. honest)
-      (misled_blocks ended part honest refused synced rest)
-      (λ wrong. outcome ∙ ap (fixed_write_outcome blocks) (sym (fixed_seen blocks.count blocks.block_length ended unit.tape positive long part)))
-      (none_given done given)
+  blocks_done ended done honest tape sized told none_written synced rest outcome given =
+      let count = blocks.count in
+      let block_length = blocks.block_length in
+      let fits = fitting count block_length unit.tape in
+      let taken = take (bytes_of blocks) bytes in
+      let early = nat_lt unit.tape.early_mark (size_of unit.tape.before + count * (block_length + 8)) in
+      let others = blocks_of fits block_length taken in
+      let told_so : ended ≡ told_by (nat_lt fits count) early fits = rw no_none at told in
+      let as_it_was : can_fit (block_length + 8) unit.tape ≡ false → new ≡ tape_written_fixed count block_length taken unit.tape = λ no_room.
+      let none = none_fits count block_length unit.tape no_room in
+      let part : ended ≡ fixed.Part 0 = told_so ∙ rw (none, lt-ltb 0 count positive) refl in
+      none_written part ∙ rw (no_none, none) refl in
+      let synced_is = synced ∙ ap (λ (t : FixedWritten). fixed_synced t unit.tape.synced) told_so in
+      let rest_is = rest
+      ∙ ap (λ (s : Bool). record unit.tape { before = new.before; after = new.after; tail = new.tail; synced = s }) synced_is
+      ∙ by_fits count fits early others new.before new.after new.tail unit.tape positive in
+      write_answered (WriteFixed blocks) bytes unit new done honest tape (rw some as_it_was) sized (rw no_none rest_is)
+      (outcome ∙ ap (fixed_write_outcome blocks) told) given
 
   pub blocks_failed :
       (IsTrue unit.tape.honest → new ≡ lost new.tail false unit.tape)
+      → IsSizedAs (erased unit.tape) new
       → new.synced ≡ false
-      → (IsTrue unit.tape.honest → size_of unit.tape.before + (blocks.block_length + 8) ≤ unit.tape.capacity)
+      → size_of unit.tape.before + (blocks.block_length + 8) ≤ unit.tape.capacity
       → new ≡ record unit.tape { before = new.before; after = new.after; tail = new.tail; synced = new.synced; failures = risen unit.tape.failures }
       → (IsTrue unit.tape.steady → IsTrue unit.tape.honest → unit.tape.capacity ≤ unit.tape.reach → ⊥)
       → IsTapeDone (WriteFixed blocks) bytes unit (record (with_tape unit new) { is_working = false }) (check_condition write_error)
-  blocks_failed failed unsynced fits rest sure =
-      let can = can_fit_so (blocks.block_length + 8) unit.tape fits in
-      write_fails (WriteFixed blocks) bytes unit (standing_of new) new (rw (some, can) refl)
-      (rw (some, can) (torn_items unit new failed (unsynced_rest unit new rest unsynced))) sure
+  blocks_failed failed kept unsynced fits rest sure =
+      let can = fits_so (blocks.block_length + 8) unit.tape fits in
+      let unsynced_so = unsynced_rest unit new rest unsynced in
+      write_fails (WriteFixed blocks) bytes unit (standing_of new) new (rw (some, can) refl) (torn_sizes unit new failed kept unsynced_so)
+      (rw (some, can) (torn_items unit new failed kept unsynced_so)) sure
 
 -- some bytes are written
 pub some_taken : (blocks : Blocks) (bytes : List ℕ) → blocks.count ≢ 0 → 0 < blocks.block_length → bytes_of blocks ≤ length bytes

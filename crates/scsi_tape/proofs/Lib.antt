@@ -1,10 +1,8 @@
 pub mod Came
 pub mod Records
-pub mod Shown
 pub mod MarksDone
 pub mod WriteDone
 pub mod ReadDone
-pub mod FixedShown
 pub mod FixedReadDone
 pub mod FixedWriteDone
 pub mod Trusted

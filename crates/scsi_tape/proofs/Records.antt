@@ -1,9 +1,8 @@
--- The bytes of a record that was read.
-use Rattle.std.proofs.Common.{◌≡◌, ◌≢◌, ℕ, zero, suc, ◌≤◌, ◌==◌, min, nat_lt, List, [], ◌∷◌, length, take, true, false, refl, sym, ap, ◌∙◌, arith, rules}
-use Rattle.std.proofs.lemmas.Bool.{lt-ltb}
-use Rattle.std.proofs.lemmas.List.{take_min}
-use Rattle.media_tape.specs.Items.{Item, Record, Filemark}
-use Rattle.media_tape.specs.Tape.{TapeState, first_told, first_data, passed_length, filled, read_told, tape_read}
+-- The bytes of a record that was read, and an outcome that has them.
+use Rattle.std.proofs.Common.{◌≡◌, ◌≢◌, ℕ, zero, suc, ◌==◌, nat_lt, length, true, false, refl, arith, rules}
+use Rattle.std.proofs.lemmas.Bool.{lt-ltb, ltb-false}
+use Rattle.media_tape.specs.Tape.{TapeState, first_told, read_told}
+use Rattle.scsi_sense.specs.Done.{Outcome}
 
 pub not_zero : (n : ℕ) → (suc n == 0) ≡ false
 not_zero n = search rules
@@ -15,3 +14,11 @@ first_same (suc asked) tape any = rw (not_zero asked) refl
 pub some_byte : (count : ℕ) → count ≢ 0 → nat_lt 0 count ≡ true
 some_byte zero none = absurd (none refl)
 some_byte (suc count) none = lt-ltb 0 (suc count) (omega arith)
+
+pub read_none : (many : ℕ) → nat_lt 0 many ≡ false → many ≡ 0
+read_none many none = omega (arith, ltb-false 0 many none)
+
+-- as another outcome, but for its bytes, which are as many
+pub record IsSeen (done defined : Outcome) : Type 0 where
+  pub is : done ≡ record defined { given = done.given }
+  pub long : length done.given ≡ length defined.given

@@ -10,17 +10,17 @@ use Rattle.scsi_sense.specs.declared.sense.Sense.{Sense}
 use Rattle.scsi_cdb.specs.declared.tape.TapeCommand.{TapeCommand}
 use Rattle.scsi_cdb.specs.declared.tape.TapeCommand.TheVariants.{WriteFilemarks}
 use Rattle.scsi_tape.proofs.Records.{not_zero}
-use Rattle.scsi_tape.specs.TapeSense.{overflow, write_error, unrecovered_read}
+use Rattle.scsi_tape.specs.TapeSense.{write_error, unrecovered_read}
 use Rattle.scsi_tape.specs.State.{TapeUnitState}
 use Rattle.scsi_tape.specs.Commands.{marks_outcome}
-use Rattle.scsi_tape.specs.CameOut.{TapeCame, AsDefined, Dishonest, ReadFailed, WriteFailed, showing, tape_after, tape_told, is_tape_possible}
+use Rattle.scsi_tape.specs.CameOut.{TapeCame, AsDefined, Dishonest, ReadFailed, WriteFailed, tape_after, tape_told, is_tape_possible}
 use Rattle.scsi_tape.specs.CameOut.{IsTapeDone, tape_done, is_steady, can_fail, IsTrustedTape, WereMarked, AreSynced}
 
 -- a store that is still honest, and did not fail
 trusted_came : (came : TapeCame) (command : TapeCommand) (bytes : List ℕ) (old : TapeUnitState)
     → IsTrustedTape old.tape (tape_after came command bytes old).tape → came ≡ AsDefined
 trusted_came AsDefined command bytes old trusted = refl
-trusted_came (Dishonest shown left) command bytes old trusted = absurd (false≢true trusted.honest)
+trusted_came (Dishonest given left) command bytes old trusted = absurd (false≢true trusted.honest)
 trusted_came (ReadFailed honest) command bytes old trusted = absurd (omega (arith, trusted.none.same, trusted.none.known))
 trusted_came (WriteFailed left) command bytes old trusted = absurd (omega (arith, trusted.none.same, trusted.none.known))
 
@@ -31,7 +31,7 @@ surely tape rest possible honest steady = false≢true (rw (honest, steady) at (
 pub sure_came : (came : TapeCame) (command : TapeCommand) (bytes : List ℕ) (tape : TapeState) → IsTrue (is_tape_possible came command bytes tape)
     → IsTrue tape.honest → IsTrue (is_steady tape) → came ≡ AsDefined
 sure_came AsDefined command bytes tape possible honest steady = refl
-sure_came (Dishonest shown left) command bytes tape possible honest steady = absurd (surely tape _ possible honest steady)
+sure_came (Dishonest given left) command bytes tape possible honest steady = absurd (surely tape _ possible honest steady)
 sure_came (ReadFailed is) command bytes tape possible honest steady = absurd (surely tape _ possible honest steady)
 sure_came (WriteFailed left) command bytes tape possible honest steady = absurd (surely tape _ possible honest steady)
 
@@ -61,13 +61,13 @@ no_key done (inl same) = ap (λ (o : Outcome). key_told o.sense) same
 no_key done (inr same) = ap (λ (o : Outcome). key_told o.sense) same
 
 told_synced : (count : ℕ) (tape : TapeState) (told : Written) → size_told (8 * suc count) tape ≡ told
-    → WereMarked (marks_outcome (suc count) told) → (tape_marked (suc count) tape).synced ≡ true
+    → key_told (marks_outcome (suc count) told).sense ≡ 0 → (tape_marked (suc count) tape).synced ≡ true
 told_synced count tape written.Whole is marked = rw (not_zero count, is) refl
 told_synced count tape written.Early is marked = rw (not_zero count, is) refl
 told_synced count tape written.Refused is marked =
-    absurd (omega (arith, no_key (check_condition (overflow (suc count))) marked))
+    absurd (omega (arith, marked))
 
-marks_synced : (count : ℕ) (tape : TapeState) → WereMarked (marks_outcome count (marks_told count tape))
+marks_synced : (count : ℕ) (tape : TapeState) → key_told (marks_outcome count (marks_told count tape)).sense ≡ 0
     → (tape_marked count tape).synced ≡ true
 marks_synced zero tape marked = refl
 marks_synced (suc count) tape marked = told_synced count tape (size_told (8 * suc count) tape) refl (rw (not_zero count) at marked)
@@ -76,8 +76,8 @@ came_synced : (came : TapeCame) (count : ℕ) (bytes : List ℕ) (old : TapeUnit
     → IsTrue (is_tape_possible came (WriteFilemarks count) bytes old.tape)
     → WereMarked (tape_told came (WriteFilemarks count) bytes old.tape)
     → (tape_after came (WriteFilemarks count) bytes old).tape.synced ≡ true
-came_synced AsDefined count bytes old possible marked = marks_synced count old.tape marked
-came_synced (Dishonest shown left) count bytes old possible marked = marks_synced count (showing shown old.tape) marked
+came_synced AsDefined count bytes old possible marked = marks_synced count old.tape (no_key _ marked)
+came_synced (Dishonest given left) count bytes old possible marked = marks_synced count old.tape (no_key _ marked)
 came_synced (ReadFailed is) count bytes old possible marked = absurd (omega (arith, no_key (check_condition unrecovered_read) marked))
 came_synced (WriteFailed left) count bytes old possible marked = absurd (omega (arith, no_key (check_condition write_error) marked))
 

@@ -1,5 +1,5 @@
 -- Commands to tapes, computed.
-use Rattle.std.specs.Prelude.{◌≡◌, ℕ, List, [], ◌∷◌, true, false, replicate, refl}
+use Rattle.std.specs.Prelude.{◌≡◌, ℕ, List, [], ◌∷◌, ◌++◌, true, false, replicate, refl}
 use Rattle.media_tape.specs.Items.{Item, Record, Filemark}
 use Rattle.media_tape.specs.Tape.{TapeState}
 use Rattle.scsi_sense.specs.Done.{good, good_with, good_taking, check_condition}
@@ -10,7 +10,7 @@ use Rattle.scsi_cdb.specs.declared.tape.TapeCommand.TheVariants.{Read, ReadFixed
 use Rattle.scsi_tape.specs.TapeSense.{filemark, end_of_data, beginning, early_warning, overflow, incorrect_length}
 use Rattle.scsi_tape.specs.State.{opened_unit}
 use Rattle.scsi_tape.specs.Commands.{given_with, tape_outcome, tape_left, position_data}
-use Rattle.scsi_tape.specs.CameOut.{TapeCame, Dishonest, ReadFailed, WriteFailed, tape_touch, is_tape_possible, tape_after, tape_told}
+use Rattle.scsi_tape.specs.CameOut.{TapeCame, AsDefined, Dishonest, standing_of, ReadFailed, WriteFailed, tape_touch, is_tape_possible, tape_after, tape_told}
 
 -- a tape of 100 bytes with the early warning mark at 40, and these records and filemarks
 abbrev tape_of : List Item → List Item → TapeState
@@ -129,18 +129,34 @@ unreadable : (is_tape_possible (ReadFailed true) (Read 8 Told) [] liar ≡ true)
     × (is_tape_possible (ReadFailed true) ReadPosition [] liar ≡ false)
 unreadable = (refl, refl, refl, refl)
 
--- an inconsistent store makes a tape appear with a filemark next, instead of a record: READ reports the filemark. WRITE
--- FILEMARKS and READ POSITION are not misled if the store was honest before
-abbrev mark_shown : TapeCame
-mark_shown =
-    Dishonest (record { before = []; after = Filemark ∷ []; early_mark = 40; capacity = 100 })
-    (record { before = Record five ∷ []; after = []; tail = [] })
+-- an inconsistent store: READ returns other bytes of the record, as many. It cannot return fewer, nor report another
+-- position, nor refuse a WRITE, and WRITE FILEMARKS is not misled if the store was honest before
+abbrev other_bytes : TapeCame
+other_bytes = Dishonest (9 ∷ 8 ∷ 7 ∷ 6 ∷ 5 ∷ []) (record { before = Record five ∷ []; after = []; tail = [] })
 
-is_misled : (is_tape_possible mark_shown (Read 8 Told) [] liar ≡ true)
-    × (tape_told mark_shown (Read 8 Told) [] liar ≡ check_condition (filemark 8))
-    × (is_tape_possible mark_shown (WriteFilemarks 1) [] liar ≡ false)
-    × (is_tape_possible mark_shown ReadPosition [] liar ≡ false)
-is_misled = (refl, refl, refl, refl)
+is_misled : (is_tape_possible other_bytes (Read 8 Told) [] liar ≡ true)
+    × (tape_told other_bytes (Read 8 Told) [] liar ≡ given_with (incorrect_length 3) (9 ∷ 8 ∷ 7 ∷ 6 ∷ 5 ∷ []))
+    × (tape_after other_bytes (Read 8 Told) [] (opened_unit liar)
+    ≡ opened_unit (record liar { before = Record five ∷ []; after = []; honest = false }))
+    × (is_tape_possible (Dishonest [] (record { before = Record five ∷ []; after = []; tail = [] })) (Read 8 Told) [] liar ≡ false)
+    × (is_tape_possible (Dishonest [] (record { before = Filemark ∷ []; after = []; tail = [] })) (WriteFilemarks 1) [] liar ≡ false)
+is_misled = (refl, refl, refl, refl, refl)
+
+-- its store has lied, and the position is after three records of 20 bytes, which are all that fit
+abbrev lied : TapeState
+lied = record (tape_of (replicate 3 (Record twenty)) []) { steady = false; honest = false }
+
+-- READ POSITION, LOCATE and a WRITE that is refused come out as defined. WRITE FILEMARKS of one leaves items of the same
+-- sizes
+as_defined_still : (is_tape_possible (Dishonest (position_data 2 false) (standing_of lied)) ReadPosition [] lied ≡ false)
+    × (tape_told AsDefined ReadPosition [] lied ≡ good_with (position_data 3 true))
+    × (is_tape_possible (Dishonest [] (standing_of lied)) (Locate 1) [] lied ≡ false)
+    × (is_tape_possible (Dishonest [] (standing_of lied)) (Write 20) twenty lied ≡ false)
+    × (tape_told AsDefined (Write 20) twenty lied ≡ check_condition (overflow 20))
+    × (is_tape_possible (Dishonest [] (record { before = replicate 3 (Record (replicate 20 9)) ++ Filemark ∷ []; after = []; tail = [] }))
+    (WriteFilemarks 1) [] lied ≡ true)
+    × (is_tape_possible (Dishonest [] (record { before = Filemark ∷ Filemark ∷ []; after = []; tail = [] })) (WriteFilemarks 1) [] lied ≡ false)
+as_defined_still = (refl, refl, refl, refl, refl, refl, refl)
 
 -- a failed sync loses nothing, and a failed write loses what stood after the position
 failed : (tape_after (WriteFailed (record { before = []; after = []; tail = 1 ∷ [] })) (WriteFilemarks 0) [] (opened_unit liar)

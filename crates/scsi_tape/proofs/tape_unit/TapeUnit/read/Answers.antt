@@ -1,9 +1,9 @@
-use Rattle.std.proofs.Common.{◌≡◌, ◌≢◌, ℕ, ◌+◌, ◌≤◌, ◌<◌, ◌++◌, List, [], min, length, take, drop, refl, sym, ap, ◌∙◌, arith}
+use Rattle.std.proofs.Common.{◌≡◌, ◌≢◌, ℕ, ◌≤◌, List, min, length, take, drop, ap, ◌∙◌, arith}
 use Rattle.std.proofs.lemmas.Bool.{false≢true}
 use Rattle.std.proofs.lemmas.List.{drop_at, length-drop}
 use Rattle.media_tape.specs.Tape.{first_data, passed_length}
 use Rattle.scsi_tape.specs.State.{TapeUnitState}
-use Rattle.scsi_tape.proofs.ReadDone.{read_done, read_failed, told_given, told_shown}
+use Rattle.scsi_tape.proofs.ReadDone.{read_done, read_failed}
 use Rattle.scsi_tape.proofs.tape_unit.TapeUnit.read.Goals.{in-Ok, in-Err}
 use Rattle.scsi_tape.proofs.tape_unit.TapeUnit.read.Goals as goal
 
@@ -36,18 +36,14 @@ returns-clause-done g c =
       | in-Ok w ↦ rw w.result-is (λ (bytes : List ℕ).
           let told = rw w.in-Ok.is at c.in_ok-passed.ensures in
           let long : length got ≡ min asked (passed_length w.in-Ok.passed) = length-drop 48 c.read.new.buffer.items ∙ omega (arith, told.length, header) in
-          read_done asked incorrect bytes unit new w.in-Ok.passed got w.told.result any told.tape
-          (λ honest. w.told.ensures.told ∙ told_given asked incorrect got items _ w.in-Ok.passed (told.passed honest)
-          (ap (λ (xs : List ℕ). drop 48 xs) (told.given honest) ∙ drop_at front (take asked items) 48 header))
+          read_done asked incorrect bytes unit new w.in-Ok.passed got w.told.result any told.tape told.back told.passed long
+          (λ honest. ap (λ (xs : List ℕ). drop 48 xs) (told.given honest) ∙ drop_at front (take asked items) 48 header)
           (λ steady honest. (told.succeeds steady honest).1)
-          (λ honest none. (told.unread honest none).1)
-          told.rest
-          (w.told.ensures.told ∙ told_shown asked incorrect got w.in-Ok.passed long)
-          (λ none. any (told.nothing none))
-          w.told.ensures.given)
+          (λ none. (told.unread none).1)
+          w.told.ensures.told w.told.ensures.given)
       | in-Err w ↦ rw (w.result-is, w.read_failed.ensures) (λ (bytes : List ℕ).
           let failed = rw w.in-Err.is at c.in_ok-passed.ensures in
           read_failed asked incorrect bytes unit new any failed.failed failed.back
           (λ steady honest. false≢true (failed.succeeds steady honest).0)
-          (λ honest none. false≢true (failed.unread honest none).0))
+          (λ none. false≢true (failed.unread none).0))
     ])

@@ -1,4 +1,4 @@
-use Rattle.std.proofs.Common.{◌≡◌, ◌≢◌, ℕ, ◌*◌, ◌≤◌, ◌<◌, List, [], length, drop, mul-le-mul_right, sym, ap, ◌∙◌, arith}
+use Rattle.std.proofs.Common.{◌≡◌, ◌≢◌, ℕ, ◌*◌, ◌≤◌, List, length, drop, mul-le-mul_right, ap, ◌∙◌, arith}
 use Rattle.std.proofs.lemmas.Bool.{false≢true}
 use Rattle.std.proofs.lemmas.List.{drop_at, length-drop}
 use Rattle.media_tape.specs.Fixed.{fixed_data}
@@ -32,22 +32,21 @@ returns-clause-done g c =
     let front = c.extend_from_slice.new.self.items in
     let header : length front ≡ 48 = rw c.requires at (ap length c.in_ok-extend_from_slice.ensures.ok) in
     let any : blocks.count ≢ 0 = rw c.count-count.ensures.value at c.if-count-eq0.false in
-    let some : 0 < blocks.block_length = rw c.block_length.ensures.value at c.block_length.ensures.some in
     rw (← c.self.view_is) (elim c.match-done.branch [
       | in-Ok w ↦ rw w.result-is (λ (bytes : List ℕ).
           let told = rw (w.in-Ok.is, c.count-count.ensures.value, c.block_length.ensures.value) at c.in_ok-done.ensures in
-          let gives = rw header at (told.shown some) in
-          blocks_read blocks bytes unit new any w.in-Ok.read got w.told_of_blocks.result told.tape told.read
+          let long : length got ≡ w.in-Ok.read.given * blocks.block_length =
+          length-drop 48 c.read_fixed.new.buffer.items ∙ omega (arith, told.length, header) in
+          blocks_read blocks bytes unit new any w.in-Ok.read got w.told_of_blocks.result told.tape told.back told.read long
           (λ honest. ap (λ (xs : List ℕ). drop 48 xs) (told.given honest)
           ∙ drop_at front (fixed_data blocks.count blocks.block_length unit.tape) 48 header)
           (λ steady honest. (told.succeeds steady honest).1)
-          (λ honest none. (told.unread honest none).1)
-          told.rest gives
+          (λ none. (told.unread none).1)
           (rw c.count-count.ensures.value at w.told_of_blocks.ensures.told)
           w.told_of_blocks.ensures.given)
       | in-Err w ↦ rw (w.result-is, w.read_failed.ensures) (λ (bytes : List ℕ).
           let failed = rw (w.in-Err.is, c.count-count.ensures.value, c.block_length.ensures.value) at c.in_ok-done.ensures in
           read_blocks_failed blocks bytes unit new any failed.failed failed.back
           (λ steady honest. false≢true (failed.succeeds steady honest).0)
-          (λ honest none. false≢true (failed.unread honest none).0))
+          (λ none. false≢true (failed.unread none).0))
     ])

@@ -12,7 +12,7 @@ returns-in-Ok-clause-done g c =
     let outcome = rw c.bytes-count.ensures.value at c.written.ensures.told in
     rw (← c.self.view_is)
     (write_done c.args.size c.args.«data».now unit c.write.new.self some c.requires c.in-Ok.ended c.written.result
-    told.honest told.tape told.told told.refused told.synced told.rest outcome c.written.ensures.given)
+    told.honest told.tape told.sized told.told told.refused told.synced told.rest outcome c.written.ensures.given)
 
 pub returns-in-Err-clause-done : goal.returns-in-Err-clause-done
 returns-in-Err-clause-done g c =
@@ -20,5 +20,5 @@ returns-in-Err-clause-done g c =
     let failed = rw (c.in-Err.is, c.bytes-count.ensures.value) at c.in_ok-ended.ensures in
     let some : c.args.size ≢ 0 = rw c.bytes-count.ensures.value at c.if-count-eq0.false in
     rw (← c.self.view_is, c.write_failed.ensures.told, c.write_failed.ensures.unit)
-    (write_failed c.args.size c.args.«data».now unit c.write.new.self some c.requires failed.failed failed.unsynced failed.fits failed.rest
+    (write_failed c.args.size c.args.«data».now unit c.write.new.self some c.requires failed.failed failed.kept failed.unsynced failed.fits failed.rest
     (λ steady honest room. false≢true (failed.succeeds steady room)))

@@ -1,4 +1,4 @@
-use Rattle.std.proofs.Common.{◌≡◌, ◌≢◌, ◌<◌, length, take, ap, ◌∙◌}
+use Rattle.std.proofs.Common.{◌≢◌, ◌<◌}
 use Rattle.std.proofs.lemmas.Bool.{false≢true}
 use Rattle.scsi_tape.specs.State.{TapeUnitState}
 use Rattle.scsi_tape.proofs.FixedWriteDone.{blocks_done, blocks_failed, some_taken}
@@ -13,7 +13,7 @@ returns-in-Ok-clause-done g c =
     let long : 0 < blocks.block_length = rw c.block_length.ensures.value at c.block_length.ensures.some in
     rw (← c.self.view_is)
     (blocks_done blocks c.args.«data».now unit c.write_fixed.new.self any long c.in-Ok.ended c.blocks_written.result
-    told.honest told.tape told.told told.refused told.part
+    told.honest told.tape told.sized told.told told.refused
     (told.synced (some_taken blocks c.args.«data».now any long c.requires)) told.rest
     c.blocks_written.ensures.told c.blocks_written.ensures.given)
 
@@ -25,5 +25,5 @@ returns-in-Err-clause-done g c =
     let any : blocks.count ≢ 0 = rw c.count-count.ensures.value at c.if-count-eq0.false in
     let long : 0 < blocks.block_length = rw c.block_length.ensures.value at c.block_length.ensures.some in
     rw (← c.self.view_is, c.write_failed.ensures.told, c.write_failed.ensures.unit)
-    (blocks_failed blocks c.args.«data».now unit c.write_fixed.new.self any long failed.failed failed.unsynced failed.fits failed.rest
+    (blocks_failed blocks c.args.«data».now unit c.write_fixed.new.self any long failed.failed failed.kept failed.unsynced failed.fits failed.rest
     (λ steady honest room. false≢true (failed.succeeds steady room)))
