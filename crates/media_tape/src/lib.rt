@@ -14,11 +14,14 @@
 //! items it has. So the runs take at most 24 bytes for each item, if no two neighbours have the same size. While their
 //! list grows they take up to twice that.
 //!
-//! If the store is honest after a call and did not fail in it:
+//! If the store did not fail in a call:
 //!
-//! - a read passes the item after the position;
-//! - a record that is written replaces everything after the position, and nothing follows it in the store;
+//! - a read passes the item after the position, and returns its bytes if the store is honest after it;
+//! - a record that is written replaces everything after the position. If the store is honest, nothing follows it there;
 //! - a position is set after the given number of items.
+//!
+//! The position, the number of the items and their sizes are known without the store. If the store lied, only bytes are
+//! others than those that were written.
 //!
 //! Positioning, and a read that returns nothing of a record, call no store: the index serves them.
 //!

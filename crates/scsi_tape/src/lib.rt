@@ -8,7 +8,7 @@
 //! ```
 //!
 //! A command leaves the tape as `tape_left` defines and returns what `tape_outcome` defines, a line for each command.
-//! This holds in two cases:
+//! This holds if the command does not touch its medium, and in two cases more:
 //!
 //! - after the command the store is honest and none of its calls failed;
 //! - before the command the store is honest, and steady with room for the capacity (`is_steady`), as one in memory is.
@@ -16,7 +16,9 @@
 //! Otherwise there are three more outcomes (`TapeCame`), each possible only for a command that touches its medium
 //! accordingly (`tape_touch`):
 //!
-//! - The store is not honest: the command returns what is defined for the tape that the store showed.
+//! - The store is not honest: the command does and returns what is defined, but the bytes that a READ returns may be
+//!   others, and after a write the bytes of the items. They are as many as defined. Positioning, READ POSITION and a
+//!   write that is refused come out as defined.
 //! - A read failed: the command reports UNRECOVERED READ ERROR, and the tape does not change. Only a READ that begins
 //!   with a record that it returns can come out so, as the index serves all other commands that read or move.
 //! - A write, a cut or a sync failed: the command reports WRITE ERROR. The items before the position remain. The unit

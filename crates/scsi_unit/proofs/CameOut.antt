@@ -1,5 +1,5 @@
 -- What follows from how a command came out.
-use Rattle.std.proofs.Common.{◌≡◌, ℕ, Bool, true, false, List, IsTrue, Result, Ok, Err, refl, sym, ap, subst, ◌∙◌, arith, ◌&&◌, ◌||◌, ◌⊎◌, inl, inr}
+use Rattle.std.proofs.Common.{◌≡◌, ℕ, Bool, true, false, List, IsTrue, Result, Ok, Err, refl, sym, ap, subst, ◌∙◌, arith, not, ◌&&◌, ◌||◌, ◌⊎◌, inl, inr}
 use Rattle.std.specs.Prelude.{is_some}
 use Rattle.std.proofs.lemmas.Bool.{false≢true, and_parts, or_left, or_right}
 use Rattle.media_block.specs.Blocks.{DiskState}
@@ -33,7 +33,7 @@ disk_back (disk_way.WriteFailed left honest) = refl
 
 pub tape_back : (came : TapeCame) → tape_came (on_tape came) ≡ came
 tape_back tape_way.AsDefined = refl
-tape_back (tape_way.Dishonest shown left) = refl
+tape_back (tape_way.Dishonest given left) = refl
 tape_back (tape_way.ReadFailed honest) = refl
 tape_back (tape_way.WriteFailed left) = refl
 
@@ -76,14 +76,18 @@ disk_touched (disk_way.WriteFailed left honest) touch disk possible =
 tape_touched : (came : TapeCame) (command : TapeCommand) (bytes : List ℕ) (tape : TapeState) → is_tape_possible came command bytes tape ≡ true
     → (came ≡ tape_way.AsDefined) ⊎ (touches (OnTape command bytes tape) ≡ true)
 tape_touched tape_way.AsDefined command bytes tape possible = inl refl
-tape_touched (tape_way.Dishonest shown left) command bytes tape possible =
-    inr (or_left (tape_touch command tape).goes_by _ (and_parts _ _ (and_parts _ _ possible).1).0)
+tape_touched (tape_way.Dishonest given left) command bytes tape possible =
+    let touch = tape_touch command tape in
+    inr (by_either touch.reads touch.writes touch.syncs tape.honest (and_parts _ _ (and_parts _ _ possible).1).0)
+  where
+    by_either : (reads writes syncs honest : Bool) → (reads || (writes && not honest)) ≡ true → (reads || (writes || syncs)) ≡ true
+    by_either true writes syncs honest is = refl
+    by_either false true syncs honest is = refl
+    by_either false false syncs honest is = absurd (false≢true is)
 tape_touched (tape_way.ReadFailed honest) command bytes tape possible =
-    let touch = tape_touch command tape in
-    inr (or_right touch.goes_by _ (or_left touch.reads _ (and_parts _ _ (and_parts _ _ possible).1).0))
+    inr (or_left (tape_touch command tape).reads _ (and_parts _ _ (and_parts _ _ possible).1).0)
 tape_touched (tape_way.WriteFailed left) command bytes tape possible =
-    let touch = tape_touch command tape in
-    inr (or_right touch.goes_by _ (or_right touch.reads _ (and_parts _ _ possible).1))
+    inr (or_right (tape_touch command tape).reads _ (and_parts _ _ (and_parts _ _ possible).1).0)
 
 pub failed_touch : (came : CameOut) (touch : Touch) → way came touch ≡ came → (came ≡ AsDefined) ⊎ (touches touch ≡ true)
 failed_touch came Nothing counts = inl (sym counts)
@@ -137,7 +141,7 @@ disk_trusted (disk_way.WriteFailed left honest) old trusted = absurd (omega (ari
 
 tape_trusted : (came : TapeCame) (old : StoreState) → IsTrustedStore old (tape_store came old) → came ≡ tape_way.AsDefined
 tape_trusted tape_way.AsDefined old trusted = refl
-tape_trusted (tape_way.Dishonest shown left) old trusted = absurd (false≢true trusted.honest)
+tape_trusted (tape_way.Dishonest given left) old trusted = absurd (false≢true trusted.honest)
 tape_trusted (tape_way.ReadFailed honest) old trusted = absurd (omega (arith, trusted.none.same, trusted.none.known))
 tape_trusted (tape_way.WriteFailed left) old trusted = absurd (omega (arith, trusted.none.same, trusted.none.known))
 
@@ -150,7 +154,7 @@ disk_was_sound (disk_way.WriteFailed left honest) old sound = absurd (omega (ari
 
 tape_was_sound : (came : TapeCame) (old : StoreState) → IsSoundStore (tape_store came old) → IsSoundStore old
 tape_was_sound tape_way.AsDefined old sound = sound
-tape_was_sound (tape_way.Dishonest shown left) old sound = absurd (false≢true sound.honest)
+tape_was_sound (tape_way.Dishonest given left) old sound = absurd (false≢true sound.honest)
 tape_was_sound (tape_way.ReadFailed honest) old sound = absurd (omega (arith, sound.unfailed))
 tape_was_sound (tape_way.WriteFailed left) old sound = absurd (omega (arith, sound.unfailed))
 

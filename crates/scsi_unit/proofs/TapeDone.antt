@@ -75,7 +75,8 @@ torn_facts false left tape on same = refl
 store_same : (came : TapeCame) (command : TapeCommand) (bytes : List ℕ) (on : TapeUnitState)
     → store_of (Tape (tape_after came command bytes on)) ≡ tape_store came (store_of (Tape on))
 store_same tape.AsDefined command bytes on = left_facts command bytes on.tape
-store_same (tape.Dishonest shown left) command bytes on = refl
+store_same (tape.Dishonest given left) command bytes on =
+    ap (λ (store : StoreState). record store { honest = false }) (left_facts command bytes on.tape)
 store_same (tape.ReadFailed honest) command bytes on = refl
 store_same (tape.WriteFailed left) command bytes on = torn_facts (tape_touch command on.tape).writes _ on.tape on refl
 

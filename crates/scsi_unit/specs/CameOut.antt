@@ -25,7 +25,7 @@ on_disk (disk_way.WriteFailed left honest) = OfDisk (disk_way.WriteFailed left h
 
 abbrev pub on_tape : TapeCame → CameOut
 on_tape tape_way.AsDefined = AsDefined
-on_tape (tape_way.Dishonest shown left) = OfTape (tape_way.Dishonest shown left)
+on_tape (tape_way.Dishonest given left) = OfTape (tape_way.Dishonest given left)
 on_tape (tape_way.ReadFailed honest) = OfTape (tape_way.ReadFailed honest)
 on_tape (tape_way.WriteFailed left) = OfTape (tape_way.WriteFailed left)
 
@@ -51,7 +51,7 @@ abbrev pub touches : Touch → Bool
 touches Nothing = false
 touches (OnDisk touch disk) = is_some touch.reads || (is_some touch.writes || touch.syncs)
 touches (OnTape command bytes tape) =
-    let touch = tape_touch command tape in touch.goes_by || (touch.reads || (touch.writes || touch.syncs))
+    let touch = tape_touch command tape in touch.reads || (touch.writes || touch.syncs)
 
 -- own: a way in which a command cannot come out counts as that of its definition
 abbrev pub way : CameOut → Touch → CameOut
@@ -69,7 +69,7 @@ disk_store (disk_way.WriteFailed left honest) store = record store { failures = 
 
 abbrev pub tape_store : TapeCame → StoreState → StoreState
 tape_store tape_way.AsDefined store = store
-tape_store (tape_way.Dishonest shown left) store = record store { honest = false }
+tape_store (tape_way.Dishonest given left) store = record store { honest = false }
 tape_store (tape_way.ReadFailed honest) store = record store { failures = risen store.failures; honest = honest }
 tape_store (tape_way.WriteFailed left) store = record store { failures = risen store.failures }
 

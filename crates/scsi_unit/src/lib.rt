@@ -25,7 +25,8 @@
 //! for any command over a store that is honest and steady. Otherwise there are four outcomes (`CameOut`):
 //!
 //! - The command came out as defined.
-//! - The store is not honest, and the command did what follows from what the store showed.
+//! - The store is not honest. On a disk the command did what follows from what the store showed, on a tape what is
+//!   defined, but for the bytes of records.
 //! - A read failed. The command reports UNRECOVERED READ ERROR and changes nothing.
 //! - A write or a sync failed. The command reports WRITE ERROR. The content of the blocks of its range is not defined;
 //!   of a tape the items before the position remain. The unit is not ready until it is opened again.
