@@ -2,7 +2,6 @@
 
 ghost use Rattle.std.specs.Prelude.{◌≡◌};
 ghost use Rattle.iscsi_pdu.specs.TaskManagement.{task_function, function_code};
-ghost use Rattle.scsi_unit.specs.Lun.{lun_number};
 ghost use Rattle.iscsi_session.specs.Functions.{reaches as reaches_in, has_unit, unit_named, is_earlier, is_in_set, set_result, scope as scope_in, waits as waits_in};
 ghost use Rattle.iscsi_session.specs.AbortScope.{scope_of, waits_by, is_for_all as is_for_all_by, attention_of as attention_by};
 ghost use Rattle.iscsi_session.specs.State.{reaches_frame};
@@ -11,6 +10,7 @@ use crate::acting::is_command;
 use iscsi_order::is_before;
 use iscsi_pdu::{Frame, Header, TaskFunction, TaskResult};
 use scsi_sense::Attention;
+use scsi_unit::Lun;
 use std::marker::Model;
 
 /// The SCSI Commands that a Task Management function removes (RFC 7143 §11.5.1).
@@ -110,17 +110,6 @@ impl<'a> Model for Reach<'a> {
     ghost view = { λ r. record { function = r.function; luns = r.luns.now; is_own = r.is_own } };
 }
 
-/// Returns the number in a LUN: byte 1, if all other bytes are zero (SAM-5 "Single level LUN structure").
-#[tactic(auto, unfolding(scsi_unit::specs::Lun::lun_number))]
-fn number_in(lun: [u8; 8]) -> Option<u8>
-    ensures { result ≡ lun_number lun }
-{
-    match lun {
-        [0, number, 0, 0, 0, 0, 0, 0] => Some(number),
-        _ => None,
-    }
-}
-
 impl Reach<'_> {
     /// Returns whether the function removes the SCSI Command with this header (RFC 7143 §11.5.1).
     #[tactic(auto, unfolding(crate::specs::Functions::reaches))]
@@ -172,7 +161,7 @@ impl Reach<'_> {
     fn unit_named(&self, header: &Header) -> Option<u8>
         ensures { result ≡ unit_named self.now.luns header.now }
     {
-        let number = number_in(header.lun())?;
+        let number = Lun::read(header.lun())?.number();
         if self.has_unit(number) {
             Some(number)
         } else {

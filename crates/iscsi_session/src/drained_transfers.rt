@@ -113,8 +113,7 @@ impl Transfers {
         let Some(place) = self.drain_of(frame.header.initiator_task_tag()) else {
             return;
         };
-        // It has no fault, so this does not fail.
-        let _ = self.drains[place].progress.data_out(frame);
+        self.drains[place].progress.accept(frame);
     }
 
     /// Returns whether a function is to wait for data of the commands that it reaches.

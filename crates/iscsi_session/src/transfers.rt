@@ -1,9 +1,9 @@
 //! The data that the initiator sends for the SCSI Commands of a session.
 
-ghost use Rattle.std.specs.Prelude.{◌≡◌, ◌++◌, ◌∷◌, List, [], None, IfOk, OnOk, OnErr};
+ghost use Rattle.std.specs.Prelude.{◌≡◌, ◌++◌, ◌∷◌, List, [], None, OnOk, OnErr};
 ghost use Rattle.iscsi_login.specs.Values.{AreInRange};
 ghost use Rattle.iscsi_transfer.specs.Payload.{begun};
-ghost use Rattle.iscsi_transfer.specs.WriteData.{command_fault, fault_of, with_data, remembered as task_of};
+ghost use Rattle.iscsi_transfer.specs.WriteData.{command_fault, remembered as task_of};
 ghost use Rattle.iscsi_session.specs.declared.transfers.Transfer.{Transfer};
 ghost use Rattle.iscsi_session.specs.declared.verdict.Verdict.TheVariants.{Feeding};
 ghost use Rattle.iscsi_session.specs.Draining.{judged_in, fed_in, is_live_in};
@@ -16,7 +16,7 @@ use crate::verdict::Verdict;
 use data_parts::{Data, Parts};
 use iscsi_login::Values;
 use iscsi_pdu::{Frame, Header};
-use iscsi_transfer::{DataFault, WriteData};
+use iscsi_transfer::WriteData;
 use std::alloc::Global;
 use std::marker::Model;
 use target_limits::Memory;
@@ -128,7 +128,8 @@ impl Transfers {
             self.feed_drained(&frame);
             return Ok(());
         };
-        grow(&mut self.list[place].task, frame)
+        self.list[place].task.accept(frame)?;
+        Ok(())
     }
 
     /// Adds a SCSI Command that has just come, with the data that it brings. If an allocation fails, nothing changes.
@@ -140,7 +141,12 @@ impl Transfers {
         ensures err { OnErr result (self.new ≡ self.old) }
     {
         self.list.reserve(1)?;
-        let task = start(self.alloc, frame, values)?;
+        // The frame keeps its own data until the command is executed.
+        let command = Frame {
+            header: frame.header,
+            body: Vec::from_slice(self.alloc, frame.body.as_slice())?,
+        };
+        let task = WriteData::begin(self.alloc, command, values)?;
         self.list.push_reserved(Transfer {
             header: frame.header,
             task,
@@ -203,37 +209,5 @@ impl Transfers {
                 place += 1;
             }
         }
-    }
-}
-
-/// Starts the data of a command, which is as agreed. Copies the immediate data, as the frame keeps its own.
-fn start(alloc: Global, frame: &Frame, values: &Values) -> Result<WriteData, Memory>
-    requires values { AreInRange values.now }
-    requires lawful { command_fault values.now frame.now ≡ None }
-    ensures { IfOk result (λ task. task ≡ task_of (begun values.now frame.now)) }
-{
-    let command = Frame {
-        header: frame.header,
-        body: Vec::from_slice(alloc, frame.body.as_slice())?,
-    };
-    match WriteData::start(alloc, command, values) {
-        Ok(task) => Ok(task),
-        Err(DataFault::Memory) => Err(Memory),
-        // The data is as agreed.
-        Err(_) => unreachable!(),
-    }
-}
-
-/// Accepts the data of a Data-Out that has no fault. If an allocation fails, nothing changes.
-fn grow(task: &mut WriteData, frame: Frame) -> Result<(), Memory>
-    requires { fault_of task.old frame ≡ None }
-    ensures ok { OnOk result (task.new ≡ with_data task.old frame) }
-    ensures err { OnErr result (task.new ≡ task.old) }
-{
-    match task.data_out(frame) {
-        Ok(()) => Ok(()),
-        Err(DataFault::Memory) => Err(Memory),
-        // The Data-Out has no fault.
-        Err(_) => unreachable!(),
     }
 }

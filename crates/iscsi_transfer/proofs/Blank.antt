@@ -76,7 +76,7 @@ pub brought_is : (task : WriteDataState) (out : Frame) (header : List ℕ) (size
     → blank (with_data task (brought header size)) ≡ blank (with_data task out)
 brought_is task out header size same long = rw (same, long) (with_brought task out)
 
-pub takes_brought : (task : WriteDataState) (out : Frame) → Takes task out → Takes task (brought out.header (length out.body))
-takes_brought task out t =
-    let same = filled_brought task out in
-    record { step = omega (arith, same, t.step); opened = omega (arith, same, t.opened) }
+pub fault_brought : (task : WriteDataState) (out : Frame) (header : List ℕ) (size : ℕ) → header ≡ out.header → size ≡ length out.body
+    → fault_of task (brought header size) ≡ fault_of task out
+unfolding fault_of
+fault_brought task out header size same long = rw (same, long, length-replicate {A = ℕ} (length out.body) 0) refl

@@ -1,7 +1,7 @@
 -- What holds of a Data-Out with which nothing is wrong.
 use Rattle.std.proofs.Common.{◌≡◌, ℕ, ◌+◌, ◌-◌, ◌/◌, ◌<◌, ◌≤◌, min, ◌++◌, length, Bool, true, false, not, ◌&&◌, ◌||◌, Some, None, refl, subst, inl, inr, arith, length-append}
 use Rattle.std.specs.Prelude.{nat_lt, nat_le, ◌==◌, if◌then◌else◌, Option}
-use Rattle.std.proofs.lemmas.Bool.{ltb-true, ltb-false, and_parts, cases_Bool, cond-true, cond-false}
+use Rattle.std.proofs.lemmas.Bool.{eqb-true, ltb-true, ltb-false, and_parts, cases_Bool, cond-true, cond-false}
 use Rattle.iscsi_pdu.specs.Frames.{Frame}
 use Rattle.iscsi_pdu.specs.DataOut.{target_transfer_tag, data_sn, buffer_offset}
 use Rattle.iscsi_transfer.specs.Payload.{is_last}
@@ -48,6 +48,7 @@ both false b h = absurd (cc)
 
 pub record Fits (task : WriteDataState) (out : Frame) : Type 0 where
   pub sequence : has_sequence task ≡ true
+  pub numbered : data_sn out.header ≡ task.sequence_length
   pub within : length task.payload + length out.body ≤ sequence_end task
   pub ends : ends_rightly task out ≡ true
 
@@ -59,6 +60,7 @@ fits task out lawful =
     lawful in
     record {
       sequence = both (has_sequence task) (target_transfer_tag out.header == sequence_tag task) (not_false _ p.tag);
+      numbered = eqb-true _ _ (not_false (data_sn out.header == task.sequence_length) p.sn);
       within = (let h = ltb-false (sequence_end task) (length task.payload + length out.body) p.within in omega arith);
       ends = not_false (ends_rightly task out) p.final;
     }

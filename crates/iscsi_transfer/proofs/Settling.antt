@@ -80,7 +80,7 @@ third false true c h = absurd (cc)
 third false false true h = absurd (cc)
 third false false false h = refl
 
-few_enough : (values : Values) (command : Frame) → command_fault values command ≡ None → length command.body ≤ expected command
+pub few_enough : (values : Values) (command : Frame) → command_fault values command ≡ None → length command.body ≤ expected command
 few_enough values command lawful =
     above_least (length command.body) values.first_burst_length (expected command)
     (ltb-false (unsolicited_limit values.first_burst_length (expected command)) (length command.body)

@@ -1,9 +1,10 @@
 //! How far the data of a SCSI Command has come.
 
-ghost use Rattle.std.specs.Prelude.{◌≡◌, ◌+◌, ◌*◌, ◌^◌, ◌<◌, ◌≤◌, [], ◌∷◌, length, replicate, true, IfNone, IfErr, OnOk, OnErr, Some, None};
+ghost use Rattle.std.specs.Prelude.{◌≡◌, ◌+◌, ◌*◌, ◌^◌, ◌<◌, ◌≤◌, [], ◌∷◌, length, replicate, true, IfErr, OnOk, OnErr, Some, None};
+ghost use Rattle.iscsi_pdu.specs.DataOut.{data_sn};
 ghost use Rattle.iscsi_transfer.specs.Payload.{announces, expected as expected_in};
 ghost use Rattle.iscsi_transfer.specs.WriteData.{WriteDataState, blank, fault_of as fault_in, filled, grown, with_data, with_asked, allowed, due_asks, first, is_due, is_asked, is_whole as is_whole_in, wanted as wanted_in, next_ask, sequence_tag, sequence_end, lacks_data};
-ghost use Rattle.iscsi_transfer.specs.Counted.{brought, Takes};
+ghost use Rattle.iscsi_transfer.specs.Counted.{brought};
 
 use crate::fault::DataFault;
 use arrayvec::ArrayVec;
@@ -102,7 +103,7 @@ impl Progress {
     pub(crate) fn begun(command: &Frame, values: &Values) -> Progress
         requires burst { 1 ≤ values.now.max_burst_length }
         requires outstanding { values.now.max_outstanding_r2t ≤ 4 }
-        requires short { length command.now.body ≤ 4294967295 }
+        requires fits { length command.now.body ≤ expected_in command.now }
         ensures { result ≡ record {
           payload = replicate (length command.now.body) 0;
           expected = expected_in command.now;
@@ -254,31 +255,10 @@ impl Progress {
     }
 
     /// Returns what is wrong with a Data-Out of this command: the first of [`DataFault::TransferTag`],
-    /// [`DataFault::DataSn`], [`DataFault::BufferOffset`], [`DataFault::TooMuch`] and [`DataFault::Final`].
+    /// [`DataFault::DataSn`], [`DataFault::BufferOffset`], [`DataFault::TooMuch`] and [`DataFault::Final`] (RFC 7143 §11.7).
+    #[tactic(auto, unfolding(crate::specs::WriteData::fault_of))]
     pub fn fault_of(&self, out: &Frame) -> Option<DataFault>
         ensures { result ≡ fault_in self.now out.now }
-    {
-        self.first_fault(out)
-    }
-
-    /// Returns what [`Progress::fault_of`] returns. `None` also guarantees that the data fits.
-    pub(crate) fn judged(&self, out: &Frame) -> Option<DataFault>
-        ensures fault { result ≡ fault_in self.now out.now }
-        ensures counted { IfNone result (self.now.sequence_length ≤ 4294967295) }
-        ensures short { IfNone result (length self.now.payload + length out.now.body ≤ self.now.expected) }
-        ensures takes { IfNone result (Takes self.now (brought out.now.header (length out.now.body))) }
-    {
-        let fault = self.first_fault(out);
-        // A burst has at least one byte, so the end of a sequence completes only one R2T.
-        prove!(1 <= self.burst);
-        fault
-    }
-
-    /// Returns the first fault of a Data-Out, tested in the order of `specs/WriteData.antt` (RFC 7143 §11.7).
-    #[tactic(auto, unfolding(crate::specs::WriteData::fault_of))]
-    fn first_fault(&self, out: &Frame) -> Option<DataFault>
-        ensures fault { result ≡ fault_in self.now out.now }
-        ensures counted { IfNone result (self.now.sequence_length ≤ 4294967295) }
     {
         let is_expected = self.is_open || self.is_asked();
         let reached = self.length + out.body.len();
@@ -306,16 +286,24 @@ impl Progress {
         ensures fault { IfErr result (λ fault. fault_in self.old out.now ≡ Some fault) }
         ensures err { OnErr result (self.new ≡ self.old) }
     {
-        if let Some(fault) = self.judged(out) {
+        if let Some(fault) = self.fault_of(out) {
             return Err(fault);
         }
-        self.take(&out.header, out.body.len());
+        self.accept(out);
         Ok(())
+    }
+
+    /// Accepts a Data-Out of this command with which nothing is wrong ([`Progress::fault_of`]), and throws its data away.
+    pub fn accept(&mut self, out: &Frame)
+        requires lawful { fault_in self.old out.now ≡ None }
+        ensures { self.new ≡ blank (with_data self.old out.now) }
+    {
+        self.take(&out.header, out.body.len());
     }
 
     /// Counts the data of a Data-Out, `size` bytes. Which R2Ts are open stays the same.
     fn grow(&mut self, header: &Header, size: usize)
-        requires counted { self.old.sequence_length ≤ 4294967295 }
+        requires numbered { data_sn header.now ≡ self.old.sequence_length }
         requires short { length self.old.payload + size ≤ self.old.expected }
         ensures grown { record self.new { sent = self.old.sent } ≡ blank (grown self.old (brought header.now size)) }
     {
@@ -328,17 +316,18 @@ impl Progress {
         self.sequence_length = if is_final {
             0
         } else {
-            self.sequence_length + 1
+            header.data_sn() as usize + 1
         };
     }
 
-    /// Accepts a Data-Out with `size` bytes. Its R2T is no longer open once all that it asked for has come.
+    /// Accepts a Data-Out with `size` bytes, with which nothing is wrong. Its R2T is no longer open once all that it asked
+    /// for has come.
     pub(crate) fn take(&mut self, header: &Header, size: usize)
-        requires counted { self.old.sequence_length ≤ 4294967295 }
-        requires short { length self.old.payload + size ≤ self.old.expected }
-        requires takes { Takes self.old (brought header.now size) }
+        requires lawful { fault_in self.old (brought header.now size) ≡ None }
         ensures { self.new ≡ blank (with_data self.old (brought header.now size)) }
     {
+        // A burst has at least one byte, so the end of a sequence completes only one R2T.
+        prove!(1 <= self.burst);
         let filled = self.filled();
         self.grow(header, size);
         if filled < self.filled() {

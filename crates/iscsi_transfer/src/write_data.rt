@@ -77,6 +77,18 @@ impl WriteData {
         if let Some(fault) = command_fault(&command, values) {
             return Err(fault);
         }
+        let task = WriteData::begin(alloc, command, values)?;
+        Ok(task)
+    }
+
+    /// Starts the data of a SCSI Command with which nothing is wrong ([`command_fault`]), as [`WriteData::start`] does.
+    pub fn begin(alloc: Global, command: Frame, values: &Values) -> Result<WriteData, AllocError>
+        requires burst { 1 ≤ values.now.max_burst_length }
+        requires outstanding { values.now.max_outstanding_r2t ≤ 4 }
+        requires lawful { command_fault_in values.now command ≡ None }
+        ensures stands { IfOk result (λ task. task ≡ remembered (begun values.now command)) }
+        ensures err { OnErr result (1 ≤ expected_in command) }
+    {
         let progress = Progress::begun(&command, values);
         let payload = immediate(alloc, command.body)?;
         Ok(WriteData { payload, progress })
@@ -132,9 +144,20 @@ impl WriteData {
         ensures fault { IfErr result (λ fault. (fault_in self.old out ≡ Some fault) ⊎ ((fault_in self.old out ≡ None) × (fault ≡ Memory))) }
         ensures err { OnErr result (self.new ≡ self.old) }
     {
-        if let Some(fault) = self.progress.judged(&out) {
+        if let Some(fault) = self.fault_of(&out) {
             return Err(fault);
         }
+        self.accept(out)?;
+        Ok(())
+    }
+
+    /// Accepts a Data-Out of this command with which nothing is wrong ([`WriteData::fault_of`]), as [`WriteData::data_out`]
+    /// does. If an allocation fails, nothing changes.
+    pub fn accept(&mut self, out: Frame) -> Result<(), AllocError>
+        requires lawful { fault_in self.old out ≡ None }
+        ensures ok { OnOk result (self.new ≡ with_data self.old out) }
+        ensures err { OnErr result (self.new ≡ self.old) }
+    {
         let Frame { header, body } = out;
         let size = body.len();
         self.payload.push(body)?;

@@ -56,6 +56,7 @@ mod tape_commands;
 mod unit;
 mod units;
 
+pub use lun::Lun;
 pub use serial::Serial;
 pub use target_limits::Memory;
 pub use unit::Unit;

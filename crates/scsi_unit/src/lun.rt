@@ -7,7 +7,7 @@ use std::marker::Model;
 
 /// The number of a logical unit of a target.
 #[derive(Clone, Copy)]
-pub(crate) struct Lun {
+pub struct Lun {
     number: u8,
 }
 

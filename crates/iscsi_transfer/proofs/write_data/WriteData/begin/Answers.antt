@@ -1,8 +1,12 @@
 use Rattle.std.proofs.Common.{◌≡◌, refl, ap, sym, ◌∙◌, length}
 use Rattle.iscsi_pdu.specs.Frames.{Frame}
 use Rattle.iscsi_transfer.specs.WriteData.{WriteDataState}
+use Rattle.iscsi_transfer.proofs.Settling.{few_enough}
 use Rattle.iscsi_transfer.proofs.Standing.{started}
-use Rattle.iscsi_transfer.proofs.write_data.WriteData.start.Goals as goal
+use Rattle.iscsi_transfer.proofs.write_data.WriteData.begin.Goals as goal
+
+pub begun-progress-requires-clause-fits : goal.begun-progress-requires-clause-fits
+begun-progress-requires-clause-fits c = few_enough c.args.values.now c.args.command c.requires.lawful
 
 pub returns-clause-stands : goal.returns-clause-stands
 returns-clause-stands c =
