@@ -7,7 +7,7 @@ use byteorder::{BigEndian, ByteOrder};
 use iscsi_pdu::{HEADER_LENGTH, Header};
 
 /// An answer.
-#[derive(Clone, Copy, Debug, PartialEq, Eq)]
+#[derive(Clone, Copy)]
 pub(crate) enum Answer {
     /// The last Login Response: the session has this TSIH.
     LoggedIn {

@@ -13,7 +13,7 @@ use iscsi_pdu::{Header, Opcode, TaskFunction};
 use std::net::SocketAddr;
 
 /// How far a connection has come.
-#[derive(Clone, Copy, Debug, PartialEq, Eq)]
+#[derive(Clone, Copy)]
 pub(crate) enum State {
     /// It has not logged in.
     LoggingIn,
@@ -25,7 +25,7 @@ pub(crate) enum State {
 }
 
 /// Why a connection ends, if not by a rule of the target.
-#[derive(Clone, Copy, Debug, PartialEq, Eq)]
+#[derive(Clone, Copy)]
 pub(crate) enum Cause {
     /// The peer sends nothing more.
     Closed,
@@ -36,7 +36,7 @@ pub(crate) enum Cause {
 }
 
 /// An event of a connection, for the log.
-#[derive(Clone, Copy, Debug, PartialEq, Eq)]
+#[derive(Clone, Copy)]
 pub(crate) enum Told {
     /// It logged in; the session has this TSIH.
     LoggedIn {
@@ -62,7 +62,7 @@ pub(crate) enum Told {
 }
 
 /// The number of bytes of a piece that were heard, and the event that they bring.
-#[derive(Clone, Copy, Debug, PartialEq, Eq)]
+#[derive(Clone, Copy)]
 pub(crate) struct Heard {
     pub(crate) count: usize,
     pub(crate) told: Option<Told>,

@@ -1,7 +1,7 @@
 //! How many lines may be written in a second.
 
 /// Counts lines second by second.
-#[derive(Clone, Copy, Debug)]
+#[derive(Clone, Copy)]
 pub(crate) struct Limit {
     /// The most lines that are written in a second.
     most: u32,

@@ -5,7 +5,7 @@ ghost use Rattle.std.specs.Prelude.{◌≤◌, ◌<◌, length};
 use iscsi_pdu::{HEADER_LENGTH, Header, MOST_DATA};
 
 /// What the first bytes of a piece are.
-#[derive(Clone, Copy, Debug, PartialEq, Eq)]
+#[derive(Clone, Copy)]
 pub(crate) enum Part {
     /// The end of a header, which is whole now.
     Header,
@@ -16,14 +16,14 @@ pub(crate) enum Part {
 }
 
 /// The number of bytes at the front of a piece that are one part.
-#[derive(Clone, Copy, Debug, PartialEq, Eq)]
+#[derive(Clone, Copy)]
 pub(crate) struct Taken {
     pub(crate) count: usize,
     pub(crate) part: Part,
 }
 
 /// How far one direction has come. Nothing is kept of data segments.
-#[derive(Clone, Copy, Debug)]
+#[derive(Clone, Copy)]
 pub(crate) struct PduStream {
     header: [u8; HEADER_LENGTH],
     /// The number of bytes of the header that have come.

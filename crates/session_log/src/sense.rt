@@ -8,7 +8,7 @@ use byteorder::{BigEndian, ByteOrder};
 const FRONT: usize = 16;
 
 /// How a command ended.
-#[derive(Clone, Copy, Debug, PartialEq, Eq)]
+#[derive(Clone, Copy)]
 pub(crate) struct Sensed {
     pub(crate) command: Command,
     pub(crate) key: u8,

@@ -29,7 +29,7 @@ const READ_FAILED: (u8, u16) = (0x03, 0x1100);
 const WRITE_FAILED: (u8, u16) = (0x03, 0x0C00);
 
 /// Whose line it is. The most lines in a second depend on it.
-#[derive(Clone, Copy, Debug, PartialEq, Eq)]
+#[derive(Clone, Copy)]
 enum Whose {
     Stranger,
     Host,

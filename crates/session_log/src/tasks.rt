@@ -10,14 +10,14 @@ use iscsi_pdu::{HEADER_LENGTH, Header};
 const TASKS: usize = 64;
 
 /// A command, by its logical unit and its CDB.
-#[derive(Clone, Copy, Debug, PartialEq, Eq)]
+#[derive(Clone, Copy)]
 pub(crate) struct Command {
     pub(crate) lun: [u8; 8],
     pub(crate) cdb: [u8; CDB],
 }
 
 /// Whether a task was answered.
-#[derive(Clone, Copy, Debug, PartialEq, Eq)]
+#[derive(Clone, Copy)]
 enum Standing {
     Answered,
     /// It was not answered, and when it came no other with its tag was unanswered.
@@ -28,14 +28,14 @@ enum Standing {
 }
 
 /// The Initiator Task Tag of a task, and whether it was answered.
-#[derive(Clone, Copy, Debug)]
+#[derive(Clone, Copy)]
 struct Mark {
     tag: u32,
     standing: Standing,
 }
 
 /// A task: a command, or a function.
-#[derive(Clone, Copy, Debug)]
+#[derive(Clone, Copy)]
 struct Task {
     /// `None`: it is a function.
     command: Option<Command>,
@@ -43,7 +43,7 @@ struct Task {
 }
 
 /// The latest tasks of a connection. The oldest is forgotten.
-#[derive(Clone, Copy, Debug)]
+#[derive(Clone, Copy)]
 pub(crate) struct RecentTasks {
     /// The mark of each task. They lie close together, since they are searched at each command and each answer.
     marks: [Mark; TASKS],

@@ -13,7 +13,7 @@ const MOST_ASKS: usize = 5;
 const NO_TRANSFER_TAG: u32 = 0xFFFF_FFFF;
 
 /// An R2T.
-#[derive(Clone, Copy, Debug, PartialEq, Eq)]
+#[derive(Clone, Copy)]
 pub(crate) struct Ask {
     /// The Target Transfer Tag.
     pub(crate) tag: u32,
@@ -28,7 +28,7 @@ const NO_ASK: Ask = Ask {
 };
 
 /// A sequence of Data-Outs that is open.
-#[derive(Clone, Copy, Debug, PartialEq, Eq)]
+#[derive(Clone, Copy)]
 struct Sequence {
     tag: u32,
     end: usize,
@@ -36,7 +36,7 @@ struct Sequence {
 }
 
 /// How far the data of one command has come.
-#[derive(Clone, Copy, Debug, PartialEq, Eq)]
+#[derive(Clone, Copy)]
 pub(crate) struct Transfer {
     /// The number of bytes that the command takes.
     expected: usize,

@@ -4,7 +4,7 @@ use iscsi_pdu::{MOST_DATA, Opcode};
 use std::fmt;
 
 /// What bounds the data of a sequence (RFC 7143 §11.3.4, §11.8.4, §13.14).
-#[derive(Clone, Copy, Debug, PartialEq, Eq)]
+#[derive(Clone, Copy)]
 pub(crate) enum Bound {
     FirstBurstLength,
     ExpectedLength,
@@ -12,7 +12,7 @@ pub(crate) enum Bound {
 }
 
 /// A rule, and how a PDU broke it.
-#[derive(Clone, Copy, Debug, PartialEq, Eq)]
+#[derive(Clone, Copy)]
 pub(crate) enum Violation {
     /// A data segment of this length is above what is taken (RFC 7143 §13.12).
     LongSegment {
@@ -75,7 +75,7 @@ pub(crate) enum Violation {
 }
 
 /// The PDU that closed its connection.
-#[derive(Clone, Copy, Debug, PartialEq, Eq)]
+#[derive(Clone, Copy)]
 pub(crate) struct Offence {
     pub(crate) opcode: Opcode,
     pub(crate) tag: u32,
