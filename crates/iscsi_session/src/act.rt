@@ -1,7 +1,7 @@
 //! The result of executing a request.
 
 /// What came of executing the next request.
-#[derive(Clone, Copy, Debug, PartialEq, Eq)]
+#[derive(Clone, Copy)]
 pub(crate) enum Act {
     /// There was none: every request that was taken has been executed.
     Idle,

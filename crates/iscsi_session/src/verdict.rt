@@ -3,7 +3,7 @@
 use iscsi_pdu::RejectReason;
 
 /// What becomes of a frame in full feature phase.
-#[derive(Clone, Copy, Debug, PartialEq, Eq)]
+#[derive(Clone, Copy)]
 pub(crate) enum Verdict {
     /// Its number is outside the window, or has come before (RFC 7143 §4.2.2.1).
     Ignored,

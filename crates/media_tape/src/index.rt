@@ -28,7 +28,7 @@ impl Model for Index {
 }
 
 /// Consecutive items of one size.
-#[derive(Clone, Copy, Debug)]
+#[derive(Clone, Copy)]
 pub(crate) struct Alike {
     /// The number of the first.
     pub first: u64,
@@ -43,7 +43,7 @@ pub(crate) struct Alike {
 }
 
 /// Items of one size, next to a position in the direction of spacing.
-#[derive(Clone, Copy, Debug)]
+#[derive(Clone, Copy)]
 pub(crate) struct Ahead {
     pub many: u64,
     /// The size of each.

@@ -8,7 +8,7 @@ ghost use Rattle.media_tape.specs.Runs.{run_before, run_size, AreRecords};
 pub(crate) const MARK_SIZE: u32 = 8;
 
 /// Consecutive items of one size, which follow those of the run before.
-#[derive(Clone, Copy, Debug)]
+#[derive(Clone, Copy)]
 pub(crate) struct Run {
     /// The number of items up to its last.
     pub count: u64,

@@ -13,7 +13,7 @@ use crate::outcome::{Direction, FixedEnd, FixedRead, Over, Spaced};
 use crate::run::MARK_SIZE;
 
 /// Where spacing ended, and why.
-#[derive(Clone, Copy, Debug, PartialEq, Eq)]
+#[derive(Clone, Copy)]
 pub(crate) struct Ended {
     /// The number of items before it.
     pub number: u64,

@@ -7,7 +7,7 @@ use crate::reservation_type::ReservationType;
 use scsi_cdb::ReservationClass;
 
 /// The relation of a nexus to a reservation.
-#[derive(Clone, Copy, Debug, PartialEq, Eq)]
+#[derive(Clone, Copy)]
 pub(crate) enum Who {
     Holder,
     /// It is registered, and does not hold the reservation.
@@ -16,7 +16,7 @@ pub(crate) enum Who {
 }
 
 /// What a reservation forbids a nexus.
-#[derive(Clone, Copy, Debug, PartialEq, Eq)]
+#[derive(Clone, Copy)]
 pub(crate) enum Refused {
     Nothing,
     Writing,

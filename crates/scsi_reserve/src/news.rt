@@ -9,7 +9,7 @@ use scsi_sense::{Attention, Nexus};
 use std::alloc::{AllocError, Global};
 
 /// Registrations of nexuses other than the caller.
-#[derive(Clone, Copy, Debug, PartialEq, Eq)]
+#[derive(Clone, Copy)]
 pub(crate) enum Others {
     All,
     /// Those with this key.
@@ -40,7 +40,7 @@ impl Others {
 }
 
 /// The unit attentions that a change establishes for the other registrants.
-#[derive(Clone, Copy, Debug, PartialEq, Eq)]
+#[derive(Clone, Copy)]
 pub(crate) struct News {
     pub others: Others,
     pub told: Attention,

@@ -13,7 +13,7 @@ const LIST_LENGTH: usize = 24;
 const REFUSED_BITS: u8 = 0x08 | 0x04 | 0x01;
 
 /// The keys of a parameter list (SPC-4 "Basic PERSISTENT RESERVE OUT parameter list").
-#[derive(Clone, Copy, Debug, PartialEq, Eq)]
+#[derive(Clone, Copy)]
 pub(crate) struct ParameterList {
     /// RESERVATION KEY: the caller's own.
     pub key: u64,

@@ -8,7 +8,7 @@ use scsi_cdb::ServiceAction;
 use scsi_sense::Condition;
 
 /// A service action with the type that it needs.
-#[derive(Clone, Copy, Debug, PartialEq, Eq)]
+#[derive(Clone, Copy)]
 pub(crate) enum Request {
     Register,
     Reserve(ReservationType),

@@ -10,7 +10,7 @@ use std::marker::Model;
 
 /// A nexus that is joined to a unit, and the unit attentions pending for it, in order (SAM-5 "Unit attention
 /// condition").
-#[derive(Debug, Drop)]
+#[derive(Drop)]
 pub(crate) struct Joined {
     pub nexus: Nexus,
     pub attentions: Attentions,

@@ -3,7 +3,7 @@
 use scsi_sense::{Attention, Sense};
 
 /// Why a command is refused.
-#[derive(Clone, Copy, Debug, PartialEq, Eq)]
+#[derive(Clone, Copy)]
 pub(crate) enum Refusal {
     /// With this sense data.
     Refused(Sense),
