@@ -119,7 +119,7 @@ misled writes left defined =
 
 -- profile: after a write, a cut or a sync failed, the items before the position remain. Those after it are lost if
 -- there was something to write. On a store that is not honest the bytes of those that remain may be others
-abbrev pub torn : TapeTouch → Standing → TapeState → TapeState
+abbrev torn : TapeTouch → Standing → TapeState → TapeState
 torn touch left tape =
     if touch.writes then record tape {
       before = if tape.honest then tape.before else left.before;

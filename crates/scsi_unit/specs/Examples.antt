@@ -148,6 +148,12 @@ tapes : ((perform_at a test_unit_ready [] (unit_with empty_tape (a_was_told ∷ 
 unfolding performed_as judged told unit_done
 tapes = (refl, refl)
 
+-- READ POSITION and LOCATE (10) do nothing with a store, so on a tape whose store lied they come out as defined
+positions : (touches (touch_at a (0x34 ∷ replicate 15 0) [] (unit_with (opened_tape (record empty { honest = false })) (a_was_told ∷ []))) ≡ false)
+    × (touches (touch_at a (0x2b ∷ replicate 15 0) [] (unit_with (opened_tape (record empty { honest = false })) (a_was_told ∷ []))) ≡ false)
+unfolding touch_at judged told
+positions = (refl, refl)
+
 -- LUN 1 if there is unit 0 alone: 05/2500
 no_unit : perform (unit_with disk [] ∷ []) a (0 ∷ 1 ∷ replicate 6 0) test_unit_ready [] ≡ (
   unit_with disk [] ∷

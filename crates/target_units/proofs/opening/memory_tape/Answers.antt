@@ -20,7 +20,7 @@ returns-in-Ok g c =
     let told = c.in-Ok.ensures in
     let made = c.in_ok-store.ensures in
     let honest = told.stays refl refl in
-    empty_opened c.args.capacity c.args.early c.in-Ok.tape (told.before honest)
+    empty_opened c.args.capacity c.args.early c.in-Ok.tape told.before
     (told.after honest ∙ ap (λ (s : MemoryState). items_of s.content) made ∙ nothing_stands) (told.tail honest) told.set.0 told.set.1 told.set.2
     (told.synced ∙ ap (λ (s : MemoryState). s.synced) made) (told.failures ∙ ap (λ (s : MemoryState). s.failures) made) honest told.steady
     (told.reach ∙ ap (λ (s : MemoryState). s.most) made) told.atomic
