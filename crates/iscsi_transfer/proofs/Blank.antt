@@ -1,8 +1,8 @@
 -- Only how long the payload is counts for the rules of a command's data.
-use Rattle.std.proofs.Common.{◌≡◌, ℕ, ◌+◌, List, ◌++◌, length, replicate, refl, sym, ap, ◌∙◌, arith}
+use Rattle.std.proofs.Common.{◌≡◌, ℕ, ◌+◌, List, ◌++◌, length, replicate, refl, sym, ap, ◌∙◌}
 use Rattle.std.proofs.lemmas.List.{length-append, length-replicate}
 use Rattle.iscsi_pdu.specs.Frames.{Frame}
-use Rattle.iscsi_transfer.specs.Counted.{brought, Takes}
+use Rattle.iscsi_transfer.specs.Counted.{brought}
 use Rattle.iscsi_transfer.specs.WriteData.{WriteDataState, blank, filled, grown, lacks_data, due_asks, is_asked, fault_of, with_data, with_asked}
 
 pub long_of : (zeros items : List ℕ) → zeros ≡ replicate (length items) 0 → length zeros ≡ length items
