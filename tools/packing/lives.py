@@ -128,6 +128,8 @@ def removes_and_purges_and_leaves_the_disks(package, _):
         writer = Writer(BLOCKS)
         Session().settle(0).told(0, f"2a00{5:08x}00000100", writer.content(5))
         content, number = one.at(f"{DISKS}/disk").read_bytes(), one.run("id", "-u", "targetd")
+        for log in ("log-20260301.gz", "archive.log", "archive.log.1"):
+            one.at(f"var/log/targetd/{log}").touch()
         one.dpkg("--remove", "targetd")
         assert not one.processes() and one.at(CONFIG).exists() and not one.at("usr/share/targetd").exists()
         said = one.dpkg("--purge", "targetd")
@@ -206,7 +208,7 @@ def leaves_all_as_it_was_where_var_is_full(package, later):
         subprocess.run(["umount", one.at("var/lib/dpkg")], check=True)
 
 
-def installs_the_archive_by_its_script(_, __, archive):
+def installs_the_archive_by_its_script(package, _, archive):
     with room(systemd=False) as one:
         shutil.copy(archive, one.at("root"))
         one.run("tar", "--directory", "/root", "-xzf", f"/root/{archive.name}")
@@ -219,6 +221,9 @@ def installs_the_archive_by_its_script(_, __, archive):
         assert re.search('^serial = "[0-9a-f]{16}"$', example, re.MULTILINE), example
         assert one.run("getent", "passwd", "targetd") and one.run(script)
         assert one.at("usr/local/share/doc/targetd/targetd.toml").read_text(encoding="ascii") == example
+        shutil.copy(package, one.at("root"))
+        said = one.dpkg("--force-confold", "--install", f"/root/{package.name}")
+        assert "below /usr/local goes before this one" in said, said[-600:]
         one.run(script, "--remove")
         assert not list(one.at("usr/local").rglob("*targetd*")) and one.at(CONFIG).exists() and one.at(f"{DISKS}/disk").exists()
 

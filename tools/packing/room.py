@@ -151,8 +151,8 @@ def bare(one, systemd):
 
 
 @contextmanager
-def room(systemd=True):
-    """A root that is this machine's but for what is written in it, without targetd."""
+def laid_over(lower):
+    """Makes a root that is the one at this path, but for what is written in it."""
     with tempfile.TemporaryDirectory(prefix="targetd-room-") as folder:
         top = Path(folder)
         mount("-t", "tmpfs", "-o", "mode=755", "tmpfs", top)
@@ -160,14 +160,21 @@ def room(systemd=True):
         try:
             for part in ("root", "upper", "work"):
                 (top / part).mkdir()
-            mount("-t", "overlay", "-o", f"lowerdir=/,upperdir={top}/upper,workdir={top}/work", "overlay", one.path)
+            mount("-t", "overlay", "-o", f"lowerdir={lower},upperdir={top}/upper,workdir={top}/work", "overlay", one.path)
             if not one.at("var/lib/dpkg/status").exists():
-                raise Skipped("/var is a file system of its own, which does not lie below the root that is made")
+                raise Skipped(f"no packages are installed in {lower}, or its /var is a file system of its own")
             for kind, place in (("proc", "proc"), ("tmpfs", "run"), ("tmpfs", "tmp")):
                 mount("-t", kind, kind, one.at(place))
             mount("--bind", "/dev", one.at("dev"))
-            bare(one, systemd)
             yield one
         finally:
             one.end_all()
             subprocess.run(["umount", "--recursive", "--lazy", top], check=False)
+
+
+@contextmanager
+def room(systemd=True):
+    """A root that is this machine's but for what is written in it, without targetd."""
+    with laid_over("/") as one:
+        bare(one, systemd)
+        yield one
