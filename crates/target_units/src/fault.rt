@@ -10,7 +10,7 @@ use target_limits::Memory;
 use thiserror::Error;
 
 /// Why a unit of one target is not opened.
-#[derive(Clone, Copy, Error)]
+#[derive(Clone, Copy, Debug, PartialEq, Eq, Error)]
 pub(crate) enum UnitFault {
     /// Its file cannot be read and written, or is no disk, or no tape of its capacity.
     #[error("unit {lun} cannot be opened")]
