@@ -3,7 +3,6 @@ with commands behind them, slow clients beside busy ones."""
 
 import random
 import select
-import signal
 import socket
 import struct
 import threading
@@ -11,7 +10,7 @@ import time
 
 from serving_checks.loopback import (CONNECTIONS, LOGIN, READY, READY_AGAIN, UNITS, answer_of, answers, connect,
                                      disk_file, held_clients, is_answered, is_closed, read, read_10, requests,
-                                     reset, serving)
+                                     reset, serving, stopped)
 from wire import notation, pdu
 
 AHEAD = 65536  # bytes that are read ahead of a connection at most
@@ -133,12 +132,11 @@ def begins_with_nothing_ahead_under_a_number_that_was_used():
 def answers_what_came_behind_urgent_data():
     # A read ends at the mark of the urgent byte, which is no part of the stream. Nothing more comes behind it.
     with serving() as (process, address), connect(address) as client:
-        process.send_signal(signal.SIGSTOP)
-        client.sendall(LOGIN + READY)
-        client.send(b"!", socket.MSG_OOB)
-        client.sendall(READY_AGAIN)
-        time.sleep(0.1)
-        process.send_signal(signal.SIGCONT)
+        with stopped(process):
+            client.sendall(LOGIN + READY)
+            client.send(b"!", socket.MSG_OOB)
+            client.sendall(READY_AGAIN)
+            time.sleep(0.1)
         data = read(client, len(answers(0)))
         assert data == answers(0), data.hex()
         client.send(b"!", socket.MSG_OOB)
@@ -202,10 +200,9 @@ def two_that_send_at_once(address, process, counts):
     clients = held_clients(address, 2)
     for n, client in enumerate(clients):
         assert is_answered(client, n), n
-    process.send_signal(signal.SIGSTOP)
-    for client, count in zip(clients, counts):
-        client.sendall(commands(count))
-    process.send_signal(signal.SIGCONT)
+    with stopped(process):
+        for client, count in zip(clients, counts):
+            client.sendall(commands(count))
     return clients
 
 

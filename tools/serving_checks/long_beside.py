@@ -3,7 +3,6 @@ others that connect without end: each is answered as ever."""
 
 import multiprocessing
 import random
-import signal
 import socket
 import struct
 import threading
@@ -12,7 +11,7 @@ from concurrent.futures import ThreadPoolExecutor
 from contextlib import contextmanager
 
 from serving_checks.loopback import (CONNECTIONS, LIMIT, answer_of, connect, descriptors_of, disk_file, is_answered,
-                                     is_answered_at_last, is_closed, read, read_10, reset, serving)
+                                     is_answered_at_last, is_closed, read, read_10, reset, serving, stopped)
 from serving_checks.long_turns import BLOCKS, LENGTH, SHORT, logged_in, one_read, reads
 from wire import notation, pdu
 
@@ -262,13 +261,12 @@ def ends_out_of_turn(process, address, content, count):
     alone = descriptors_of(process)
     clients = [one_read(logged_in(address, number)) for number in range(16)]
     steady, halves, closed, gone = (clients[n::4] for n in range(4))
-    process.send_signal(signal.SIGSTOP)
-    for client in clients:
-        client.sendall(reads(count, SHORT, 126))
-    for those, end in ((halves, half_close), (closed, socket.socket.close), (gone, reset)):
-        for client in those:
-            end(client)
-    process.send_signal(signal.SIGCONT)
+    with stopped(process):
+        for client in clients:
+            client.sendall(reads(count, SHORT, 126))
+        for those, end in ((halves, half_close), (closed, socket.socket.close), (gone, reset)):
+            for client in those:
+                end(client)
     for client in steady + halves:
         for number in range(count):
             assert answer_of(client) == (content[:512 * SHORT], 0, b""), (count, number)

@@ -1,14 +1,14 @@
 """Connections to which much is sent at once take turns: each is answered whole, and nobody waits for one that does not read."""
 
 import random
-import signal
 import threading
 from concurrent.futures import ThreadPoolExecutor
 from pathlib import Path
 
 from serving_checks.ahead import commands
 from serving_checks.loopback import (CONNECTIONS, READY_AGAIN, answer_of, connect, disk_file, held_clients,
-                                     is_answered, is_answered_at_last, read, read_10, reset, serving, writing)
+                                     is_answered, is_answered_at_last, read, read_10, reset, serving, stopped,
+                                     writing)
 from wire import notation, pdu
 
 LENGTH = 1 << 20  # bytes of the disk
@@ -102,10 +102,9 @@ def gives_each_of_8_that_read_much_its_turn():
         readers = [threading.Thread(target=counted, args=(client, counts, n)) for n, client in enumerate(clients)]
         for reader in readers:
             reader.start()
-        process.send_signal(signal.SIGSTOP)
-        for client in clients:
-            client.sendall(reads(QUEUED, SHORT))
-        process.send_signal(signal.SIGCONT)
+        with stopped(process):
+            for client in clients:
+                client.sendall(reads(QUEUED, SHORT))
         for reader in readers:
             reader.join()
         # A turn reads of one of them, each time of the next, so the turns are over before all is read.
@@ -130,12 +129,11 @@ def lets_nobody_wait_for_more_than_64_turns():
         readers = [threading.Thread(target=counted, args=(client, counts, n)) for n, client in enumerate(clients)]
         for reader in readers:
             reader.start()
-        process.send_signal(signal.SIGSTOP)
-        for client in much:
-            client.sendall(reads(QUEUED, SHORT, 126))
-        for client, count in little.items():
-            client.sendall(commands(count))
-        process.send_signal(signal.SIGCONT)
+        with stopped(process):
+            for client in much:
+                client.sendall(reads(QUEUED, SHORT, 126))
+            for client, count in little.items():
+                client.sendall(commands(count))
         for reader in readers:
             reader.join()
         # A turn reads of one that reads much, so they tell the turns. It reads of each other one, whose answers leave
@@ -172,10 +170,9 @@ def makes_few_answers_at_once_for_64_that_were_idle():
     with disk_file(content) as (_, units), serving(units=units) as (process, address):
         clients = [logged_in(address, number) for number in range(CONNECTIONS)]
         before = peak_of(process)
-        process.send_signal(signal.SIGSTOP)
-        for client in clients:
-            client.sendall(reads(1, WHOLE))
-        process.send_signal(signal.SIGCONT)
+        with stopped(process):
+            for client in clients:
+                client.sendall(reads(1, WHOLE))
         with ThreadPoolExecutor(CONNECTIONS) as pool:
             assert list(pool.map(answer_of, clients)) == [(content, 0, b"")] * CONNECTIONS
         assert peak_of(process) - before < AT_ONCE, peak_of(process) - before

@@ -1,6 +1,7 @@
 """targetd on real sockets of loopback, and what clients send it and read of it."""
 
 import os
+import signal
 import socket
 import struct
 import subprocess
@@ -206,6 +207,20 @@ def writing(client, number, address, content):
 def held_clients(address, count):
     """So many clients that are connected."""
     return [connect(address) for _ in range(count)]
+
+
+@contextmanager
+def stopped(process):
+    """Stops a process, waits until it makes no call, and lets it go on after the block."""
+    process.send_signal(signal.SIGSTOP)
+    until = time.monotonic() + LIMIT
+    while Path(f"/proc/{process.pid}/stat").read_text(encoding="utf-8").rpartition(")")[2].split()[0] != "T":
+        assert time.monotonic() < until
+        time.sleep(0.001)
+    try:
+        yield
+    finally:
+        process.send_signal(signal.SIGCONT)
 
 
 def processor_time(process):
