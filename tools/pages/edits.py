@@ -21,7 +21,7 @@ GROUPS = (
 BEGINNING = re.compile(r"# (?P<words>[A-Z].*[^.\n])\n# group: (?P<group>.+)\nfile: ")
 HEAD = f"""# Wrong bodies
 
-A contract is only as good as what it refuses. Each file `NAME.edit` in the folder `must-fail` of a crate changes a line or two of its code, as somebody could in good faith, and `rt ci` checks that the prover refuses it. Below is what the code would then do. They cover what the promises name, and holes that a contract once had. There are at most {MOST}, as each costs a check of its crate; `rt plant` makes up others by the hundred ([PROGRESS](../docs/dev/PROGRESS.md#owed-besides)).
+A contract is only as good as what it refuses. Each file `NAME.edit` in the folder `must-fail` of a crate changes a line or two of its code, as somebody could in good faith. `rt ci` checks that the prover refuses it. Below is what the code would then do. They cover what the promises name, and holes that a contract once had. There are at most {MOST}, as each costs a check of its crate; `rt plant` makes up others by the hundred ([PROGRESS](../docs/dev/PROGRESS.md#owed-besides)).
 
 `tools/wrong-bodies` makes this page of the comments that the edits begin with; [CONTRIBUTING](../CONTRIBUTING.md#a-wrong-body) says how to add one.
 """
