@@ -296,7 +296,7 @@ impl<S: Store> Disk<S> {
 
     /// Waits until what was written is on the medium.
     pub fn sync(&mut self) -> Result<(), StoreFault>
-        ensures disk { self.new ≡ record self.old { synced = if is_ok result then true else self.old.synced; failures = counted result self.old.failures } }
+        ensures disk { self.new ≡ record self.old { synced = is_ok result; failures = counted result self.old.failures } }
         ensures succeeds { IsTrue self.old.steady → IsOk result }
     {
         self.store.sync()

@@ -1,14 +1,14 @@
 -- Calls that are made again, and what a store says of them.
-use Rattle.std.proofs.Common.{◌≡◌, ℕ, zero, suc, ◌-◌, ◌^◌, ◌<◌, ◌≤◌, ◌==◌, ◌&&◌, min, max, Bool, true, false, if◌then◌else◌, IsTrue, List, ◌∷◌, ◌++◌, length, replicate, refl, sym, ◌∙◌, ap, arith, rules, Result, Ok, Err, is_ok, IfOk, OnOk, OnErr}
+use Rattle.std.proofs.Common.{◌≡◌, ℕ, zero, suc, ◌-◌, ◌^◌, ◌<◌, ◌≤◌, ◌==◌, ◌&&◌, min, max, not, Bool, true, false, IsTrue, List, [], ◌∷◌, ◌++◌, length, replicate, refl, sym, ◌∙◌, ap, arith, rules, Result, Ok, Err, is_ok, IfOk, OnOk, OnErr}
 use Rattle.std.proofs.lemmas.List.{places, same_lists}
-use Rattle.std.proofs.lemmas.Bool.{and_parts}
+use Rattle.std.proofs.lemmas.Bool.{and_parts, false≢true}
 use Rattle.std.proofs.lemmas.Bool.Decides.{Decides-eqb}
 use Rattle.media_store.specs.Again.{HasTried, HasFailed, Refused, GivenUp, Tries}
-use Rattle.media_store.specs.Calls.{FileCall, Measured, NotMeasured, Resized, NotResized, Synced, NotSynced, GaveUp}
+use Rattle.media_store.specs.Calls.{FileCall, Opened, NotOpened, NotLocked, Measured, NotMeasured, Read, NotRead, Wrote, NotWritten, Resized, NotResized, Synced, NotSynced, GaveUp, SyncRefused}
 use Rattle.media_store.specs.Content.{resized, KeepsFront}
 use Rattle.media_store.specs.Ends.{failed_calls}
 use Rattle.media_store.specs.Failures.{risen, counted}
-use Rattle.media_store.specs.Replay.{Origin, content_of, is_honest, is_synced, torn_length}
+use Rattle.media_store.specs.Replay.{Origin, content_of, is_honest, sync_has_failed, is_synced, torn_length}
 use Rattle.media_store.proofs.PartsWritten.{KeepsFront-resized}
 use Rattle.media_store.proofs.Joined.{and_true}
 
@@ -191,6 +191,28 @@ module _ {T E : Type 0} (origin : Origin) (len : ℕ) (old now : List FileCall) 
 
 -- ---- the file is synced
 
+interrupted-unsynced : (times : ℕ) (old : List FileCall) → 0 < times → is_synced (replicate times (NotSynced true) ++ old) ≡ false
+interrupted-unsynced zero old some = absurd (omega (arith, some))
+interrupted-unsynced (suc times) old some = refl
+
+pub failed-unsynced : (calls : List FileCall) → sync_has_failed calls ≡ true → is_synced calls ≡ false
+failed-unsynced [] lost = absurd (false≢true lost)
+failed-unsynced (Opened path ∷ calls) lost = failed-unsynced calls lost
+failed-unsynced (NotOpened path ∷ calls) lost = failed-unsynced calls lost
+failed-unsynced (NotLocked ∷ calls) lost = failed-unsynced calls lost
+failed-unsynced (Measured len ∷ calls) lost = failed-unsynced calls lost
+failed-unsynced (NotMeasured interrupted ∷ calls) lost = failed-unsynced calls lost
+failed-unsynced (Read at bytes count ∷ calls) lost = failed-unsynced calls lost
+failed-unsynced (NotRead at count interrupted ∷ calls) lost = failed-unsynced calls lost
+failed-unsynced (Wrote at bytes count ∷ calls) lost = refl
+failed-unsynced (NotWritten at count interrupted ∷ calls) lost = refl
+failed-unsynced (Resized len ∷ calls) lost = refl
+failed-unsynced (NotResized len interrupted ∷ calls) lost = refl
+failed-unsynced (Synced ∷ calls) lost = rw lost refl
+failed-unsynced (NotSynced interrupted ∷ calls) lost = refl
+failed-unsynced (GaveUp ∷ calls) lost = failed-unsynced calls lost
+failed-unsynced (SyncRefused ∷ calls) lost = failed-unsynced calls lost
+
 module _ {T E : Type 0} (origin : Origin) (old now : List FileCall) where
   pub synced-content : (result : Result T E) → Tries (λ _. Synced) NotSynced result old now → content_of origin now ≡ content_of origin old
   synced-content result tried =
@@ -206,8 +228,9 @@ module _ {T E : Type 0} (origin : Origin) (old now : List FileCall) where
   synced-counted result tried =
       tries-counted (λ _. Synced) NotSynced old now (λ _ _. refl) (λ _. refl) (λ _. refl) result tried
 
-  pub synced-tested : (result : Result T E) → Tries (λ _. Synced) NotSynced result old now
-      → is_synced now ≡ (if is_ok result then true else is_synced old)
-  synced-tested (Ok done) tried = rw tried.calls refl
-  synced-tested (Err error) (Refused tried) = rw tried.calls (kept is_synced (NotSynced true) (λ _. refl) tried.times old)
-  synced-tested (Err error) (GivenUp tried all) = rw tried.calls (kept is_synced (NotSynced true) (λ _. refl) tried.times old)
+  pub synced-tested : (result : Result T E) → sync_has_failed old ≡ false → Tries (λ _. Synced) NotSynced result old now
+      → is_synced now ≡ is_ok result
+  synced-tested (Ok done) none tried =
+      rw tried.calls (ap not (kept sync_has_failed (NotSynced true) (λ _. refl) tried.times old ∙ none))
+  synced-tested (Err error) none (Refused tried) = rw tried.calls refl
+  synced-tested (Err error) none (GivenUp tried all) = rw tried.calls (interrupted-unsynced tried.times old (omega (arith, all)))

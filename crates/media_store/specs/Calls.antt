@@ -5,7 +5,7 @@ use Rattle.std.specs.declared.io.Error.{Error}
 use Rattle.std.specs.declared.io.ErrorKind.{ErrorKind}
 use Rattle.std.specs.declared.io.ErrorKind.TheVariants as kinds
 use Rattle.call_record.specs.Noted.{Noted}
-use Rattle.media_store.specs.declared.system_file.TheConstants.{END, READ, WRITE, RESIZE, SYNC, OPEN, LOCK}
+use Rattle.media_store.specs.declared.system_file.TheConstants.{END, READ, WRITE, RESIZE, SYNC, OPEN, LOCK, REFUSE_SYNC}
 
 -- own: a call with its answer; offsets, lengths and counts are in bytes. One that failed says whether a signal
 -- interrupted it
@@ -32,6 +32,8 @@ pub data FileCall : Type 0 where
   NotSynced : (interrupted : Bool) → FileCall
   -- no further call was made
   GaveUp : FileCall
+  -- no sync was made, since one had failed before
+  SyncRefused : FileCall
 
 -- signal(7): an error says that a signal interrupted the call
 abbrev pub is_interruption : ErrorKind → Bool
@@ -83,6 +85,7 @@ failed kind number count bytes interrupted =
     else if kind == SYNC then NotSynced interrupted
     else if kind == OPEN then NotOpened bytes
     else if kind == LOCK then NotLocked
+    else if kind == REFUSE_SYNC then SyncRefused
     else GaveUp
 
 abbrev pub call_of : Noted → FileCall

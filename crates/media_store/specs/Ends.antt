@@ -1,6 +1,6 @@
 -- At which call of the system a call of a store ends, and how many calls of the store failed.
 use Rattle.std.specs.Prelude.{◌≡◌, ℕ, ◌+◌, ◌-◌, ◌^◌, nat_lt, nat_le, ◌==◌, Bool, true, false, not, ◌&&◌, ◌||◌, IsTrue, List, [], ◌∷◌, ◌++◌, length, if◌then◌else◌}
-use Rattle.media_store.specs.Calls.{FileCall, NotOpened, NotLocked, NotMeasured, Read, NotRead, Wrote, NotWritten, NotResized, NotSynced, GaveUp}
+use Rattle.media_store.specs.Calls.{FileCall, NotOpened, NotLocked, NotMeasured, Read, NotRead, Wrote, NotWritten, NotResized, NotSynced, GaveUp, SyncRefused}
 use Rattle.media_store.specs.Failures.{risen}
 
 -- own: whether a call of the system fails the opening or the call of the store. One that a signal interrupted is made again. A read or
@@ -16,6 +16,7 @@ has_failed (NotWritten at count interrupted) = not interrupted
 has_failed (NotResized len interrupted) = not interrupted
 has_failed (NotSynced interrupted) = not interrupted
 has_failed GaveUp = true
+has_failed SyncRefused = true
 has_failed call = false
 
 -- own: how many calls of a store failed: each ends where one of the system fails it. It stays at the greatest u64

@@ -2,7 +2,7 @@
 use Rattle.std.specs.Prelude.{◌≡◌, ◌-◌, ◌^◌, ◌==◌, true, false, List, [], ◌∷◌, slice_index, if◌then◌else◌, refl}
 use Rattle.media_store.specs.Content.{resized, written}
 use Rattle.media_store.specs.Failures.{risen}
-use Rattle.media_store.specs.Calls.{FileCall, Opened, Measured, Read, Wrote, NotWritten, NotResized, Synced, NotSynced, GaveUp, NotOpened, NotLocked, call_of}
+use Rattle.media_store.specs.Calls.{FileCall, Opened, Measured, Read, Wrote, NotWritten, NotResized, Synced, NotSynced, GaveUp, SyncRefused, NotOpened, NotLocked, call_of}
 use Rattle.media_store.specs.Replay.{Origin, content_of, is_honest, is_synced}
 
 -- within the content, over its end, and after it
@@ -54,10 +54,15 @@ torn : (content_of origin (NotWritten 1 2 false ∷ opened) ≡ 1 ∷ 8 ∷ 9 �
     × (content_of origin (NotResized 1 false ∷ opened) ≡ 1 ∷ 2 ∷ 3 ∷ [])
 torn = (refl, refl, refl)
 
--- a sync that succeeds comes after the write; it failed; a write was tried after it; a sync fails after it
-synced : (is_synced (Synced ∷ Wrote 1 (5 ∷ []) 1 ∷ opened) ≡ true) × (is_synced (NotSynced false ∷ Wrote 1 (5 ∷ []) 1 ∷ opened) ≡ false)
-    × (is_synced (NotWritten 1 2 false ∷ Synced ∷ opened) ≡ false) × (is_synced (NotSynced false ∷ Synced ∷ opened) ≡ true)
+-- a sync that succeeds comes after the write, or after a signal; it failed; a write was tried after it
+synced : (is_synced (Synced ∷ Wrote 1 (5 ∷ []) 1 ∷ opened) ≡ true) × (is_synced (Synced ∷ NotSynced true ∷ opened) ≡ true)
+    × (is_synced (NotSynced false ∷ Wrote 1 (5 ∷ []) 1 ∷ opened) ≡ false) × (is_synced (NotWritten 1 2 false ∷ Synced ∷ opened) ≡ false)
 synced = (refl, refl, refl, refl)
+
+-- a sync fails: nothing is synced any more, whatever succeeds after it
+lost : (is_synced (NotSynced false ∷ Synced ∷ opened) ≡ false) × (is_synced (SyncRefused ∷ NotSynced false ∷ Synced ∷ opened) ≡ false)
+    × (is_synced (Synced ∷ NotSynced false ∷ Wrote 1 (5 ∷ []) 1 ∷ opened) ≡ false)
+lost = (refl, refl, refl)
 
 -- notes, read as calls
 notes : (call_of (record { numbers = 1 ∷ 7 ∷ 4 ∷ []; bytes = 5 ∷ 6 ∷ []; flags = true ∷ [] }) ≡ Read 7 (5 ∷ 6 ∷ []) 4)
@@ -68,4 +73,5 @@ notes : (call_of (record { numbers = 1 ∷ 7 ∷ 4 ∷ []; bytes = 5 ∷ 6 ∷ [
     × (call_of (record { numbers = 6 ∷ []; bytes = []; flags = false ∷ [] }) ≡ GaveUp)
     × (call_of (record { numbers = 5 ∷ []; bytes = 47 ∷ []; flags = false ∷ [] }) ≡ NotOpened (47 ∷ []))
     × (call_of (record { numbers = 7 ∷ []; bytes = []; flags = false ∷ [] }) ≡ NotLocked)
-notes = (refl, refl, refl, refl, refl, refl, refl, refl)
+    × (call_of (record { numbers = 8 ∷ []; bytes = []; flags = false ∷ [] }) ≡ SyncRefused)
+notes = (refl, refl, refl, refl, refl, refl, refl, refl, refl)

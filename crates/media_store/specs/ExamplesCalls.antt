@@ -1,5 +1,5 @@
 -- How calls of a store end, computed.
-use Rattle.std.specs.Prelude.{◌≡◌, Bool, true, false, if◌then◌else◌, List, [], ◌∷◌, refl}
+use Rattle.std.specs.Prelude.{◌≡◌, true, false, if◌then◌else◌, [], ◌∷◌, refl}
 use Rattle.std.proofs.Common.{ap}
 use Rattle.std.proofs.lemmas.Bool.{leb-true}
 use Rattle.media_store.specs.Again.{HasTried, HasFailed, Refused}

@@ -8,7 +8,7 @@ use Rattle.media_store.specs.declared.fail.FailStore.{FailStore}
 abbrev pub store_of : {S : Type 0} → FailStore S → S
 store_of failing = failing.store
 
--- own: how many calls it failed, and whether a write or a cut was refused after which nothing was synced
+-- own: how many calls it failed, and whether a write, a cut or a sync was refused after which nothing was synced
 abbrev pub failures_of : {S : Type 0} → FailStore S → ℕ
 failures_of failing = failing.failures
 

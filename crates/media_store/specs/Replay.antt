@@ -1,6 +1,6 @@
 -- What a file holds after its calls, whether it answered as a file does that holds this, and whether it is synced.
-use Rattle.std.specs.Prelude.{ℕ, ◌+◌, ◌==◌, min, max, Bool, true, false, ◌&&◌, List, [], ◌∷◌, length, take, slice_range, bytes_eq}
-use Rattle.media_store.specs.Calls.{FileCall, Opened, Measured, Read, Wrote, NotWritten, Resized, NotResized, Synced}
+use Rattle.std.specs.Prelude.{ℕ, ◌+◌, ◌==◌, min, max, Bool, true, false, not, ◌&&◌, ◌||◌, List, [], ◌∷◌, length, take, slice_range, bytes_eq}
+use Rattle.media_store.specs.Calls.{FileCall, Opened, Measured, Read, Wrote, NotWritten, Resized, NotResized, Synced, NotSynced}
 use Rattle.media_store.specs.Content.{written, resized}
 
 -- own: what the files held when they were opened, by their paths, and what a failed call left of what it should have
@@ -52,17 +52,28 @@ abbrev pub is_honest : Origin → List FileCall → Bool
 is_honest origin [] = true
 is_honest origin (call ∷ earlier) = is_honest origin earlier && agrees call (content_of origin earlier)
 
--- own: whether all is on the medium after a call: a sync that succeeds puts it there, and a change, done or tried, ends
--- that
-abbrev pub synced_after : FileCall → Bool → Bool
-synced_after Synced synced = true
-synced_after (Wrote at bytes count) synced = false
-synced_after (NotWritten at count interrupted) synced = false
-synced_after (Resized len) synced = false
-synced_after (NotResized len interrupted) synced = false
-synced_after call synced = synced
+-- fsync(2): whether a sync has failed. The system reports once that it could not write something back, so a sync that
+-- succeeds after it says nothing
+abbrev pub is_failed_sync : FileCall → Bool
+is_failed_sync (NotSynced interrupted) = not interrupted
+is_failed_sync call = false
+
+abbrev pub sync_has_failed : List FileCall → Bool
+sync_has_failed [] = false
+sync_has_failed (call ∷ earlier) = is_failed_sync call || sync_has_failed earlier
+
+-- own: whether all is on the medium after a call: a sync that succeeds puts it there, unless one had failed before. A
+-- change, and a sync that failed, end that
+abbrev pub synced_after : FileCall → Bool → Bool → Bool
+synced_after Synced failed synced = not failed
+synced_after (NotSynced interrupted) failed synced = false
+synced_after (Wrote at bytes count) failed synced = false
+synced_after (NotWritten at count interrupted) failed synced = false
+synced_after (Resized len) failed synced = false
+synced_after (NotResized len interrupted) failed synced = false
+synced_after call failed synced = synced
 
 -- own: of a file of which nothing is known, until a sync of it succeeds
 abbrev pub is_synced : List FileCall → Bool
 is_synced [] = false
-is_synced (call ∷ earlier) = synced_after call (is_synced earlier)
+is_synced (call ∷ earlier) = synced_after call (sync_has_failed earlier) (is_synced earlier)

@@ -27,7 +27,7 @@ pub struct FailStore<S: Store> {
     only: Option<Call>,
     /// How many of these calls are still passed on.
     left: u64,
-    /// Whether a write or a cut was refused, and nothing was synced after it.
+    /// Whether a write, a cut or a sync was refused, and nothing was synced after it.
     torn: bool,
     failures: u64,
 }
@@ -200,8 +200,7 @@ impl<S: Store> Store for FailStore<S> {
     fn sync(&mut self) -> Result<(), StoreFault>
         ensures content { S.Store.content (store_of self.new) ≡ S.Store.content (store_of self.old) }
         ensures honest { S.Store.honest (store_of self.new) ≡ S.Store.honest (store_of self.old) }
-        ensures synced { (S.Store.synced (store_of self.new) && not (is_torn self.new)) ≡ (if is_ok result then true
-            else (S.Store.synced (store_of self.old) && not (is_torn self.old))) }
+        ensures synced { (S.Store.synced (store_of self.new) && not (is_torn self.new)) ≡ is_ok result }
         ensures reach { S.Store.reach (store_of self.new) ≡ S.Store.reach (store_of self.old) }
         ensures atomic { S.Store.atomic (store_of self.new) ≡ S.Store.atomic (store_of self.old) }
         ensures failures { failures_of self.new ≡ counted_calls result (failures_of self.old) }
@@ -213,6 +212,7 @@ impl<S: Store> Store for FailStore<S> {
             → IsOk result }
     {
         if refuses(self.only, Call::Sync, &mut self.left) {
+            self.torn = true;
             return Err(count(&mut self.failures));
         }
         let synced = self.store.sync();

@@ -1,12 +1,13 @@
 //! A store in a file.
 
-ghost use Rattle.std.specs.Prelude.{◌≡◌, ◌+◌, ◌≤◌, ◌∷◌, [], ℕ, List, length, true, false, is_ok, if◌then◌else◌, IsTrue, IsOk, IfOk, OnOk, OnErr, slice_range};
+ghost use Rattle.std.specs.Prelude.{◌≡◌, ◌+◌, ◌≤◌, ◌∷◌, [], ℕ, List, length, true, false, is_ok, IsTrue, IsOk, IsErr, IfOk, OnOk, OnErr, slice_range};
 ghost use Rattle.media_store.specs.Again.{Tries};
-ghost use Rattle.media_store.specs.Calls.{Opened, Measured, NotMeasured, Resized, NotResized, Synced, NotSynced};
+ghost use Rattle.media_store.specs.Calls.{Opened, Measured, NotMeasured, Resized, NotResized, Synced, NotSynced, SyncRefused};
 ghost use Rattle.media_store.specs.Content.{resized, written, KeepsOutside, KeepsFront};
 ghost use Rattle.media_store.specs.Ends.{HasEnded};
 ghost use Rattle.media_store.specs.Failures.{counted};
 ghost use Rattle.media_store.specs.Honesty.{HasAgreed};
+ghost use Rattle.media_store.specs.Replay.{sync_has_failed};
 
 use crate::again::{measure, resize, sync};
 use crate::fault::StoreFault;
@@ -21,8 +22,10 @@ use std::marker::{Model, PhantomData};
 ///
 /// All is read from the calls so far. The content is what the file at the path that was opened held then, as `S`
 /// says, after these calls. It is honest as long as every length and every byte that the system told agrees with
-/// that content, and synced if a sync has succeeded after all that changed it. A call of the store fails only if one of
-/// the system did that no signal interrupted, or if it is given up, and is counted from that note.
+/// that content, and synced if a sync has succeeded after all that changed it, and none failed before it. A call of the
+/// store fails only if one of the system did that no signal interrupted, or if it is given up, and is counted from that
+/// note. After a sync that failed, no other is made until the file is opened again: the system reports a lost
+/// write-back once.
 #[derive(Drop)]
 pub struct FileStore<C: FileCalls, S: Start> {
     calls: C,
@@ -124,10 +127,15 @@ impl<C: FileCalls, S: Start> Store for FileStore<C, S> {
     fn sync(&mut self) -> Result<(), StoreFault>
         ensures content { self.new.content ≡ self.old.content }
         ensures honest { self.new.honest ≡ self.old.honest }
-        ensures synced { self.new.synced ≡ (if is_ok result then true else self.old.synced) }
+        ensures synced { self.new.synced ≡ is_ok result }
         ensures failures { self.new.failures ≡ counted result self.old.failures }
-        ensures tried { Tries (λ _. Synced) NotSynced result self.old.calls self.new.calls }
+        ensures tried { sync_has_failed self.old.calls ≡ false → Tries (λ _. Synced) NotSynced result self.old.calls self.new.calls }
+        ensures refused { sync_has_failed self.old.calls ≡ true → IsErr result × (self.new.calls ≡ SyncRefused ∷ self.old.calls) }
     {
+        if self.calls.sync_has_failed() {
+            self.calls.refuse_sync();
+            return Err(StoreFault);
+        }
         sync(&mut self.calls)
     }
 }

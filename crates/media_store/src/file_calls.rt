@@ -1,7 +1,8 @@
 //! The calls of the system that a store makes on its file.
 
 ghost use Rattle.std.specs.Prelude.{◌≡◌, ◌≤◌, ◌∷◌, List, length, IfOk};
-ghost use Rattle.media_store.specs.Calls.{FileCall, GaveUp, measuring, reading, writing, resizing, syncing};
+ghost use Rattle.media_store.specs.Calls.{FileCall, GaveUp, SyncRefused, measuring, reading, writing, resizing, syncing};
+ghost use Rattle.media_store.specs.Replay.{sync_has_failed as sync_has_failed_in};
 
 use std::io;
 
@@ -36,4 +37,12 @@ pub trait FileCalls {
     /// Notes that no further call is made, so that a call of a store fails.
     fn give_up(&mut self)
         ensures { calls self.new ≡ GaveUp ∷ calls self.old };
+
+    /// Returns whether a sync has failed.
+    fn sync_has_failed(&self) -> bool
+        ensures { result ≡ sync_has_failed_in (calls self.now) };
+
+    /// Notes that no sync is made, since one has failed.
+    fn refuse_sync(&mut self)
+        ensures { calls self.new ≡ SyncRefused ∷ calls self.old };
 }

@@ -9,8 +9,9 @@
 //! - [`FileStore`] keeps them in a file. Each call of the system is noted with its answer ([`FileCalls`]),
 //!   so its content is what the file held when it was opened ([`Start`]), after these calls; it is
 //!   honest exactly as long as the answers agree with that, and synced if a sync succeeded after all that changed the
-//!   file. It fails only if a call of the system did that no signal interrupted, and counts its failures from these
-//!   notes. A file that is not opened or not locked has a note of that ([`UnopenedFile`]).
+//!   file, and none failed before. It fails only if a call of the system did that no signal interrupted, and counts its
+//!   failures from these notes. After a sync that failed, no other is made until the file is opened again. A file that
+//!   is not opened or not locked has a note of that ([`UnopenedFile`]).
 //! - [`FailStore`] is another store that fails from some call on, and is as honest as that store.
 //! - [`LyingStore`] is another store that gives wrong bytes once.
 //!

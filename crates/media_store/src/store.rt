@@ -1,6 +1,6 @@
 //! What every store does.
 
-ghost use Rattle.std.specs.Prelude.{◌≡◌, ◌+◌, ◌≤◌, ℕ, List, length, Bool, true, false, is_ok, if◌then◌else◌, IsTrue, IsOk, IfOk, OnOk, OnErr, slice_range};
+ghost use Rattle.std.specs.Prelude.{◌≡◌, ◌+◌, ◌≤◌, ℕ, List, length, Bool, false, is_ok, IsTrue, IsOk, IfOk, OnOk, OnErr, slice_range};
 ghost use Rattle.media_store.specs.Content.{resized, written, KeepsOutside, KeepsFront};
 ghost use Rattle.media_store.specs.Failures.{counted};
 ghost use Rattle.media_store.specs.Honesty.{HasAgreed};
@@ -17,7 +17,7 @@ pub trait Store {
     /// The bytes.
     ghost content: { Self → List ℕ };
 
-    /// Whether a `sync` has succeeded after the last write and the last change of the length.
+    /// Whether the last `sync` succeeded, and came after the last write and the last change of the length.
     ghost synced: { Self → Bool };
 
     /// How many calls have failed. It stays at the greatest value of a `u64`.
@@ -101,7 +101,7 @@ pub trait Store {
     fn sync(&mut self) -> Result<(), StoreFault>
         ensures content { content self.new ≡ content self.old }
         ensures honest { honest self.new ≡ honest self.old }
-        ensures synced { synced self.new ≡ (if is_ok result then true else synced self.old) }
+        ensures synced { synced self.new ≡ is_ok result }
         ensures failures { failures self.new ≡ counted result (failures self.old) }
         ensures steady { steady self.new ≡ steady self.old }
         ensures reach { reach self.new ≡ reach self.old }

@@ -32,6 +32,8 @@ const GIVE_UP: u64 = 6;
 
 const LOCK: u64 = 7;
 
+const REFUSE_SYNC: u64 = 8;
+
 /// A file that was not opened, or not locked.
 #[derive(Drop)]
 pub struct UnopenedFile {
@@ -47,15 +49,20 @@ pub struct UnopenedFile {
 pub struct SystemFile {
     file: File,
     noted: Record,
+    /// Whether a sync has failed.
+    sync_failed: bool,
 }
 
 impl Model for SystemFile {
-    ghost use Rattle.std.specs.Prelude.{List};
+    ghost use Rattle.std.specs.Prelude.{◌≡◌, List};
     ghost use Rattle.media_store.specs.Calls.{FileCall, calls_of};
+    ghost use Rattle.media_store.specs.Replay.{sync_has_failed};
 
     ghost Value = { List FileCall };
 
     ghost view = { λ opened. calls_of opened.noted.calls };
+
+    ghost invariant = { λ opened. opened.sync_failed ≡ sync_has_failed (calls_of opened.noted.calls) };
 }
 
 impl SystemFile {
@@ -78,7 +85,11 @@ impl SystemFile {
         };
         noted.note(&[OPEN], path.as_bytes(), &[true]);
         match file.try_lock() {
-            Ok(()) => Ok(SystemFile { file, noted }),
+            Ok(()) => Ok(SystemFile {
+                file,
+                noted,
+                sync_failed: false,
+            }),
             Err(error) => {
                 noted.note(&[LOCK], &[], &[false]);
                 let error = error.into();
@@ -147,14 +158,24 @@ impl FileCalls for SystemFile {
         let answer = self.file.sync_data();
         match &answer {
             Ok(()) => self.noted.note(&[SYNC], &[], &[true]),
-            Err(error) => self
-                .noted
-                .note(&[SYNC], &[], &[false, is_interrupted(error)]),
+            Err(error) => {
+                let interrupted = is_interrupted(error);
+                self.noted.note(&[SYNC], &[], &[false, interrupted]);
+                self.sync_failed |= !interrupted;
+            }
         }
         answer
     }
 
     fn give_up(&mut self) {
         self.noted.note(&[GIVE_UP], &[], &[false]);
+    }
+
+    fn sync_has_failed(&self) -> bool {
+        self.sync_failed
+    }
+
+    fn refuse_sync(&mut self) {
+        self.noted.note(&[REFUSE_SYNC], &[], &[false]);
     }
 }

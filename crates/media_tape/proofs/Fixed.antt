@@ -3,13 +3,15 @@ use Rattle.std.proofs.Common.{◌≡◌, ℕ, zero, suc, ◌+◌, ◌-◌, ◌*�
 use Rattle.std.proofs.Common.{Bool, true, false, ◌==◌, ◌⊎◌, inl, inr, refl, ap, sym, ◌∙◌, arith, eq-eqb}
 use Rattle.std.proofs.Math.Nat.{eq-or-lt_of_le}
 use Rattle.std.proofs.lemmas.Bool.{ne_eqb, eqb-true}
-use Rattle.std.proofs.lemmas.List.{drop-drop, drop_all}
+use Rattle.std.proofs.lemmas.List.{drop-drop, drop_all, length-drop, length-take-le, take-append-drop}
 use Rattle.std.proofs.lemmas.List.Elements.{All-head, All-tail, All-drop}
 use Rattle.std.proofs.lemmas.List.Sums.{sum_by-take-le}
 use Rattle.media_tape.specs.Items.{Item, Record, Filemark, IsSize, item_of, size}
 use Rattle.media_tape.specs.Tape.{AreIn}
-use Rattle.media_tape.specs.Fixed.{Fixed, fixed}
+use Rattle.media_tape.specs.Fixed.{Fixed, ending, giving, fixed, Gives}
 use Rattle.media_tape.specs.SizeFixed.{behind, size_fixed, data_in}
+use Rattle.media_tape.specs.declared.outcome.FixedEnd.{FixedEnd}
+use Rattle.media_tape.specs.declared.outcome.FixedEnd.TheVariants as end
 use Rattle.media_tape.specs.declared.outcome.FixedRead.{FixedRead}
 use Rattle.media_tape.proofs.Indexed.{shown, after_sized, is_next, sum-next}
 use Rattle.media_tape.proofs.Items.{HasBytes}
@@ -135,3 +137,35 @@ read-sized content sizes count block_length position read are is =
     is ∙ ap (size_fixed count block_length) (sym (after_sized content sizes position are))
     ∙ fixed-sized count block_length (drop position (shown content sizes))
     (All-drop HasBytes position (shown content sizes) (items_sized-have sizes content))
+
+-- ---- a read of blocks, whatever their bytes
+
+none_given : (ended : FixedEnd) (block_length : ℕ) (bytes : List ℕ) → length bytes ≡ 0 * block_length
+    → ending ended ≡ record { given = 0; bytes = bytes; ended = ended }
+none_given ended block_length [] none = refl
+none_given ended block_length (byte ∷ bytes) none = absurd (omega arith)
+
+-- a read that came out so gives these bytes on some items
+pub gives : (count block_length : ℕ) (items : List Item) (bytes : List ℕ)
+    → length bytes ≡ (fixed count block_length items).given * block_length
+    → Gives count block_length (told_of (fixed count block_length items)) bytes
+gives zero block_length items bytes = λ long. ([], none_given end.Whole block_length bytes long)
+gives (suc count) block_length [] bytes = λ long. ([], none_given end.EndOfData block_length bytes long)
+gives (suc count) block_length (Filemark ∷ items) bytes = λ long. (Filemark ∷ [], none_given end.Filemark block_length bytes long)
+gives (suc count) block_length (Record own ∷ items) bytes =
+    let n = length own in
+    let rest = fixed count block_length items in
+    elim (same_or_other n block_length) [
+      | inl same ↦
+          rw (eq-eqb n block_length same) (λ long.
+          let more : suc rest.given * block_length ≡ block_length + rest.given * block_length = grind arith in
+          let whole : length (take block_length bytes) ≡ block_length = length-take-le block_length bytes (omega (arith, long, more)) in
+          let others = gives count block_length items (drop block_length bytes) (omega (arith, long, more, length-drop block_length bytes)) in (
+            Record (take block_length bytes) ∷ others.0,
+            rw (eq-eqb (length (take block_length bytes)) block_length whole) (ap (giving (take block_length bytes)) others.1
+                ∙ ap (λ (xs : List ℕ). record { given = suc rest.given; bytes = xs; ended = rest.ended }) (take-append-drop block_length bytes)),
+          ))
+      | inr other ↦
+          rw (ne_eqb n block_length other) (λ long.
+          (Record own ∷ [], rw (ne_eqb n block_length other) (none_given (end.Length n) block_length bytes long)))
+    ]

@@ -1,5 +1,5 @@
 -- READ (6) and WRITE (6) with FIXED (SSC-4): several records of one length, here called blocks.
-use Rattle.std.specs.Prelude.{ℕ, zero, suc, ◌+◌, ◌-◌, ◌*◌, ◌/◌, ◌<◌, ◌==◌, ◌||◌, min, nat_lt, List, [], ◌∷◌, ◌++◌, length, take, drop}
+use Rattle.std.specs.Prelude.{◌≡◌, ℕ, zero, suc, ◌+◌, ◌-◌, ◌*◌, ◌/◌, ◌<◌, ◌==◌, ◌||◌, min, nat_lt, List, [], ◌∷◌, ◌++◌, length, take, drop}
 use Rattle.std.specs.Prelude.{Bool, false, if◌then◌else◌}
 use Rattle.media_tape.specs.Items.{Item, Record, Filemark, size_of}
 use Rattle.media_tape.specs.Tape.{TapeState, wrote}
@@ -50,6 +50,11 @@ fixed_told count block_length tape =
 
 abbrev pub fixed_data : ℕ → ℕ → TapeState → List ℕ
 fixed_data count block_length tape = (fixed count block_length tape.after).bytes
+
+-- own: a read of blocks can come out so: on some items it does
+abbrev pub Gives : ℕ → ℕ → FixedRead → List ℕ → Type 0
+Gives count block_length read bytes =
+    (items : List Item) × (fixed count block_length items ≡ record { given = read.given; bytes = bytes; ended = read.ended })
 
 -- this many items are passed
 abbrev pub tape_passed : ℕ → TapeState → TapeState

@@ -159,10 +159,10 @@ impl<S: Store> Tape<S> {
             → is_tape self.new.tail ≡ true)) }
         ensures none { IfOk result (λ done. IfOk done (λ told. count ≡ 0
             → (told ≡ written.Whole) × (self.new ≡ record self.old { synced = true }))) }
-        ensures none_failed { IfOk result (λ done. OnErr done (count ≡ 0 → self.new ≡ record self.old { failures = risen self.old.failures })) }
+        ensures none_failed { IfOk result (λ done. OnErr done (count ≡ 0 → self.new ≡ record self.old { synced = false; failures = risen self.old.failures })) }
         ensures refused { IfOk result (λ done. IfOk done (λ told. told ≡ written.Refused → self.new ≡ self.old)) }
         ensures synced { IfOk result (λ done. IfOk done (λ told. self.new.synced ≡ marked_synced told self.old.synced)) }
-        ensures unsynced { IfOk result (λ done. OnErr done (count ≢ 0 → self.new.synced ≡ false)) }
+        ensures unsynced { IfOk result (λ done. OnErr done (self.new.synced ≡ false)) }
         ensures fits { IfOk result (λ done. OnErr done (count ≢ 0
             → size_of self.old.before + 8 * count ≤ self.old.capacity)) }
         ensures honest { self.new.honest ≡ self.old.honest }
@@ -238,7 +238,7 @@ impl<S: Store> Tape<S> {
     /// Waits until everything is on the medium.
     fn sync(&mut self) -> Result<Written, StoreFault>
         ensures whole { IfOk result (λ told. (told ≡ written.Whole) × (self.new ≡ record self.old { synced = true })) }
-        ensures failed { OnErr result (self.new ≡ record self.old { failures = risen self.old.failures }) }
+        ensures failed { OnErr result (self.new ≡ record self.old { synced = false; failures = risen self.old.failures }) }
         ensures succeeds { IsTrue self.old.steady → IsOk result }
     {
         self.store.sync()?;

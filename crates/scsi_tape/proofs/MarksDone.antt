@@ -55,8 +55,8 @@ marks_done (suc count) bytes unit new ended done honest tape sized told none non
 pub marks_failed : (count : ℕ) (bytes : List ℕ) (unit : TapeUnitState) (new : TapeState)
     → (IsTrue unit.tape.honest → count ≢ 0 → new ≡ lost new.tail false unit.tape)
     → (count ≢ 0 → IsSizedAs (erased unit.tape) new)
-    → (count ≡ 0 → new ≡ record unit.tape { failures = risen unit.tape.failures })
-    → (count ≢ 0 → new.synced ≡ false)
+    → (count ≡ 0 → new ≡ record unit.tape { synced = false; failures = risen unit.tape.failures })
+    → new.synced ≡ false
     → (count ≢ 0 → size_of unit.tape.before + 8 * count ≤ unit.tape.capacity)
     → new ≡ record unit.tape { before = new.before; after = new.after; tail = new.tail; synced = new.synced; failures = risen unit.tape.failures }
     → (IsTrue unit.tape.steady → IsTrue unit.tape.honest → unit.tape.capacity ≤ unit.tape.reach → ⊥)
@@ -68,7 +68,7 @@ marks_failed (suc count) bytes unit new failed kept none unsynced fits rest sure
     let some = suc-ne-zero count in
     let can = fits_so (8 * suc count) unit.tape (fits some) in
     let left : IsTrue unit.tape.honest → new ≡ lost new.tail false unit.tape = λ honest. failed honest some in
-    let unsynced_so = unsynced_rest unit new rest (unsynced some) in
+    let unsynced_so = unsynced_rest unit new rest unsynced in
     write_fails (WriteFilemarks (suc count)) bytes unit (standing_of new) new (rw (not_zero count, can) refl)
     (torn_sizes unit new left (kept some) unsynced_so)
     (rw (not_zero count, can) (torn_items unit new left (kept some) unsynced_so)) sure

@@ -125,7 +125,6 @@ torn touch left tape =
       before = if tape.honest then tape.before else left.before;
       after = [];
       tail = left.tail;
-      synced = false;
     } else tape
 
 -- own: the unit after a command with this data, by how it came out
@@ -137,7 +136,7 @@ tape_after (ReadFailed honest) command bytes unit =
     record unit { tape = record unit.tape { failures = risen unit.tape.failures; honest = honest } }
 tape_after (WriteFailed left) command bytes unit =
     record unit {
-      tape = record (torn (tape_touch command unit.tape) left unit.tape) { failures = risen unit.tape.failures };
+      tape = record (torn (tape_touch command unit.tape) left unit.tape) { synced = false; failures = risen unit.tape.failures };
       is_working = false;
     }
 

@@ -158,9 +158,9 @@ as_defined_still : (is_tape_possible (Dishonest (position_data 2 false) (standin
     × (is_tape_possible (Dishonest [] (record { before = Filemark ∷ Filemark ∷ []; after = []; tail = [] })) (WriteFilemarks 1) [] lied ≡ false)
 as_defined_still = (refl, refl, refl, refl, refl, refl, refl)
 
--- a failed sync loses nothing, and a failed write loses what stood after the position
+-- a failed sync loses no item, and a failed write loses what stood after the position
 failed : (tape_after (WriteFailed (record { before = []; after = []; tail = 1 ∷ [] })) (WriteFilemarks 0) [] (opened_unit liar)
-    ≡ record { tape = record liar { failures = 1 }; is_working = false; block_length = 0 })
+    ≡ record { tape = record liar { synced = false; failures = 1 }; is_working = false; block_length = 0 })
     × (tape_after (WriteFailed (record { before = []; after = []; tail = 1 ∷ [] })) (Write 20) twenty (opened_unit liar)
     ≡ record { tape = record liar { after = []; tail = 1 ∷ []; synced = false; failures = 1 }; is_working = false; block_length = 0 })
 failed = (refl, refl)

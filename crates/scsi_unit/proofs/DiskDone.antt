@@ -116,8 +116,8 @@ module _ (command : DiskCommand) (bytes : List ℕ) (unit : DiskUnit) where
           possible = and_from _ _ (may_fail unit.disk sure)
               (and_from _ _ (rw writes refl)
               (and_from _ _ (can_be_so (touch_of command) unit.disk.honest mid.honest back kept) (rw writes left)));
-          disk = rw writes (ap (λ (d : DiskState). record unit { disk = d; is_ready = false }) (torn.rest
-              ∙ ap (λ (d : DiskState). record d { blocks = new.blocks; synced = false; failures = risen d.failures }) same));
+          disk = ap (λ (d : DiskState). record unit { disk = d; is_ready = false }) (torn.rest
+              ∙ ap (λ (d : DiskState). record d { blocks = new.blocks; synced = false; failures = risen d.failures }) same);
           told = refl;
         }
 
@@ -286,7 +286,7 @@ module _ (range : Range) (force_unit_access : Bool) (bytes : List ℕ) (unit : D
 
 -- ---- SYNCHRONIZE CACHE
 
-pub sync_failed : (range : Range) (bytes : List ℕ) (unit : DiskUnit) (new : DiskState) → new ≡ record unit.disk { failures = risen unit.disk.failures }
+pub sync_failed : (range : Range) (bytes : List ℕ) (unit : DiskUnit) (new : DiskState) → new ≡ record unit.disk { synced = false; failures = risen unit.disk.failures }
     → (IsTrue unit.disk.steady → IsTrue unit.disk.honest → ⊥)
     → IsDiskDone (SynchronizeCache range) bytes unit (record (with_disk unit new) { is_ready = false }) (check_condition write_error)
 sync_failed range bytes unit new is sure = record {

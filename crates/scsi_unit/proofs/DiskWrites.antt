@@ -57,9 +57,9 @@ module _ (first count : ℕ) (others : List (List ℕ)) (old mid new : DiskState
   })
 
   pub sync_torn : IsWritten first others false old mid → length others ≡ count → first + count ≤ length old.blocks
-      → new ≡ record mid { failures = risen mid.failures } → IsTorn first count old new
+      → new ≡ record mid { synced = false; failures = risen mid.failures } → IsTorn first count old new
   sync_torn written many within is = rw is (record {
     others = λ honest. rw (written.blocks honest) (kept_by_replaced first count others old.blocks many within);
     as_many = written.as_many;
-    rest = ap (λ (d : DiskState). record d { failures = risen d.failures }) written.rest;
+    rest = ap (λ (d : DiskState). record d { synced = false; failures = risen d.failures }) written.rest;
   })

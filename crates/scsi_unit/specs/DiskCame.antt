@@ -39,7 +39,7 @@ pub record DiskTouch : Type 0 where
 abbrev pub no_touch : DiskTouch
 no_touch = record { reads = None; writes = None; syncs = false }
 
--- own: the disk after it, if its definition with what was shown leaves this one; after a failed write it is not synced
+-- own: the disk after it, if its definition with what was shown leaves this one; after a write or a sync failed it is not synced
 abbrev pub disk_after : DiskCame → DiskTouch → DiskState → DiskUnit → DiskUnit
 disk_after AsDefined touch defined disk = record disk { disk = defined }
 disk_after (Dishonest shown left) touch defined disk = record disk { disk = record defined { blocks = left; honest = false } }
@@ -49,7 +49,7 @@ disk_after (WriteFailed left honest) touch defined disk =
     record disk {
       disk = record disk.disk {
         blocks = left;
-        synced = if is_some touch.writes then false else disk.disk.synced;
+        synced = false;
         failures = risen disk.disk.failures;
         honest = honest;
       };

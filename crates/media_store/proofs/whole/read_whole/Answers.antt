@@ -1,4 +1,4 @@
-use Rattle.std.proofs.Common.{rules, true, false, ◌≡◌, ℕ, ◌+◌, ◌-◌, ◌^◌, ◌≤◌, ◌<◌, ◌==◌, length, List, ◌++◌, take, arith, ap, refl, sym, ◌∙◌}
+use Rattle.std.proofs.Common.{rules, true, ◌≡◌, ℕ, ◌+◌, ◌-◌, ◌^◌, ◌≤◌, ◌<◌, length, List, ◌++◌, take, arith, ap, refl, sym, ◌∙◌}
 use Rattle.std.proofs.lemmas.List.{places, same_lists}
 use borrow.Rule.Slice.PartMut.{put_mid}
 use Rattle.media_store.proofs.Ended.{HasGoneOn-none, HasGoneOn-more, HasEnded-ok, HasEnded-failed, HasEnded-given-up, asks-rest, moved-some, moved-none, many, far}

@@ -44,9 +44,6 @@ returns-clause-none g c = IfOk-weaker c.in_ok-done.done _ _ (λ told is none. ab
 pub returns-clause-none_failed : goal.returns-clause-none_failed
 returns-clause-none_failed g c = on_err_weaker c.in_ok-done.done (λ is none. absurd (omega (arith, none))) c.in_ok-done.ensures.unsynced
 
-pub returns-clause-unsynced : goal.returns-clause-unsynced
-returns-clause-unsynced g c = on_err_weaker c.in_ok-done.done (λ is some. is) c.in_ok-done.ensures.unsynced
-
 pub returns-clause-fits : goal.returns-clause-fits
 returns-clause-fits g c =
     let fits = rw (length-replicate {A = ℕ} (8 * c.args.count) 0) at c.in_ok-done.ensures.fits in
