@@ -18,7 +18,7 @@ use Rattle.iscsi_order.proofs.Front.{front, front_come, front_missing}
 use Rattle.iscsi_order.proofs.Held.{prefix_range}
 use Rattle.iscsi_order.proofs.Standing.{front_more, front_within, lawful_with as window_with}
 use Rattle.iscsi_session.specs.Requests.{Request, pending, unfinished, is_function, functions, Past, request_at, frame_of, is_in, left, is_command, commands, others, counted, over, numbered, place_of, taken, taken_at, numbers, due, queue, frames_of, begun}
-use Rattle.iscsi_session.specs.State.{TaskLists, functions_of, standing, frame_numbered, tasks_with, tasks_of, AreDistinct, IsDelivered, IsLawful, holding, takes_next, takes, takes_all}
+use Rattle.iscsi_session.specs.State.{TaskLists, functions_of, standing, bare, bare_frames, bared, frame_numbered, tasks_with, tasks_of, AreDistinct, IsDelivered, IsLawful, holding, takes_next, takes, takes_all}
 use Rattle.iscsi_session.proofs.Left.{filter_cong, map_cong, left_append, left_all, in_at, in_front, in_left, in_filter, not_by, below_of, apart_behind, distinct_push, prefix_marks}
 use Rattle.iscsi_session.proofs.Kept.{joined, Below, tags_with, functions_below, functions_joined as functions_with, settled_below, drained_joined, tags_joined, kind_same}
 use Rattle.iscsi_session.specs.Transfers.{tag_of}
@@ -55,6 +55,10 @@ pub record HasFreeTag (past : Past) (frame : Frame) : Type 0 where
 pub frames_same : (came : List Request) (x : Request) (names : List ℕ) → All (λ k. k < length came) names
     → frames_of (came ++ x ∷ []) names ≡ frames_of came names
 frames_same came x names below = map_cong _ _ names (λ i d lt. ap (λ (r : Request). r.frame) (request_before came x _ (below i d lt)))
+
+bare_same : (came : List Request) (x : Request) (names : List ℕ) → All (λ k. k < length came) names
+    → bare_frames (came ++ x ∷ []) names ≡ bare_frames came names
+bare_same came x names below = map_cong _ _ names (λ i d lt. ap (λ (r : Request). bare r.frame) (request_before came x _ (below i d lt)))
 
 others_same : (past : Past) (x : Request) (names : List ℕ) → Below past names → others (past.came ++ x ∷ []) names ≡ others past.came names
 others_same past x names below = filter_cong _ _ names (λ i d lt. ap (λ (r : Request). not (is_command r.frame)) (request_before past.came x _ (below i d lt)))
@@ -216,11 +220,11 @@ module _ (past : Past) (lawful : IsLawful past) where
   same_tasks : (x : Request) (handed : ℕ) (line : List Frame)
       → tasks_with past handed line
       ≡ record (tasks_with (joined x past) handed line) { held = map (frame_numbered (standing past)) (range_with_len handed window) }
-  same_tasks x handed line = grind (arith, counted_same, over_below, joined, queue_same, frames_same, queue_below)
+  same_tasks x handed line = grind (arith, counted_same, over_below, joined, queue_same, bare_same, queue_below)
 
   -- ---- as they stand
 
-  standing_with : (x : Request) → standing (joined x past) ≡ standing past ++ x ∷ []
+  standing_with : (x : Request) → standing (joined x past) ≡ standing past ++ bared x ∷ []
   standing_with x = standing_joined past x lawful.removed_below
 
   standing_new : (x : Request) → request_at (standing past ++ x ∷ []) (length past.came) ≡ x
@@ -251,27 +255,28 @@ module _ (past : Past) (lawful : IsLawful past) where
       (let none : counted (past.came ++ now frame ∷ []) (taken_at (past.came ++ now frame ∷ []) (length past.came)) ≡ 0 =
       ap (counted (past.came ++ now frame ∷ [])) (taken_just frame) ∙ rw (request_new past.came (now frame)) refl in let e = first_now frame in omega arith)
 
-  pub admitted : (frame : Frame) → record (tasks_of past) { due = (tasks_of past).due ++ frame ∷ [] } ≡ tasks_of (joined (now frame) past)
+  pub admitted : (frame : Frame) → record (tasks_of past) { due = (tasks_of past).due ++ bare frame ∷ [] } ≡ tasks_of (joined (now frame) past)
   unfolding tasks_of
   admitted frame =
       let x = now frame in
+      let kept = bared x in
       let st = standing past in
       let stands = standing (joined x past) in
       let line = frames_of st (due past) in
       let handed : (numbers past).handed ≡ (numbers (joined x past)).handed = ap (λ (p : order.Past). p.handed) (sym (numbers_now frame)) in
-      let dues : line ++ frame ∷ [] ≡ frames_of stands (due (joined x past)) =
-      ap (λ (l : List Frame). l ++ frame ∷ []) (sym (frames_same st x (due past) due_stands))
-      ∙ ap (λ (r : Request). frames_of (st ++ x ∷ []) (due past) ++ r.frame ∷ []) (sym (standing_new x))
-      ∙ sym (map-append (frame_of (st ++ x ∷ [])) (due past) (length past.came ∷ []))
-      ∙ ap (frames_of (st ++ x ∷ [])) (sym (due_more x ∙ ap (λ (l : List ℕ). due past ++ l) (taken_just frame)))
+      let dues : line ++ kept.frame ∷ [] ≡ frames_of stands (due (joined x past)) =
+      ap (λ (l : List Frame). l ++ kept.frame ∷ []) (sym (frames_same st kept (due past) due_stands))
+      ∙ ap (λ (r : Request). frames_of (st ++ kept ∷ []) (due past) ++ r.frame ∷ []) (sym (standing_new kept))
+      ∙ sym (map-append (frame_of (st ++ kept ∷ [])) (due past) (length past.came ∷ []))
+      ∙ ap (frames_of (st ++ kept ∷ [])) (sym (due_more x ∙ ap (λ (l : List ℕ). due past ++ l) (taken_just frame)))
       ∙ ap (λ (l : List Request). frames_of l (due (joined x past))) (sym (standing_with x)) in
       let held : map (frame_numbered st) (range_with_len (numbers past).handed window) ≡ map (frame_numbered stands)
       (range_with_len (numbers past).handed window) =
-      map_cong (frame_numbered st) (frame_numbered (st ++ x ∷ [])) (range_with_len (numbers past).handed window)
-      (λ i d lt. sym (frame_other st x (get_or (range_with_len (numbers past).handed window) i d) refl))
+      map_cong (frame_numbered st) (frame_numbered (st ++ kept ∷ [])) (range_with_len (numbers past).handed window)
+      (λ i d lt. sym (frame_other st kept (get_or (range_with_len (numbers past).handed window) i d) refl))
       ∙ ap (λ (l : List Request). map (frame_numbered l) (range_with_len (numbers past).handed window)) (sym (standing_with x)) in
-      ap (λ (t : TaskLists). record t { due = line ++ frame ∷ [] }) (same_tasks x (numbers past).handed line)
-      ∙ ap (λ (l : List (Option Frame)). record (tasks_with (joined x past) (numbers past).handed (line ++ frame ∷ [])) { held = l }) held
+      ap (λ (t : TaskLists). record t { due = line ++ kept.frame ∷ [] }) (same_tasks x (numbers past).handed line)
+      ∙ ap (λ (l : List (Option Frame)). record (tasks_with (joined x past) (numbers past).handed (line ++ kept.frame ∷ [])) { held = l }) held
       ∙ ap (λ (l : List Frame). tasks_with (joined x past) (numbers past).handed l) dues
       ∙ ap (λ (n : ℕ). tasks_with (joined x past) n (frames_of stands (due (joined x past)))) handed
 
@@ -316,13 +321,14 @@ module _ (past : Past) (lawful : IsLawful past) where
       (subst AreDistinct (sym (numbered_with k frame)) (distinct_push (numbered past.came) k lawful.distinct at.missing)) (rw h refl) free (omega arith)
 
   pub held_now : (k ahead n : ℕ) (frame : Frame) → IsAhead k ahead → ahead ≡ distance (tasks_of past).next n
-      → takes_all (holding n frame (tasks_of past)) ≡ tasks_of (joined (with k frame) past)
+      → takes_all (holding n (bare frame) (tasks_of past)) ≡ tasks_of (joined (with k frame) past)
   unfolding tasks_of taken_numbers
   held_now k ahead n frame at place =
       let x = with k frame in
       let came = past.came ++ x ∷ [] in
+      let kept = bared x in
       let st = standing past in
-      let stands = st ++ x ∷ [] in
+      let stands = st ++ kept ∷ [] in
       let f = (numbers past).handed in
       let g = (numbers (joined x past)).handed in
       let line = frames_of st (due past) in
@@ -337,15 +343,15 @@ module _ (past : Past) (lawful : IsLawful past) where
       let beyond : (j : ℕ) → f ≤ j → order.has_come (numbered came) (j + window) ≡ false = λ j le.
       false_from_ne_true (order.has_come (numbered came) (j + window)) (λ h. let lt = after.within (j + window) h in absurd (omega arith)) in
       let none : frame_numbered st k ≡ None = frame_missing st k (ap (λ (l : List ℕ). order.has_come l k) (numbered_standing past) ∙ at.missing) in
-      let held : set (map (frame_numbered st) (range_with_len f window)) ahead (Some frame) ≡ map (frame_numbered stands) (range_with_len f window) =
-      set_range (frame_numbered st) (frame_numbered stands) (Some frame) f window ahead k (let near = at.near in omega arith) at.number
-      (frame_now st x k (eq-eqb k k refl) none) (λ j ne. frame_other st x j (ne_eqb k j (λ e. absurd (ne (sym e))))) in
-      let held_there : set (map (frame_numbered st) (range_with_len f window)) ahead (Some frame)
+      let held : set (map (frame_numbered st) (range_with_len f window)) ahead (Some kept.frame) ≡ map (frame_numbered stands) (range_with_len f window) =
+      set_range (frame_numbered st) (frame_numbered stands) (Some kept.frame) f window ahead k (let near = at.near in omega arith) at.number
+      (frame_now st kept k (eq-eqb k k refl) none) (λ j ne. frame_other st kept j (ne_eqb k j (λ e. absurd (ne (sym e))))) in
+      let held_there : set (map (frame_numbered st) (range_with_len f window)) ahead (Some kept.frame)
       ≡ map (frame_numbered (standing (joined x past))) (range_with_len f window) =
       held ∙ ap (λ (l : List Request). map (frame_numbered l) (range_with_len f window)) (sym (standing_with x)) in
-      let start : holding n frame (tasks_with past f line) ≡ tasks_with (joined x past) f line =
-      ap (λ (i : ℕ). record (tasks_with past f line) { held = set (map (frame_numbered st) (range_with_len f window)) i (Some frame) }) (sym place)
-      ∙ ap (λ (t : TaskLists). record t { held = set (map (frame_numbered st) (range_with_len f window)) ahead (Some frame) }) (same_tasks x f line)
+      let start : holding n kept.frame (tasks_with past f line) ≡ tasks_with (joined x past) f line =
+      ap (λ (i : ℕ). record (tasks_with past f line) { held = set (map (frame_numbered st) (range_with_len f window)) i (Some kept.frame) }) (sym place)
+      ∙ ap (λ (t : TaskLists). record t { held = set (map (frame_numbered st) (range_with_len f window)) ahead (Some kept.frame) }) (same_tasks x f line)
       ∙ ap (λ (l : List (Option Frame)). record (tasks_with (joined x past) f line) { held = l }) held_there in
       let count : prefix_len (λ o. is_some o) (map (frame_numbered (standing (joined x past))) (range_with_len f window)) ≡ g - f =
       prefix_marks (map (frame_numbered (standing (joined x past))) (range_with_len f window))
@@ -362,7 +368,8 @@ module _ (past : Past) (lawful : IsLawful past) where
       ap (λ (l : List Request). line ++ filter_map (λ o. o) (map (frame_numbered l) (range_with_len f (g - f)))) (standing_with x)
       ∙ ap (λ (l : List Frame). line ++ l) (frames_come stands f (g - f)
       (λ j le lt. ap (λ (l : List ℕ). order.has_come l j) numbers_same ∙ all j (omega arith) (omega arith)))
-      ∙ ap (λ (l : List Frame). l ++ map (frame_of stands) (map (place_of stands) (range_with_len f (g - f)))) (sym (frames_same st x (due past) due_stands))
+      ∙ ap (λ (l : List Frame). l ++ map (frame_of stands) (map (place_of stands) (range_with_len f (g - f))))
+      (sym (frames_same st kept (due past) due_stands))
       ∙ sym (map-append (frame_of stands) (due past) (map (place_of stands) (range_with_len f (g - f))))
       ∙ ap (λ (l : List ℕ). frames_of stands (due past ++ l)) (places ∙ sym (taken_now past.came x more))
       ∙ ap (frames_of stands) (sym (due_more x))

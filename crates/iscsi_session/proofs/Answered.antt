@@ -21,7 +21,7 @@ use Rattle.iscsi_order.specs.Stat.{stat_sn}
 use Rattle.iscsi_login.specs.declared.values.Values.{Values}
 use Rattle.iscsi_session.specs.Judging.{reserved_tag, reject}
 use Rattle.iscsi_session.specs.Requests.{pending, Request, Past, frame_of, frames_of, is_in, left, is_command, is_function, functions, due, queue, finished, moved, numbers, bears_status, bearing, statuses, stamp, answering}
-use Rattle.iscsi_session.specs.State.{SessionState, standing, TaskLists, TransferList, IsLawful, Stands, functions_of, one_fewer, removed_at, place_for, function_place, function_removed}
+use Rattle.iscsi_session.specs.State.{SessionState, standing, bare, bare_frames, TaskLists, TransferList, IsLawful, Stands, functions_of, one_fewer, removed_at, place_for, function_place, function_removed}
 use Rattle.iscsi_session.specs.Transfers.{tag_of}
 use Rattle.iscsi_pdu.specs.declared.task_management_response.TaskResult.{TaskResult}
 use Rattle.iscsi_session.specs.Functions.{own_reach, awaited, function_result, function_answer}
@@ -34,7 +34,7 @@ use Rattle.iscsi_exchange.specs.Exchange.{TextPiece, ToldState, hears}
 use Rattle.iscsi_session.specs.Texts.{is_text, exchange_behind, exchange_of, text_answer}
 use Rattle.iscsi_session.proofs.Parts.{exchange_acted, exchange_other, exchange_text, text_kind, not_text, exchange_as, parts, due_is, queue_is, stands_tasks, stands_parts}
 use Rattle.iscsi_session.proofs.Kept.{function_no_command, command_no_function, functions_distinct, other_not_pending}
-use Rattle.iscsi_session.proofs.Standing.{standing_kept, stands_as, stands_void}
+use Rattle.iscsi_session.proofs.Standing.{bare_other, standing_kept, stands_as, stands_void}
 use Rattle.iscsi_session.proofs.Over.{removed_command}
 use Rattle.iscsi_session.proofs.Places.{Located, found_self, remove_map}
 use Rattle.iscsi_session.proofs.Feeding.{removed_is, headers_are, function_located}
@@ -246,17 +246,19 @@ module _ (past : Past) (state : SessionState) (k : ℕ) (rest : List ℕ) (s : S
 
   -- a request that is no SCSI Command stands as it came
   pub stands_other_kind : is_command (frame_of past.came k) ≡ false → frame_of (standing past) k ≡ frame_of past.came k
-  stands_other_kind e = grind (arith, standing_kept, came, stays_other)
+  stands_other_kind e = standing_kept past k came (stays_other past s.lawful k rest is e) ∙ bare_other (frame_of past.came k) e
 
   -- and with it the others, in the code
   pub first_drops : is_command (frame_of past.came k) ≡ false → state.tasks.due ≡ frame_of past.came k ∷ drop 1 state.tasks.due
   first_drops e = grind (arith, first_due, stands_other_kind e)
 
   -- by the kind of what stands there: it was removed, or stands as it came
-  pub command_there : is_command (frame_of (standing past) k) ≡ true → (frame_of (standing past) k ≡ frame_of past.came k) × (is_in k past.removed ≡ false)
+  pub command_there : is_command (frame_of (standing past) k) ≡ true
+      → (frame_of (standing past) k ≡ bare (frame_of past.came k)) × (is_in k past.removed ≡ false)
   command_there e = grind (arith, came, eqb-true, stands_as, false_from_ne_true, stands_void)
 
-  kind_there : (n : ℕ) → opcode_number (frame_of (standing past) k).header ≡ n → (n ≡ 0x3F → ⊥) → frame_of (standing past) k ≡ frame_of past.came k
+  kind_there : (n : ℕ) → opcode_number (frame_of (standing past) k).header ≡ n → (n ≡ 0x3F → ⊥)
+      → frame_of (standing past) k ≡ bare (frame_of past.came k)
   kind_there n e other = stands_as past k came (λ h. other (sym e ∙ h))
 
   -- of what is no SCSI Command as it stands
@@ -277,8 +279,11 @@ module _ (past : Past) (state : SessionState) (k : ℕ) (rest : List ℕ) (s : S
   function_there e = grind (arith, kind_there, eqb-true)
 
   -- a request of a kind that acts stands as it came
-  pub came_as : {o : Opcode} → kind_of (frame_of (standing past) k) ≡ o → (opcodes.Other 0x3F ≡ o → ⊥) → frame_of (standing past) k ≡ frame_of past.came k
-  came_as e other = stands_as past k came (λ h. other (sym (ap opcode_of h) ∙ e))
+  pub came_as : {o : Opcode} → is_command (frame_of (standing past) k) ≡ false → kind_of (frame_of (standing past) k) ≡ o
+      → (opcodes.Other 0x3F ≡ o → ⊥) → frame_of (standing past) k ≡ frame_of past.came k
+  came_as no_command e other =
+      let as_kept = stands_as past k came (λ h. other (sym (ap opcode_of h) ∙ e)) in
+      as_kept ∙ bare_other (frame_of past.came k) (ap is_command (sym as_kept) ∙ no_command)
 
   -- and one of another kind is one, or was removed
   pub other_came : IsOther (kind_of (frame_of (standing past) k)) → IsOther (kind_of (frame_of past.came k))
@@ -300,16 +305,19 @@ module _ (past : Past) (state : SessionState) (k : ℕ) (rest : List ℕ) (s : S
       ∙ exchange_other past.params (exchange_of past) (frame_of past.came k) (command_no_text (frame_of past.came k) e)
 
   pub stands_queued : (luns : List ℕ) (frame : Frame) (others : List Frame) (tasks : TaskLists) → is_command (frame_of past.came k) ≡ true
-      → is_in k past.removed ≡ false → frame ≡ frame_of past.came k → others ≡ frames_of (standing past) rest
+      → is_in k past.removed ≡ false → frame ≡ bare (frame_of past.came k) → others ≡ frames_of (standing past) rest
       → tasks ≡ record state.tasks { due = others; queue = state.tasks.queue ++ frame ∷ [] } → Stands (acted luns k past) (record state { tasks = tasks })
   stands_queued luns frame others tasks e stays here left same =
       let after : Past = record past { acted = past.acted ++ k ∷ [] } in
       let goes : after ≡ acted luns k past = moved_command k past e
       ∙ answering_none (moved k past) (act_answers luns k past) (command_answers_none luns k past e) ∙ sym (acted_plain luns k past (command_no_function (frame_of past.came k) e)) in
       rw (same, here, left) (subst (λ (p : Past). Stands p
-      (record state { tasks = record state.tasks { due = frames_of (standing past) rest; queue = state.tasks.queue ++ frame_of past.came k ∷ [] } })) goes
+      (record state {
+        tasks = record state.tasks { due = frames_of (standing past) rest; queue = state.tasks.queue ++ bare (frame_of past.came k) ∷ [] };
+      })) goes
       (stands_tasks past after state _ s (lawful_command past s.lawful k rest is e) refl refl
-      (ap (λ (t : TaskLists). record t { due = frames_of (standing past) rest; queue = t.queue ++ frame_of past.came k ∷ [] }) (parts past state s).tasks_is
+      (ap (λ (t : TaskLists). record t { due = frames_of (standing past) rest; queue = t.queue ++ bare (frame_of past.came k) ∷ [] })
+      (parts past state s).tasks_is
       ∙ tasks_command past s.lawful k rest is stays e) (transfers_command past s.lawful k rest is) (functions_command past s.lawful k rest is)
       (exchange_command e)))
 
@@ -365,8 +373,8 @@ module _ (past : Past) (state : SessionState) (k : ℕ) (rest : List ℕ) (s : S
           → Stands (moved k past) (record state { tasks = one_fewer (frame_of (standing past) k) (record state.tasks { due = drop 1 state.tasks.due }) })
       by_case true gone = stands_gone (removed_command past s.lawful k gone) gone
       by_case false stays =
-          let same_frame = standing_kept past k came stays in
-          rw same_frame (stands_other state.functions state.exchange (ap is_command (sym same_frame) ∙ e) (same_functions past state k s no_function)
+          let no_command : is_command (frame_of past.came k) ≡ false = ap is_command (sym (standing_kept past k came stays)) ∙ e in
+          rw (stands_other_kind no_command) (stands_other state.functions state.exchange no_command (same_functions past state k s no_function)
           (exchange_kept no_text))
 
   -- a Task Management Function Request
@@ -452,14 +460,14 @@ no_names came (k ∷ l) e = absurd cc
 pub none_due : (past : Past) (state : SessionState) → Stands past state → state.tasks.due ≡ [] → due past ≡ []
 none_due past state s e = no_names (standing past) (due past) (sym (due_is past state s) ∙ e)
 
-some_names : (came : List Request) (l : List ℕ) (frame : Frame) (others : List Frame) → frames_of came l ≡ frame ∷ others
-    → (k : ℕ) × (rest : List ℕ) × (l ≡ k ∷ rest) × (frame ≡ frame_of came k) × (others ≡ frames_of came rest)
-some_names came [] frame others e = absurd cc
-some_names came (k ∷ l) frame others e = (k, l, refl, cc, cc)
+some_names : (f : ℕ → Frame) (l : List ℕ) (frame : Frame) (others : List Frame) → map f l ≡ frame ∷ others
+    → (k : ℕ) × (rest : List ℕ) × (l ≡ k ∷ rest) × (frame ≡ f k) × (others ≡ map f rest)
+some_names f [] frame others e = absurd cc
+some_names f (k ∷ l) frame others e = (k, l, refl, cc, cc)
 
 pub due_first : (past : Past) (state : SessionState) (frame : Frame) (others : List Frame) → Stands past state → state.tasks.due ≡ frame ∷ others
     → (k : ℕ) × (rest : List ℕ) × (due past ≡ k ∷ rest) × (frame ≡ frame_of (standing past) k) × (others ≡ frames_of (standing past) rest)
-due_first past state frame others s e = some_names (standing past) (due past) frame others (sym (due_is past state s) ∙ e)
+due_first past state frame others s e = some_names (frame_of (standing past)) (due past) frame others (sym (due_is past state s) ∙ e)
 
 pub none_acts : (luns : List ℕ) (past : Past) (state : SessionState) (waiting : Output) → due past ≡ []
     → ActsFirst luns (due past) past Idle state state waiting waiting
@@ -482,26 +490,27 @@ function_ordered past k header orders e same = rw e (ap (λ (h : List ℕ). orde
 -- ---- the first of the queue is finished
 
 pub queue_first : (past : Past) (state : SessionState) (frame : Frame) (others : List Frame) → Stands past state → state.tasks.queue ≡ frame ∷ others
-    → (k : ℕ) × (rest : List ℕ) × (queue past ≡ k ∷ rest) × (frame ≡ frame_of past.came k) × (others ≡ frames_of past.came rest)
-queue_first past state frame others s e = some_names past.came (queue past) frame others (sym (queue_is past state s) ∙ e)
+    → (k : ℕ) × (rest : List ℕ) × (queue past ≡ k ∷ rest) × (frame ≡ bare (frame_of past.came k)) × (others ≡ bare_frames past.came rest)
+queue_first past state frame others s e = some_names (λ k. bare (frame_of past.came k)) (queue past) frame others (sym (queue_is past state s) ∙ e)
 
 pub some_queued : (past : Past) (state : SessionState) (k : ℕ) (rest : List ℕ) → Stands past state → queue past ≡ k ∷ rest → state.tasks.queue ≡ [] → ⊥
-some_queued past state k rest s is none = let both : frame_of past.came k ∷ frames_of past.came rest ≡ [] = sym (queue_is past state s
-    ∙ ap (frames_of past.came) is) ∙ none in cc
+some_queued past state k rest s is none = let both : bare (frame_of past.came k) ∷ bare_frames past.came rest ≡ [] = sym (queue_is past state s
+    ∙ ap (bare_frames past.came) is) ∙ none in cc
 
 pub done_here : (past : Past) (state : SessionState) (k : ℕ) (rest : List ℕ) (frame : Frame) (tasks : TaskLists) (transfers : TransferList) → Stands past state
     → queue past ≡ k ∷ rest → state.tasks.queue ≡ frame ∷ drop 1 state.tasks.queue
     → tasks ≡ one_fewer frame (record state.tasks { queue = drop 1 state.tasks.queue })
     → transfers ≡ record state.transfers { list = removed_at state.transfers.list (place_for frame state.transfers.list) }
-    → (frame ≡ frame_of past.came k) × Stands (finished k past) (record state { tasks = tasks; transfers = transfers })
+    → (frame ≡ bare (frame_of past.came k)) × Stands (finished k past) (record state { tasks = tasks; transfers = transfers })
 done_here past state k rest frame tasks transfers s is some same gone =
-    let first : state.tasks.queue ≡ frame_of past.came k ∷ frames_of past.came rest = queue_is past state s ∙ ap (frames_of past.came) is in
-    let here = same_head frame (frame_of past.came k) (drop 1 state.tasks.queue) (frames_of past.came rest) state.tasks.queue some first in (
+    let line = bare_frames past.came rest in
+    let first : state.tasks.queue ≡ bare (frame_of past.came k) ∷ line = queue_is past state s ∙ ap (bare_frames past.came) is in
+    let here = same_head frame (bare (frame_of past.came k)) (drop 1 state.tasks.queue) line state.tasks.queue some first in (
       here,
       stands_parts past (finished k past) state tasks transfers state.functions state.exchange s (lawful_finished past s.lawful k rest is) refl refl
           (same ∙ ap (λ (l : List Frame). one_fewer frame (record state.tasks { queue = l })) (ap (drop 1) first)
-          ∙ ap (λ (f : Frame). one_fewer f (record state.tasks { queue = frames_of past.came rest })) here
-          ∙ ap (λ (t : TaskLists). one_fewer (frame_of past.came k) (record t { queue = frames_of past.came rest })) (parts past state s).tasks_is
+          ∙ ap (λ (f : Frame). one_fewer f (record state.tasks { queue = line })) here
+          ∙ ap (λ (t : TaskLists). one_fewer (frame_of past.came k) (record t { queue = line })) (parts past state s).tasks_is
           ∙ tasks_finished past s.lawful k rest is)
           (gone ∙ ap (λ (f : Frame). record state.transfers { list = removed_at state.transfers.list (place_for f state.transfers.list) }) here
           ∙ removed_is past state k rest s is)

@@ -10,7 +10,7 @@ use Rattle.iscsi_order.specs.Window.{taken as taken_numbers}
 use Rattle.iscsi_session.specs.Requests.{Request, Past, Drain, is_command, is_function, is_in, left, frame_of, held, due, queue, pending as awaiting, functions, moved, finished, removing, numbers, unfinished, accepted, number_for}
 use Rattle.iscsi_session.specs.Transfers.{drains_of}
 use Rattle.iscsi_session.specs.Functions.{told, immediate_in}
-use Rattle.iscsi_session.specs.State.{TaskLists, AreDistinct, IsLawful, remembered, drained_of, tasks_of, transfers_of, functions_of, holding, takes_next, takes, takes_all}
+use Rattle.iscsi_session.specs.State.{TaskLists, AreDistinct, IsLawful, remembered, drained_of, tasks_of, transfers_of, functions_of, bare, holding, takes_next, takes, takes_all}
 use Rattle.iscsi_session.specs.Weight.{pending, waits_for, waiting_functions, open_requests}
 use Rattle.iscsi_session.proofs.Left.{filter_cong, left_append, left_more, left_swap, in_at, in_left}
 use Rattle.iscsi_session.proofs.Kept.{joined, Below, of_kind, kept_of, kept_joined, below_kept, kind_same, functions_without, functions_joined, functions_distinct, command_not_pending, settled, settled_below}
@@ -261,7 +261,7 @@ listed_by true past frame h free lawful =
       arith,
       ap listed_in (accepted_now past frame h),
       ap pending (admitted past lawful frame),
-      length-append (tasks_of past).due (frame ∷ []),
+      length-append (tasks_of past).due (bare frame ∷ []),
       listed_is past,
       listed_is (joined (now frame) past),
     )
@@ -273,7 +273,7 @@ listed_by false past frame h free lawful =
       arith,
       ap listed_in (accepted_with past frame h),
       ap pending (held_now past lawful k (distance (order.exp_cmd_sn (numbers past)) n) n frame at (next_there past n)),
-      pending_held n frame (tasks_of past),
+      pending_held n (bare frame) (tasks_of past),
       listed_is past,
       listed_is (joined (with k frame) past),
     )

@@ -6,7 +6,7 @@ use Rattle.std.proofs.lemmas.List.Elements.{filter-append, All-push, All-nil, Al
 use Rattle.iscsi_order.specs.Window.{taken as taken_numbers}
 use Rattle.iscsi_session.specs.Requests.{Past, pending, frame_of, is_in, left, is_command, commands, others, counted, over, taken, due, queue, unfinished, is_function, functions, frames_of, finished}
 use Rattle.iscsi_session.specs.Transfers.{tag_of, task_at, outs_of, tags_of}
-use Rattle.iscsi_session.specs.State.{standing, tasks_of, transfer_of, transfers_of, functions_of, AreDistinct, IsLawful, one_fewer}
+use Rattle.iscsi_session.specs.State.{standing, bare, bare_frames, tasks_of, transfer_of, transfers_of, functions_of, AreDistinct, IsLawful, one_fewer}
 use Rattle.iscsi_session.proofs.Left.{left_append, left_all, left_more, left_swap, left_first, left_one, left_passes, in_at, in_front, in_back, in_left, passes_in, not_gone, not_by, not_in, below_of, distinct_left, distinct_filter, distinct_front}
 use Rattle.iscsi_session.proofs.Taken.{taken_below, distinct_taken}
 use Rattle.iscsi_session.proofs.Kept.{tags_left, command_no_function, function_no_command, functions_without, functions_other, in_functions, open_not_pending, command_not_pending, drained_finished, drained_acted, unfinished_without, unfinished_other}
@@ -128,7 +128,8 @@ module _ (past : Past) (lawful : IsLawful past) where
       queue_joined e = queue_by e ∙ ap (λ (l : List ℕ). queue past ++ l) kept_one
 
       pub tasks_command : is_command (frame_of past.came k) ≡ true
-          → record (tasks_of past) { due = frames_of (standing past) rest; queue = (tasks_of past).queue ++ frame_of past.came k ∷ [] } ≡ tasks_of with_command
+          → record (tasks_of past) { due = frames_of (standing past) rest; queue = (tasks_of past).queue ++ bare (frame_of past.came k) ∷ [] }
+          ≡ tasks_of with_command
       unfolding tasks_of standing
       tasks_command e = grind (arith, map-append, queue_joined, due_after, over_same)
 
@@ -293,6 +294,6 @@ module _ (past : Past) (lawful : IsLawful past) where
     unfolding transfers_of task_at outs_of tags_of
     transfers_finished = rw (unfinished_without past k) refl
 
-    pub tasks_finished : one_fewer (frame_of past.came k) (record (tasks_of past) { queue = frames_of past.came rest }) ≡ tasks_of (finished k past)
+    pub tasks_finished : one_fewer (frame_of past.came k) (record (tasks_of past) { queue = bare_frames past.came rest }) ≡ tasks_of (finished k past)
     unfolding tasks_of standing taken_numbers
     tasks_finished = grind (arith, one_fewer_by, unfinished_less, queue_came, over_finished, is_not_pending, due_finished, queue_after)

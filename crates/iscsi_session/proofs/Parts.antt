@@ -30,8 +30,8 @@ use Rattle.iscsi_session.specs.Judging.{is_fresh}
 use Rattle.iscsi_session.specs.declared.transfers.Transfer.{Transfer}
 use Rattle.iscsi_transfer.specs.WriteData.{WriteDataState, remembered as task_of}
 use Rattle.iscsi_transfer.specs.Payload.{begun as begun_data}
-use Rattle.iscsi_session.specs.State.{SessionState, TaskLists, TransferList, no_tasks, transfers_of, functions_of, begun_transfer, kept, frame_numbered, standing, tasks_of, window_of, IsLawful, Stands, is_vacant, is_vacant_for, holding, takes_all, remembered}
-use Rattle.iscsi_session.proofs.Standing.{numbered_standing}
+use Rattle.iscsi_session.specs.State.{SessionState, TaskLists, TransferList, no_tasks, transfers_of, functions_of, begun_transfer, bare, bare_command, bare_frames, kept, frame_numbered, standing, tasks_of, window_of, IsLawful, Stands, is_vacant, is_vacant_for, holding, takes_all, remembered}
+use Rattle.iscsi_session.proofs.Standing.{bare_other, bare_is, numbered_standing}
 use Rattle.iscsi_session.proofs.Taken.{frame_marked}
 use Rattle.iscsi_session.proofs.Left.{both_true}
 use Rattle.iscsi_session.proofs.Runs.{lawful_answering, statuses_answering}
@@ -98,7 +98,7 @@ pub due_is : (past : Past) (state : SessionState) → Stands past state → stat
 unfolding tasks_of
 due_is past state s = ap (λ (t : TaskLists). t.due) (parts past state s).tasks_is
 
-pub queue_is : (past : Past) (state : SessionState) → Stands past state → state.tasks.queue ≡ frames_of past.came (queue past)
+pub queue_is : (past : Past) (state : SessionState) → Stands past state → state.tasks.queue ≡ bare_frames past.came (queue past)
 unfolding tasks_of
 queue_is past state s = ap (λ (t : TaskLists). t.queue) (parts past state s).tasks_is
 
@@ -173,10 +173,10 @@ vacant_of tasks frame h e = let g = rw h at e in g
 -- what is kept is what is remembered
 kept_by : (b : Bool) (past : Past) (state : SessionState) (frame : Frame) → is_immediate frame.header ≡ b → Stands past state
     → is_vacant_for state.tasks frame ≡ true → HasFreeTag past frame
-    → IsLawful (accepted frame past) × (kept frame state.tasks ≡ tasks_of (accepted frame past))
+    → IsLawful (accepted frame past) × (kept (bare frame) state.tasks ≡ tasks_of (accepted frame past))
 kept_by true past state frame h s free tag = (
   subst IsLawful (accepted_now past frame h) (lawful_now past s.lawful frame h tag),
-  rw h refl ∙ ap (λ (t : TaskLists). record t { due = t.due ++ frame ∷ [] }) (parts past state s).tasks_is ∙ admitted past s.lawful frame
+  rw h refl ∙ ap (λ (t : TaskLists). record t { due = t.due ++ bare frame ∷ [] }) (parts past state s).tasks_is ∙ admitted past s.lawful frame
       ∙ ap tasks_of (accepted_now past frame h),
 )
 kept_by false past state frame h s free tag =
@@ -185,7 +185,7 @@ kept_by false past state frame h s free tag =
     let k = order.index_of (numbers past) n in
     let at = ahead_of past s.lawful n (ap (λ (t : TaskLists). is_vacant t n) (sym is) ∙ vacant_of state.tasks frame h free) in (
       subst IsLawful (accepted_with past frame h) (lawful_with past s.lawful k _ frame h at tag),
-      rw h refl ∙ ap (λ (t : TaskLists). takes_all (holding n frame t)) is ∙ held_now past s.lawful k _ n frame at refl
+      rw h refl ∙ ap (λ (t : TaskLists). takes_all (holding n (bare frame) t)) is ∙ held_now past s.lawful k _ n frame at refl
           ∙ ap tasks_of (accepted_with past frame h),
     )
 
@@ -204,7 +204,7 @@ same_transfers past frame lawful e =
 -- a request that is neither a SCSI Command nor a Task Management Function Request
 pub stands_request : (past : Past) (state : SessionState) (frame : Frame) → Stands past state → is_vacant_for state.tasks frame ≡ true
     → is_command frame ≡ false → is_function frame ≡ false → Stands (accepted frame past) (record state { tasks = kept frame state.tasks })
-stands_request past state frame s free e f = grind (arith, kept_by, stands_tasks, same_transfers, same_headers, exchange_joined)
+stands_request past state frame s free e f = grind (arith, kept_by, bare_other frame e, stands_tasks, same_transfers, same_headers, exchange_joined)
 
 -- a Task Management Function Request
 pub stands_function : (past : Past) (state : SessionState) (frame : Frame) → Stands past state → is_vacant_for state.tasks frame ≡ true
@@ -214,7 +214,8 @@ stands_function past state frame s free f tag =
     let k = kept_by _ past state frame refl s free tag in
     let p = parts past state s in
     let no_command : is_command frame ≡ false = function_no_command frame f in
-    stands_parts past (accepted frame past) state (kept frame state.tasks) state.transfers _ state.exchange s k.0 refl refl k.1
+    stands_parts past (accepted frame past) state (kept frame state.tasks) state.transfers _ state.exchange s k.0 refl refl
+    (ap (λ (f : Frame). kept f state.tasks) (sym (bare_other frame no_command)) ∙ k.1)
     (p.transfers_is ∙ sym (same_transfers past frame s.lawful no_command))
     (ap (λ (l : List (List ℕ)). l ++ frame.header ∷ []) p.functions_is ∙ one_more_header past s.lawful frame f)
     (p.exchange_is ∙ sym (exchange_joined past _ s.lawful.below))
@@ -223,14 +224,15 @@ stands_function past state frame s free f tag =
 pub stands_begun : (past : Past) (state : SessionState) (frame : Frame) (task : WriteDataState) → Stands past state → is_vacant_for state.tasks frame ≡ true
     → is_command frame ≡ true → HasFreeTag past frame → task ≡ task_of (begun_data state.params.values frame)
     → Stands (accepted frame past) (record state {
-      tasks = kept frame state.tasks;
+      tasks = kept (bare_command frame.header) state.tasks;
       transfers = record state.transfers { list = state.transfers.list ++ begun_transfer frame.header task ∷ [] };
     })
 stands_begun past state frame task s free e tag is =
     let k = kept_by _ past state frame refl s free tag in
     let p = parts past state s in
     let same : task ≡ task_of (begun_data past.params.values frame) = is ∙ ap (λ (x : SessionParams). task_of (begun_data x.values frame)) p.params_is in
-    stands_parts past (accepted frame past) state (kept frame state.tasks) _ state.functions state.exchange s k.0 refl refl k.1
+    stands_parts past (accepted frame past) state (kept (bare_command frame.header) state.tasks) _ state.functions state.exchange s k.0 refl refl
+    (ap (λ (f : Frame). kept f state.tasks) (bare_is frame e) ∙ k.1)
     (ap (λ (t : TransferList). record t { list = t.list ++ begun_transfer frame.header task ∷ [] }) p.transfers_is
     ∙ ap (λ (t : WriteDataState). record (transfers_of past) { list = (transfers_of past).list ++ begun_transfer frame.header t ∷ [] }) same
     ∙ sym (transfers_joined true past _ e (finished_below past s.lawful) (removed_below past s.lawful) s.lawful.fed s.lawful.asked s.lawful.drained))

@@ -13,7 +13,7 @@ use Rattle.iscsi_order.proofs.Front.{front_missing}
 use Rattle.iscsi_session.specs.Requests.{Past, request_at, frame_of, frames_of, is_in, left, is_command, is_function, commands, counted, over, numbered, place_of, taken, numbers, due, queue, unfinished, pending, functions, removing}
 use Rattle.iscsi_session.specs.Transfers.{tag_of, task_at, outs_of, tags_of}
 use Rattle.iscsi_session.specs.Functions.{FunctionReach, reaches, reached}
-use Rattle.iscsi_session.specs.State.{SessionState, TransferList, Stands, AreDistinct, IsDelivered, IsLawful, standing, frame_numbered, tasks_of, transfers_of, functions_of, void_if, stays, counts_out, reaches_frame, without, transfers_without}
+use Rattle.iscsi_session.specs.State.{SessionState, TransferList, Stands, AreDistinct, IsDelivered, IsLawful, standing, bare, bare_frames, frame_numbered, tasks_of, transfers_of, functions_of, void_if, stays, counts_out, reaches_frame, without, transfers_without}
 use Rattle.iscsi_session.proofs.Left.{filter_cong, filter_filter, map_cong, left_more, left_append, left_all, in_at, in_filter, in_filter_back, in_left, passes_in, not_gone, not_in, is_in_append, below_of, distinct_map_filter}
 use Rattle.iscsi_session.proofs.Places.{count_map}
 use Rattle.iscsi_session.proofs.Kept.{function_no_command, in_kept, function_in, drained_removing, unfinished_came, unfinished_command, queue_unfinished}
@@ -235,12 +235,12 @@ module _ (reach : FunctionReach) (past : Past) (lawful : IsLawful past) where
   reached_in_queue : (k : ℕ) → is_in k (queue past) ≡ true → reaches_frame reach (frame_of past.came k) ≡ hit k
   reached_in_queue k e = rw (queue_command k e) refl
 
-  queue_stays : filter (stays reach) (frames_of past.came (queue past)) ≡ frames_of past.came (queue after)
+  queue_stays : filter (stays reach) (bare_frames past.came (queue past)) ≡ bare_frames past.came (queue after)
   queue_stays = grind (arith, filter_map_names, filter_cong, reached_in_queue, in_at, queue_hit)
 
-  counts_queue : length (filter (counts_out reach) (frames_of past.came (queue past))) ≡ counted past.came (filter hit (queue past))
+  counts_queue : length (filter (counts_out reach) (bare_frames past.came (queue past))) ≡ counted past.came (filter hit (queue past))
   counts_queue =
-      count_map (counts_out reach) (frame_of past.came) (queue past)
+      count_map (counts_out reach) (λ k. bare (frame_of past.came k)) (queue past)
       ∙ ap (λ (l : List ℕ). length l) (filter_cong _ _ (queue past) each)
       ∙ ap (λ (l : List ℕ). length l) (sym (filter_filter (λ k. is_some (request_at past.came k).number) hit (queue past)))
     where
@@ -255,7 +255,7 @@ module _ (reach : FunctionReach) (past : Past) (lawful : IsLawful past) where
   pub tasks_removing : without reach (tasks_of past) ≡ tasks_of after
   unfolding tasks_of
   tasks_removing =
-      let fewer : (numbers past).handed - counted past.came (over past) - length (filter (counts_out reach) (frames_of past.came (queue past)))
+      let fewer : (numbers past).handed - counted past.came (over past) - length (filter (counts_out reach) (bare_frames past.came (queue past)))
       ≡ (numbers after).handed - counted past.came (over after) = omega (arith, counts_queue, over_more, handed_same) in
       let held : map (option_map (void_if reach)) (map (frame_numbered (standing past)) (range_with_len (numbers past).handed window))
       ≡ map (frame_numbered (standing after)) (range_with_len (numbers after).handed window) =

@@ -3,8 +3,8 @@ use Rattle.std.proofs.Common.{◌≡◌, ◌≤◌, map, ℕ, suc, ◌<◌, List
 use Rattle.scsi_unit.specs.Units.{numbers_of, UnitStates}
 use Rattle.iscsi_session.specs.Comings.{TargetUnits, Coming, CameAs, lend, next_coming}
 use Rattle.iscsi_pdu.specs.Frames.{Frame}
-use Rattle.iscsi_session.specs.Requests.{Past, frame_of, due, frames_of, queue, bears_status, bearing}
-use Rattle.iscsi_session.specs.State.{SessionState, IsLawful, Stands, remembered, standing, tasks_of, place_for, whole_at, payload_at, is_waiting, is_waiting_by, waiting}
+use Rattle.iscsi_session.specs.Requests.{Past, frame_of, due, queue, bears_status, bearing}
+use Rattle.iscsi_session.specs.State.{SessionState, IsLawful, Stands, remembered, standing, bare, bare_frames, tasks_of, place_for, whole_at, payload_at, is_waiting, is_waiting_by, waiting}
 use Rattle.iscsi_session.specs.declared.act.Act.{Act}
 use Rattle.iscsi_session.specs.declared.act.Act.TheVariants.{Idle, Taken, Ended}
 use Rattle.iscsi_session.specs.Acts.{ends}
@@ -175,7 +175,7 @@ waits_by : (b : Bool) (past : Past) (k : ℕ) (l : List ℕ) → is_whole_of pas
 waits_by b past k l e h = grind arith
 
 none_ready_in : (past : Past) (state : SessionState) (l : List ℕ) → Stands past state → queue past ≡ l
-    → is_waiting_by (frames_of past.came l) state.transfers.list ≡ true → ready_in past l ≡ []
+    → is_waiting_by (bare_frames past.came l) state.transfers.list ≡ true → ready_in past l ≡ []
 none_ready_in past state [] s is e = refl
 none_ready_in past state (k ∷ l) s is e = grind (arith, waits_by, whole_is, first_unfinished)
 
@@ -190,7 +190,8 @@ goes_by : (b : Bool) (past : Past) (k : ℕ) (l : List ℕ) → is_whole_of past
 goes_by b past k l e h = grind arith
 
 all_ready_in : (past : Past) (state : SessionState) (l : List ℕ) → Stands past state → queue past ≡ l
-    → is_waiting_by (frames_of past.came l) state.transfers.list ≡ false → (k : ℕ) × (others : List ℕ) × (l ≡ k ∷ others) × (ready_in past l ≡ l)
+    → is_waiting_by (bare_frames past.came l) state.transfers.list ≡ false
+    → (k : ℕ) × (others : List ℕ) × (l ≡ k ∷ others) × (ready_in past l ≡ l)
 all_ready_in past state [] s is e = absurd cc
 all_ready_in past state (k ∷ l) s is e = grind (arith, goes_by, whole_is, first_unfinished)
 
@@ -234,6 +235,17 @@ finish_leaves work k others old new before waiting units after comings came done
 abbrev payload_in : SessionState → Frame → List ℕ
 payload_in state frame = payload_at state.transfers.list (place_for frame state.transfers.list)
 
+-- the data that it brought is in the payload
+carried_bare : (came : CameOut) (units : UnitStates) (nexus : NexusName) (frame : Frame) (payload : List ℕ)
+    → carried_out came units nexus (bare frame) payload ≡ carried_out came units nexus frame payload
+unfolding carried_out
+carried_bare came units nexus frame payload = refl
+
+pub answers_bare : (numbers : Stamp) (values : Values) (frame : Frame) (done : Outcome)
+    → command_answers numbers values (bare frame) done ≡ command_answers numbers values frame done
+unfolding data_answers scsi_answer
+answers_bare numbers values frame done = refl
+
 -- what it was carried out on, and how it came out
 module _ (old new : SessionState) (before waiting : List ℕ) (units after : UnitStates) (comings : List Coming) (came : CameOut) (frame : Frame)
     (rest : List Frame) (nexus : NexusName) (done : Outcome) (first : old.tasks.queue ≡ frame ∷ rest) (named : nexus ≡ old.params.nexus)
@@ -242,12 +254,13 @@ module _ (old new : SessionState) (before waiting : List ℕ) (units after : Uni
   finish_first : (l : List ℕ) (work : Work) → queue work.past ≡ l → Starts work old (lend units comings)
       → StepsFirst finish l work true old new (output before []) (output waiting []) (lend after (drop 1 comings))
   finish_first [] work is s =
-      absurd (let none = sym first ∙ queue_is work.past old (stands_of work old (lend units comings) s) ∙ ap (frames_of work.past.came) is in cc)
+      absurd (let none = sym first ∙ queue_is work.past old (stands_of work old (lend units comings) s)
+      ∙ ap (bare_frames work.past.came) is in cc)
   finish_first (k ∷ others) work is s =
       let st = stands_of work old (lend units comings) s in
-      let heads : frame ∷ rest ≡ frame_of work.past.came k ∷ frames_of work.past.came others = sym first ∙ queue_is work.past old st
-      ∙ ap (frames_of work.past.came) is in
-      let same : frame ≡ frame_of work.past.came k = cc in
+      let heads : frame ∷ rest ≡ bare (frame_of work.past.came k) ∷ bare_frames work.past.came others = sym first
+      ∙ queue_is work.past old st ∙ ap (bare_frames work.past.came) is in
+      let same : frame ≡ bare (frame_of work.past.came k) = cc in
       let params = (parts work.past old st).params_is in
       let agreed : nexus ≡ work.past.params.nexus = named ∙ ap (λ (x : SessionParams). x.nexus) params in
       let payload : payload_in old (frame_of work.past.came k) ≡ payload_of work.past k = payload_is work.past old k st
@@ -257,6 +270,7 @@ module _ (old new : SessionState) (before waiting : List ℕ) (units after : Uni
             (ap (λ (x : SessionParams). next_coming x.target comings) (sym params) ∙ next)
             (carried ∙ ap (λ (n : NexusName). carried_out came units n frame (payload_in old frame)) agreed
             ∙ ap (λ (f : Frame). carried_out came units work.past.params.nexus f (payload_in old f)) same
+            ∙ carried_bare came units work.past.params.nexus (frame_of work.past.came k) (payload_in old (frame_of work.past.came k))
             ∙ ap (carried_out came units work.past.params.nexus (frame_of work.past.came k)) payload) answers,
       )
 
@@ -274,7 +288,7 @@ queued_in past = length (queue past)
 
 pub queue_fits : (past : Past) → IsLawful past → queue_count (remembered past) ≤ queued_in past
 unfolding tasks_of
-queue_fits past lawful = omega (arith, length-map (queue past) (frame_of past.came))
+queue_fits past lawful = omega (arith, length-map (queue past) (λ k. bare (frame_of past.came k)))
 
 finished_first : (n : ℕ) (l : List ℕ) (work : Work) (old new : SessionState) (before waiting : Output) (after : TargetUnits) → work.goes_on ≡ true
     → StepsFirst finish l work true old new before waiting after

@@ -20,7 +20,7 @@ use Rattle.iscsi_session.specs.Functions.{FunctionReach, reaches, plug, is_plug}
 use Rattle.iscsi_exchange.specs.ExchangeState.{ExchangeState}
 use Rattle.iscsi_session.specs.Transfers.{tag_of, task_at, verdict_on, next_transfer_tag, drains_of, r2ts_for}
 
--- the requests that are not finished, and the numbers
+-- the requests that are not finished, SCSI Commands without the data that they brought, and the numbers
 pub record TaskLists : Type 0 where
   -- the CmdSN that is taken next
   pub next : ℕ
@@ -61,10 +61,24 @@ void immediate = record { header = (if immediate then 0x7F else 0x3F) ∷ replic
 abbrev pub voided : Request → Request
 voided request = record request { frame = void (is_immediate request.frame.header) }
 
--- the requests from the name k on, with those that were removed voided
+-- own: a SCSI Command is kept without the data that it brought, which is in its transfer
+abbrev pub bare_command : List ℕ → Frame
+bare_command header = record { header = header; body = [] }
+
+-- every other request is kept as it came
+abbrev pub bare : Frame → Frame
+bare frame = record frame { body = if is_command frame then [] else frame.body }
+
+abbrev pub bare_frames : List Request → List ℕ → List Frame
+bare_frames came names = map (λ k. bare (frame_of came k)) names
+
+abbrev pub bared : Request → Request
+bared request = record request { frame = bare request.frame }
+
+-- the requests from the name k on as they are kept, with those that were removed voided
 abbrev pub standing_from : List ℕ → ℕ → List Request → List Request
 standing_from removed k [] = []
-standing_from removed k (request ∷ came) = (if is_in k removed then voided request else request) ∷ standing_from removed (suc k) came
+standing_from removed k (request ∷ came) = (if is_in k removed then voided request else bared request) ∷ standing_from removed (suc k) came
 
 unfoldable pub standing : Past → List Request
 standing past = standing_from past.removed 0 past.came
@@ -80,7 +94,7 @@ tasks_with past handed line = record {
   unfinished = handed - counted past.came (over past);
   held = map (frame_numbered (standing past)) (range_with_len handed order.window);
   due = line;
-  queue = frames_of past.came (queue past);
+  queue = bare_frames past.came (queue past);
 }
 
 unfoldable pub tasks_of : Past → TaskLists

@@ -200,7 +200,7 @@ impl Session {
         self.tasks.keep(frame)
     }
 
-    /// Keeps a SCSI Command, with the data that it brings. If an allocation fails, nothing changes.
+    /// Keeps a SCSI Command, and beside it the data that it brings. If an allocation fails, nothing changes.
     fn accept_command(&mut self, frame: Frame) -> Result<(), Memory>
         requires values { AreInRange self.old.params.values }
         requires command { is_command_in frame ≡ true }
@@ -210,8 +210,9 @@ impl Session {
         ensures params { self.new.params ≡ self.old.params }
         ensures err { OnErr result (self.new ≡ self.old) }
     {
-        self.transfers.begin(&frame, &self.params.values)?;
-        if self.tasks.keep(frame).is_err() {
+        let header = frame.header;
+        self.transfers.begin(frame, &self.params.values)?;
+        if self.tasks.keep_command(header).is_err() {
             self.transfers.forget_last();
             return Err(Memory);
         }

@@ -5,7 +5,7 @@ ghost use Rattle.iscsi_order.specs.Window as order;
 ghost use Rattle.iscsi_order.specs.WindowState as window;
 ghost use Rattle.iscsi_pdu.specs.Frames as pdu;
 ghost use Rattle.iscsi_pdu.specs.Header.{is_immediate};
-ghost use Rattle.iscsi_session.specs.State.{no_tasks, window_of, is_vacant, is_vacant_for, holding, kept, takes_all, one_fewer, without, held_numbered, is_some_plug, plugged_behind, void_if, stays, counts_out, swept_one};
+ghost use Rattle.iscsi_session.specs.State.{no_tasks, window_of, is_vacant, is_vacant_for, holding, kept, bare_command, takes_all, one_fewer, without, held_numbered, is_some_plug, plugged_behind, void_if, stays, counts_out, swept_one};
 ghost use Rattle.iscsi_session.specs.RequestQueue.{moves_all};
 
 use crate::abort_scope::Reach;
@@ -22,7 +22,8 @@ use target_limits::Memory;
 pub(crate) const USUALLY_MOST: usize = 32;
 
 /// The requests of a session that are not finished. They are stored in a slab, so that one that moves from one line to
-/// another is not copied. Clauses see the three lines, and the window of the numbers.
+/// another is not copied. A SCSI Command has no data here: all of it is in [`Transfers`](crate::transfers::Transfers).
+/// Clauses see the three lines, and the window of the numbers.
 #[derive(Drop)]
 pub(crate) struct RequestQueue {
     requests: Slab<Frame>,
@@ -106,6 +107,18 @@ impl RequestQueue {
             return self.admit(frame);
         }
         self.hold(frame.header.cmd_sn(), frame)
+    }
+
+    /// Keeps an accepted SCSI Command, as [`RequestQueue::keep`] does, without the data that it brought.
+    pub(crate) fn keep_command(&mut self, header: Header) -> Result<(), Memory>
+        requires { is_vacant_for self.old (bare_command header) ≡ true }
+        ensures ok { OnOk result (self.new ≡ kept (bare_command header) self.old) }
+        ensures err { OnErr result (self.new ≡ self.old) }
+    {
+        self.keep(Frame {
+            header,
+            body: Vec::new(self.alloc),
+        })
     }
 
     /// Takes a request for immediate delivery at once. If an allocation fails, nothing changes.

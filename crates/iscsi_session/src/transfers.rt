@@ -132,25 +132,19 @@ impl Transfers {
         Ok(())
     }
 
-    /// Adds a SCSI Command that has just come, with the data that it brings. If an allocation fails, nothing changes.
-    pub(crate) fn begin(&mut self, frame: &Frame, values: &Values) -> Result<(), Memory>
+    /// Adds a SCSI Command that has just come, with the data that it brings, in the buffer in which it came. If an
+    /// allocation fails, nothing changes.
+    pub(crate) fn begin(&mut self, frame: Frame, values: &Values) -> Result<(), Memory>
         requires values { AreInRange values.now }
-        requires lawful { command_fault values.now frame.now ≡ None }
+        requires lawful { command_fault values.now frame ≡ None }
         ensures ok { OnOk result (self.new ≡ record self.old
-            { list = self.old.list ++ begun_transfer frame.now.header (task_of (begun values.now frame.now)) ∷ [] }) }
+            { list = self.old.list ++ begun_transfer frame.header (task_of (begun values.now frame)) ∷ [] }) }
         ensures err { OnErr result (self.new ≡ self.old) }
     {
         self.list.reserve(1)?;
-        // The frame keeps its own data until the command is executed.
-        let command = Frame {
-            header: frame.header,
-            body: Vec::from_slice(self.alloc, frame.body.as_slice())?,
-        };
-        let task = WriteData::begin(self.alloc, command, values)?;
-        self.list.push_reserved(Transfer {
-            header: frame.header,
-            task,
-        });
+        let header = frame.header;
+        let task = WriteData::begin(self.alloc, frame, values)?;
+        self.list.push_reserved(Transfer { header, task });
         Ok(())
     }
 

@@ -17,7 +17,7 @@ returns-in-NopOut-clause-acts c luns past k rest s is e no_text no_function orde
     let known = seen c.self.view_is s in
     let f = finished_here past _ k rest known is c.in-Some.frame _ e no_text no_function c.in-Some.ensures.some c.in-Some.ensures.same in
     let there = sym (ap kind_of (c.frame.view_is ∙ f.0)) ∙ sym c.opcode.ensures ∙ c.in-NopOut.is in
-    let as_came = came_as past _ k rest known is there (λ x. absurd cc) in
+    let as_came = came_as past _ k rest known is e there (λ x. absurd cc) in
     let kind = sym (ap kind_of as_came) ∙ there in
     let same = ping_same luns k past c.in-Some.frame (f.0 ∙ as_came) kind in
     record {
@@ -33,7 +33,7 @@ returns-in-Logout-clause-acts c luns past k rest s is e no_text no_function orde
     let known = seen c.self.view_is s in
     let f = finished_here past _ k rest known is c.in-Some.frame _ e no_text no_function c.in-Some.ensures.some c.in-Some.ensures.same in
     let there = sym (ap kind_of (c.frame.view_is ∙ f.0)) ∙ sym c.opcode.ensures ∙ c.in-Logout.is in
-    let as_came = came_as past _ k rest known is there (λ x. absurd cc) in
+    let as_came = came_as past _ k rest known is e there (λ x. absurd cc) in
     let kind = sym (ap kind_of as_came) ∙ there in
     let same = logout_same luns k past c.in-Some.frame (f.0 ∙ as_came) kind in
     record {

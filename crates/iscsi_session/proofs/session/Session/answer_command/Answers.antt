@@ -2,6 +2,7 @@ use Rattle.std.proofs.Common.{◌≡◌, ℕ, ◌≤◌, ◌++◌, ◌∷◌, Li
 use Rattle.std.specs.Prelude.{flat_map}
 use Rattle.iscsi_pdu.specs.Frames.{Frame}
 use Rattle.iscsi_pdu.specs.Answer.{spelling}
+use Rattle.iscsi_pdu.specs.declared.answer.Answer.{Answer}
 use Rattle.iscsi_pdu.specs.declared.stamp.Stamp.{Stamp}
 use Rattle.iscsi_login.specs.declared.session_params.SessionParams.{SessionParams}
 use Rattle.iscsi_session.specs.Requests.{frame_of, stamp, finished}
@@ -11,7 +12,7 @@ use Rattle.iscsi_session.specs.State.{SessionState, removed_at, place_with}
 use Rattle.iscsi_pdu.specs.Header.{initiator_task_tag}
 use Rattle.iscsi_session.proofs.Parts.{parts}
 use Rattle.iscsi_session.proofs.Answered.{seen, done_here, some_queued}
-use Rattle.iscsi_session.proofs.Settled.{command_bears}
+use Rattle.iscsi_session.proofs.Settled.{answers_bare, command_bears}
 use Rattle.iscsi_session.proofs.session.Session.answer_command.Goals as goal
 
 pub returns-in_default-clause-answers : goal.returns-in_default-clause-answers
@@ -43,5 +44,6 @@ returns-clause-answers c past k rest s is =
           ∙ ap (λ (x : Stamp). items ++ flat_map spelling (command_answers x c.self-2.inside.params.values c.in-Some.frame done))
           (c.next_stamp-stamp.ensures.stamp (finished k past) f.1)
           ∙ ap (λ (p : SessionParams). items ++ flat_map spelling (command_answers now p.values c.in-Some.frame done)) same
-          ∙ ap (λ (x : Frame). items ++ flat_map spelling (command_answers now past.params.values x done)) f.0;
+          ∙ ap (λ (x : Frame). items ++ flat_map spelling (command_answers now past.params.values x done)) f.0
+          ∙ ap (λ (all : List Answer). items ++ flat_map spelling all) (answers_bare now past.params.values (frame_of past.came k) done);
     }
