@@ -9,6 +9,7 @@ use Rattle.iscsi_target.specs.History.{Event, Happening, History, happening, pla
 use Rattle.iscsi_target.specs.World.{Setting, World, world}
 use Rattle.iscsi_target.specs.Machine.{Machine, ReflectsSoundness, link_at, is_open_at, new_machine}
 use Rattle.iscsi_target.specs.Stands.{Stands, with_sent}
+use Rattle.iscsi_target.proofs.Reflected.{sound_back}
 use Rattle.iscsi_target.proofs.Standing.{is_open_there, is_free_there, stands_sent, sent_here, sent_there}
 use Rattle.iscsi_ports.specs.Log.{Bytes, Entry, Open, Read, Wrote, Close, Written, written_after, written}
 use Rattle.iscsi_serve.specs.Events.{event_of, events}
@@ -174,7 +175,6 @@ fed_comes_out c piece target target_then fed = λ s sent h stands.
 pub keeps_same : (tells : Bool) (log : List Entry) (target : Machine) → Keeps tells tells log log target target
 keeps_same tells log target = record {
   back = λ e. e;
-  sound = λ sound. sound;
   each = λ number sound. sound;
   sure = λ sure. sure;
   served = λ e sound. stays_same MayHappen log target;
@@ -187,11 +187,11 @@ pub keeps_then : (tells between tells_then : Bool) (log middle log_then : List E
     target target_then
 keeps_then tells between tells_then log middle log_then target after target_then first second = record {
   back = λ e. first.back (second.back e);
-  sound = λ sound. first.sound (second.sound sound);
   each = λ number sound. first.each number (second.each number sound);
   sure = λ sure. second.sure (first.sure sure);
   served = λ e sound.
-      stays_then MayHappen log middle log_then target after target_then (first.served (second.back e) (second.sound sound)) (second.served e sound);
+      stays_then MayHappen log middle log_then target after target_then
+      (first.served (second.back e) (sound_back after target_then second.each sound)) (second.served e sound);
   came = λ e. comes_out_then log middle log_then target after target_then second.each (first.came (second.back e)) (second.came e);
   bounded = λ bounded. second.bounded (first.bounded bounded);
 }
@@ -219,7 +219,6 @@ pub keeps_told : (tells tells_then : Bool) (log log_then : List Entry) (target :
     → (tells_then ≡ true → tells ≡ true) → (tells_then ≡ true → log_then ≡ log ++ entry ∷ []) → Keeps tells tells_then log log_then target target
 keeps_told tells tells_then log log_then target entry none silent back e = record {
   back = back;
-  sound = λ sound. sound;
   each = λ number sound. sound;
   sure = λ sure. sure;
   served = λ t sound. stays_told MayHappen log log_then target entry none silent (e t);

@@ -60,7 +60,6 @@ MovesBy R log log_then target target_then ended ended_then =
 -- what each step keeps, whatever it does
 pub record Keeps (tells tells_then : Bool) (log log_then : List Entry) (target target_then : Machine) : Type 0 where
   pub back : tells_then ≡ true → tells ≡ true
-  pub sound : IsSound target_then → IsSound target
   pub each : ReflectsSoundness target target_then
   pub sure : IsSure target → IsSure target_then
   pub served : tells_then ≡ true → IsSound target_then → StaysServed log log_then target target_then

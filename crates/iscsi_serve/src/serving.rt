@@ -65,7 +65,6 @@ fn feed<S: Store>(target: &mut Target<S>, c: usize, piece: &[u8]) -> Option<usiz
     ensures bounded { length piece.now ≤ want_of (link_at target.old c) → Bounded target.old → Bounded target.new }
     ensures feeds { Feeds c target.old target.new }
     ensures fed { IsFed c piece.now target.old target.new }
-    ensures sound { IsSound target.new → IsSound target.old }
     ensures each { ReflectsSoundness target.old target.new }
     ensures sure { IsSure target.old → IsSure target.new }
 {
@@ -350,7 +349,6 @@ pub fn turn<P: Ports, S: Store>(ports: &mut P, target: &mut Target<S>) -> Result
     ensures came { P.tells ports.new ≡ true → ComesOutServed (P.log ports.old) (P.log ports.new) target.old target.new }
     ensures bounded { Bounded target.old → Bounded target.new }
     ensures back { P.tells ports.new ≡ true → P.tells ports.old ≡ true }
-    ensures sound { IsSound target.new → IsSound target.old }
     ensures each { ReflectsSoundness target.old target.new }
     ensures sure { IsSure target.old → IsSure target.new }
 {
@@ -372,7 +370,6 @@ pub fn turns<P: Ports, S: Store>(
     ensures came { P.tells ports.new ≡ true → ComesOutServed (P.log ports.old) (P.log ports.new) target.old target.new }
     ensures bounded { Bounded target.old → Bounded target.new }
     ensures back { P.tells ports.new ≡ true → P.tells ports.old ≡ true }
-    ensures sound { IsSound target.new → IsSound target.old }
     ensures each { ReflectsSoundness target.old target.new }
     ensures sure { IsSure target.old → IsSure target.new }
 {

@@ -28,7 +28,8 @@ use Rattle.iscsi_target.proofs.Working.{IsAtWork, at_work, past_at, session_link
 use Rattle.iscsi_target.proofs.Marks.{mark_at, same_self, marked_as, marked_none}
 use Rattle.iscsi_target.proofs.Comings.{comings_worked}
 use Rattle.iscsi_target.proofs.Doing.{Act, in_order}
-use Rattle.iscsi_target.proofs.Sound.{sound_at, sound_back, closed_back, at_as}
+use Rattle.iscsi_target.proofs.Reflected.{sound_at, sound_back}
+use Rattle.iscsi_target.proofs.Sound.{closed_back, at_as}
 
 -- ---- what failed
 

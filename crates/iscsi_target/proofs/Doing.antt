@@ -10,7 +10,7 @@ use Rattle.iscsi_target.specs.World.{Setting, World}
 use Rattle.iscsi_target.specs.Machine.{Machine, ReflectsSoundness}
 use Rattle.iscsi_target.specs.Stands.{stand_in, Begins}
 use Rattle.iscsi_target.specs.Serving.{Serves, Agrees, ActsAs, first_of, reached_since}
-use Rattle.iscsi_target.proofs.Sound.{sound_back}
+use Rattle.iscsi_target.proofs.Reflected.{sound_back}
 use Rattle.iscsi_target.proofs.Marks.{Apart, Wider, agrees_left, agrees_right, all_wider, all_append}
 use Rattle.iscsi_target.proofs.Keeping.{Prolongs}
 

@@ -20,7 +20,7 @@ use Rattle.iscsi_target.specs.Serving.{Serves, first_starved, with_half, is_amon
 use Rattle.iscsi_target.specs.declared.fault.Starved.{Starved}
 use Rattle.iscsi_target.proofs.Arrivals.{new_is}
 use Rattle.iscsi_target.proofs.Moving.{own_self, changes_feeds}
-use Rattle.iscsi_target.proofs.Sound.{sound_back}
+use Rattle.iscsi_target.proofs.Reflected.{sound_back}
 use Rattle.iscsi_target.proofs.Choices.{eqb_self, cond_true, cond_false}
 use Rattle.iscsi_target.proofs.Lives.{present-changed, present-changed_other, present_is}
 use Rattle.iscsi_target.proofs.Marks.{mark_at, marked_one, marked_none, unmarked}

@@ -29,6 +29,7 @@ mod Isolation
 mod Comings
 mod Doing
 mod AtWork
+pub mod Reflected
 mod Sound
 mod Bounding
 mod Moving

@@ -3,7 +3,7 @@ use Rattle.std.proofs.Common.{◌≡◌, ℕ, zero, suc, ◌<◌, List, [], ◌�
 use Rattle.std.specs.Prelude.{All, slice_index_or, slice_set}
 use Rattle.std.proofs.Math.Seq.{map-set_same}
 use Rattle.std.proofs.lemmas.Bool.Decides.{eqb_tells}
-use Rattle.std.proofs.lemmas.List.{length-set, length-map, get_or-map, get_or_default, get_or-set_same, get_or-set_other}
+use Rattle.std.proofs.lemmas.List.{length-set, length-map, get_or-map, get_or-set_same, get_or-set_other}
 use Rattle.std.proofs.lemmas.List.Elements.{All-map}
 use Rattle.scsi_sense.specs.Nexus.{NexusName}
 use Rattle.scsi_sense.specs.declared.condition.Attention.{Attention}
@@ -28,18 +28,7 @@ use Rattle.iscsi_session.specs.AbortScope.{attention_of}
 use Rattle.iscsi_target.specs.World.{left, changed_units, lookup_for, function_of, told, told_by, reset_by}
 use Rattle.iscsi_target.specs.Machine.{Machine, IsSound, IsSoundAt, ReflectsSoundness, IsSure, link_at, with_link, begun_link, closed, session_in_phase, sessions, shut_older, begun, replied, logged_in}
 
--- ---- one target, and all
-
-pub each_sound : (all : List UnitStates) → All AreSound all → (target : ℕ) → AreSound (slice_index_or all target [])
-each_sound [] sound target = λ i d lt. absurd (omega (arith, lt))
-each_sound (units ∷ all) sound zero = sound 0 [] (omega arith)
-each_sound (units ∷ all) sound (suc target) = each_sound all (λ i d lt. sound (suc i) d (omega (arith, lt))) target
-
-pub sound_at : (machine : Machine) → IsSound machine → (target : ℕ) → IsSoundAt target machine
-sound_at machine sound target = each_sound machine.units sound target
-
-pub sound_back : (old new : Machine) → ReflectsSoundness old new → IsSound new → IsSound old
-sound_back old new back sound = λ i d lt. subst AreSound (get_or_default old.units i [] d lt) (back i (sound_at new sound i))
+-- ---- one target
 
 -- one target's units are set to others, which are sound only where they were
 pub set_back : (all : List UnitStates) (at : ℕ) (units : UnitStates) → at < length all → (AreSound units → AreSound (slice_index_or all at []))
@@ -186,9 +175,6 @@ pub told_sure : (header : List ℕ) (nexus : NexusName) (units : UnitStates)
     → AreSure units → AreSure (told_by (function_of header) (lun_field header) nexus units)
 told_sure header nexus units sure = over_units IsSureDevice units _ (sym (media_told (attention_of (function_of header)) (lun_field header) nexus units)) sure
 
-pub closed_sound : (machine : Machine) (c : ℕ) → IsSound (closed machine c) → IsSound machine
-closed_sound machine c sound = over_media IsSoundDevice (closed machine c).units machine.units (media_closed machine c) sound
-
 pub closed_back : (machine : Machine) (c : ℕ) → ReflectsSoundness machine (closed machine c)
 closed_back machine c target sound = media_back (closed machine c).units machine.units (media_closed machine c) target sound
 
@@ -217,18 +203,12 @@ pub sound_of_sure : (machine : Machine) → IsSure machine → IsSound machine
 sound_of_sure machine sure = λ i d lt j e below. (sure i d lt j e below).sound
 
 -- however the machine is written
-pub sound_as : (a b : Machine) → a ≡ b → IsSound a → IsSound b
-sound_as a b e sound = let P : Machine → Type 0 = λ m. IsSound m in subst P e sound
-
 pub at_as : (a b : Machine) (target : ℕ) → a ≡ b → IsSoundAt target a → IsSoundAt target b
 at_as a b target e sound = let P : Machine → Type 0 = λ m. IsSoundAt target m in subst P e sound
 
 pub at_units : (units : List UnitStates) (machine : Machine) (target : ℕ) → units ≡ machine.units → AreSound (slice_index_or units target [])
     → IsSoundAt target machine
 at_units units machine target e sound = subst (λ (us : List UnitStates). AreSound (slice_index_or us target [])) e sound
-
-pub sound_units : (units : List UnitStates) (machine : Machine) → units ≡ machine.units → All AreSound units → IsSound machine
-sound_units units machine e sound = let P : List UnitStates → Type 0 = λ us. All AreSound us in subst P e sound
 
 pub sure_as : (a b : Machine) → a ≡ b → IsSure a → IsSure b
 sure_as a b e sure = let P : Machine → Type 0 = λ m. IsSure m in subst P e sure

@@ -14,7 +14,8 @@ use Rattle.iscsi_session.specs.Laws.{FinishedInOrder}
 use Rattle.iscsi_target.specs.History.{Event, Open, Bytes, Gone, Mark, History, happening, marked}
 use Rattle.iscsi_target.specs.Life.{Life, LoggingIn, is_over, out_of}
 use Rattle.iscsi_target.specs.World.{Setting, World, present, past_of, reads_life, live, requests_of, lookup_for, close, world}
-use Rattle.iscsi_target.specs.Machine.{Machine, IsSound, IsSure}
+use Rattle.iscsi_target.specs.Machine.{Machine, IsSound, ReflectsSoundness, WhereSound, IsSure}
+use Rattle.iscsi_target.specs.Stands.{Stands}
 
 -- a life before and after bytes came on any connection: it may have more answers, unless it was over
 pub record GoesOn (before after : Life) : Type 0 where
@@ -37,6 +38,13 @@ AnswersStay = (s : Setting) (h : History) (marks : List Mark) (comings : List Co
 -- A target whose stores cannot fail is sound.
 abbrev pub SureIsSound : Type 0
 SureIsSound = (machine : Machine) → IsSure machine → IsSound machine
+
+-- A machine is sound before a call that reflects the soundness of each target, if it is sound after it. So where the
+-- call keeps any machine standing, it keeps one standing that is sound.
+pub record SoundTargetsWereSound : Type 0 where
+  pub back : (old new : Machine) → ReflectsSoundness old new → IsSound new → IsSound old
+  pub stands : (s : Setting) (sent then_sent : ℕ → ℕ) (old new : Machine) (h later : History) → ReflectsSoundness old new
+      → (Stands s sent old h → Stands s then_sent new later) → WhereSound old (Stands s sent old h) → WhereSound new (Stands s then_sent new later)
 
 -- ---- sessions
 

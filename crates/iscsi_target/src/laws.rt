@@ -4,7 +4,7 @@ ghost use Rattle.iscsi_target.specs.History.{ArrivalsInPieces};
 ghost use Rattle.iscsi_target.specs.Isolation.{TargetsAreIsolated, TargetsSeeTheirOwn, StrangersAreAlone, EventsAreLocal};
 ghost use Rattle.iscsi_target.specs.Bounded.{CallsKeepBounded};
 ghost use Rattle.iscsi_target.specs.Moment.{SessionsAreAtRest};
-ghost use Rattle.iscsi_target.specs.Laws.{AnswersStay, SureIsSound, SessionsFinishAsTaken, OthersStay, OthersGoOn};
+ghost use Rattle.iscsi_target.specs.Laws.{AnswersStay, SureIsSound, SoundTargetsWereSound, SessionsFinishAsTaken, OthersStay, OthersGoOn};
 
 /// States that the cutting of a connection's bytes into pieces does not matter. The frames that become whole are
 /// those of the joined bytes, in order, followed by at most one header that names too much data.
@@ -21,6 +21,13 @@ pub fn answers_stay()
 /// States that a target whose stores cannot fail is sound.
 pub fn sure_is_sound()
     ensures { SureIsSound }
+{}
+
+/// States that a target that is sound after a call was sound before it, where the call says so of each of its targets
+/// (clause `each`). What the call says of any target (`always`) then holds where it is sound.
+#[tactic(auto, using(crate::proofs::Reflected::sound_targets_were_sound))]
+pub fn sound_targets_were_sound()
+    ensures { SoundTargetsWereSound }
 {}
 
 /// States that each session that goes on takes each request at most once. What is finished was taken, in the order in

@@ -6,7 +6,7 @@ ghost use Rattle.iscsi_outbox.specs.Offered.{EndsPdu};
 ghost use Rattle.iscsi_target.specs.Bounded.{Bounded};
 ghost use Rattle.iscsi_target.specs.History.{History};
 ghost use Rattle.iscsi_target.specs.World.{Setting};
-ghost use Rattle.iscsi_target.specs.Machine.{IsSound, ReflectsSoundness, WhereSound, IsSure, sent_link, link_at, with_link, is_silent, is_open_at};
+ghost use Rattle.iscsi_target.specs.Machine.{ReflectsSoundness, IsSure, sent_link, link_at, with_link, is_silent, is_open_at};
 ghost use Rattle.iscsi_target.specs.Stands.{Stands, with_sent};
 
 use crate::connection::MOST_ROOM_KEPT;
@@ -47,11 +47,8 @@ impl<S: Store> Target<S> {
         requires open { is_open_at self.old c ≡ true }
         requires waits { n ≤ length (link_at self.old c).waiting }
         ensures now { self.new ≡ with_link self.old c (sent_link (link_at self.old c) n) }
-        ensures sound { IsSound self.new → IsSound self.old }
         ensures each { ReflectsSoundness self.old self.new }
         ensures sure { IsSure self.old → IsSure self.new }
-        ensures stands { (s : Setting) (sent : ℕ → ℕ) (h : History) → WhereSound self.old (Stands s sent self.old h)
-            → WhereSound self.new (Stands s (with_sent sent c (sent c + n)) self.new h) }
         ensures always { (s : Setting) (sent : ℕ → ℕ) (h : History) → Stands s sent self.old h → Stands s (with_sent sent c (sent c + n)) self.new h }
         ensures bounded { Bounded self.old → Bounded self.new }
     {

@@ -7,7 +7,7 @@ ghost use Rattle.iscsi_pdu.specs.Header.{header_length};
 ghost use Rattle.iscsi_target.specs.Bounded.{AddsAtMost, Bounded};
 ghost use Rattle.iscsi_target.specs.History.{Open, Bytes, Gone, Mark, History, arrivals, plain, marked};
 ghost use Rattle.iscsi_target.specs.World.{Setting, present, world};
-ghost use Rattle.iscsi_target.specs.Machine.{LinkState, IsSound, ReflectsSoundness, WhereSound, IsSure, Feeds, KeepsPart, free_link, opened_link, new_machine, link_at, with_link, closed, joined_session, shut_older, begun, logged_in, is_logging_in, GivesFrame, is_reading, is_settled, is_with, target_in, is_open_at, is_closing, want_of};
+ghost use Rattle.iscsi_target.specs.Machine.{LinkState, ReflectsSoundness, WhereSound, IsSure, Feeds, KeepsPart, free_link, opened_link, new_machine, link_at, with_link, closed, joined_session, shut_older, begun, logged_in, is_logging_in, GivesFrame, is_reading, is_settled, is_with, target_in, is_open_at, is_closing, want_of};
 ghost use Rattle.iscsi_target.specs.declared.phase.Phase.TheVariants.{Login};
 ghost use Rattle.iscsi_login.specs.LoginState.{LoginState, IsTargetBelow};
 ghost use Rattle.iscsi_target.specs.Known.{known_in};
@@ -33,7 +33,8 @@ use target_limits::Memory;
 /// reports its end.
 ///
 /// The promises about answers and units hold if the stores of all units are honest and no call of one has failed
-/// (`WhereSound`). A target that is sound after a call was sound before it.
+/// (`WhereSound`). A target that is sound after a call was sound before it
+/// ([`sound_targets_were_sound`](crate::laws::sound_targets_were_sound)).
 #[derive(Drop)]
 pub struct Target<S: Store> {
     pub(crate) alloc: Global,
@@ -88,11 +89,8 @@ impl<S: Store> Target<S> {
         ensures ok { IsOk result }
         ensures now { self.new ≡ with_link self.old c (opened_link c) }
         ensures count { length self.old.links ≡ 64 }
-        ensures sound { IsSound self.new → IsSound self.old }
         ensures each { ReflectsSoundness self.old self.new }
         ensures sure { IsSure self.old → IsSure self.new }
-        ensures stands { (s : Setting) (sent : ℕ → ℕ) (h : History) → WhereSound self.old (Stands s sent self.old h)
-            → WhereSound self.new (Stands s (with_sent sent c 0) self.new (h ++ plain (Open c) ∷ [])) }
         ensures always { (s : Setting) (sent : ℕ → ℕ) (h : History) → Stands s sent self.old h
             → Stands s (with_sent sent c 0) self.new (h ++ plain (Open c) ∷ []) }
         ensures bounded { Bounded self.old → Bounded self.new }
@@ -119,7 +117,6 @@ impl<S: Store> Target<S> {
         // This holds of every target, whatever its stores do: the commands came out as these comings say.
         ensures came { (s : Setting) (sent : ℕ → ℕ) (h : History) → Stands s sent self.old h
             → StandsAfter s sent h (Bytes c piece.now) (first_starved result) self.new }
-        ensures sound { IsSound self.new → IsSound self.old }
         ensures each { ReflectsSoundness self.old self.new }
         ensures sure { IsSure self.old → IsSure self.new }
         ensures feeds { Feeds c self.old self.new }
@@ -150,11 +147,8 @@ impl<S: Store> Target<S> {
         requires open { is_open_at self.old c ≡ true }
         ensures now { self.new ≡ with_link (closed self.old c) c free_link }
         ensures count { length self.old.links ≡ 64 }
-        ensures sound { IsSound self.new → IsSound self.old }
         ensures each { ReflectsSoundness self.old self.new }
         ensures sure { IsSure self.old → IsSure self.new }
-        ensures stands { (s : Setting) (sent : ℕ → ℕ) (h : History) → WhereSound self.old (Stands s sent self.old h)
-            → WhereSound self.new (Stands s (with_sent sent c 0) self.new (h ++ plain (Gone c) ∷ [])) }
         ensures always { (s : Setting) (sent : ℕ → ℕ) (h : History) → Stands s sent self.old h
             → Stands s (with_sent sent c 0) self.new (h ++ plain (Gone c) ∷ []) }
         ensures bounded { Bounded self.old → Bounded self.new }

@@ -7,6 +7,7 @@ use Rattle.iscsi_target.specs.History.{Bytes, History, Mark, happening, plain}
 use Rattle.iscsi_target.specs.World.{Setting}
 use Rattle.iscsi_target.specs.Machine.{Machine, IsSound, IsSoundAt, ReflectsSoundness}
 use Rattle.iscsi_target.specs.Stands.{Stands, StandsAfter}
+use Rattle.iscsi_target.proofs.Reflected.{sound_back}
 use Rattle.target_replay.specs.declared.fault.ReplayFault.{ReplayFault}
 use Rattle.target_replay.specs.declared.fault.ReplayFault.TheVariants as faults
 use Rattle.target_replay.specs.Comings.{Kind, Any, Sound, IsOf, Suits, AsCame}
@@ -20,9 +21,9 @@ use Rattle.target_replay.proofs.LineLemmas.{carried_out_more}
 pub same_back : (old new : Machine) → new ≡ old → ReflectsSoundness old new
 same_back old new same = λ target sound. subst (IsSoundAt target) same sound
 
-pub is_back : (kind : Kind) (old new : Machine) → (IsSound new → IsSound old) → IsOf kind new → IsOf kind old
+pub is_back : (kind : Kind) (old new : Machine) → ReflectsSoundness old new → IsOf kind new → IsOf kind old
 is_back Any old new back is = tt
-is_back Sound old new back is = back is
+is_back Sound old new back is = sound_back old new back is
 
 pub suits_later : (kind : Kind) (old new : Machine) → ReflectsSoundness old new → (comings : List Coming) → Suits kind old comings
     → Suits kind new comings

@@ -46,7 +46,7 @@ impl<S: Store> Engine<S> {
     ghost use Rattle.std.specs.Io.KnownBytes.{Appends};
     ghost use Rattle.iscsi_target.specs.History.{History};
     ghost use Rattle.iscsi_target.specs.World.{Setting};
-    ghost use Rattle.iscsi_target.specs.Machine.{IsSound, ReflectsSoundness, IsSure};
+    ghost use Rattle.iscsi_target.specs.Machine.{ReflectsSoundness, IsSure};
     ghost use Rattle.target_replay.specs.Comings.{Kind, IsOf};
     ghost use Rattle.target_replay.specs.Printed.{HasSentAll};
     ghost use Rattle.target_replay.specs.Engine.{Takes, Stops, Finishes, StopsLast, LineEnds, LineFails};
@@ -81,7 +81,6 @@ impl<S: Store> Engine<S> {
         ensures number { OnOk result (self.new.number ≡ self.old.number + 1) }
         ensures fails { IfErr result (λ fault. (kind : Kind) → IsOf kind self.new.target → (s : Setting) (h : History)
             → HasSentAll s h self.old.target → LineFails kind s h self.old self.new.target (W.contents writer.old) (W.contents writer.new) fault) }
-        ensures sound { IsSound self.new.target → IsSound self.old.target }
         ensures each { ReflectsSoundness self.old.target self.new.target }
         ensures sure { IsSure self.old.target → IsSure self.new.target }
     {
@@ -114,7 +113,6 @@ impl<S: Store> Engine<S> {
         ensures number { OnOk result (self.new.number ≡ self.old.number + 1) }
         ensures stops { IfErr result (λ fault. (kind : Kind) → IsOf kind self.new.target
             → Stops kind self.old (rest.now ++ 10 ∷ []) self.new.target (W.contents writer.old) (W.contents writer.new) fault) }
-        ensures sound { IsSound self.new.target → IsSound self.old.target }
         ensures each { ReflectsSoundness self.old.target self.new.target }
         ensures sure { IsSure self.old.target → IsSure self.new.target }
     {
@@ -130,7 +128,6 @@ impl<S: Store> Engine<S> {
         ensures number { OnOk result (self.new.number ≤ self.old.number + length piece.now) }
         ensures stops { IfErr result (λ fault. (kind : Kind) → IsOf kind self.new.target
             → Stops kind self.old piece.now self.new.target (W.contents writer.old) (W.contents writer.new) fault) }
-        ensures sound { IsSound self.new.target → IsSound self.old.target }
         ensures each { ReflectsSoundness self.old.target self.new.target }
         ensures sure { IsSure self.old.target → IsSure self.new.target }
     {
@@ -149,7 +146,6 @@ impl<S: Store> Engine<S> {
             → Finishes kind self.old self.new.target (W.contents writer.old) (W.contents writer.new)) }
         ensures stops { IfErr result (λ fault. (kind : Kind) → IsOf kind self.new.target
             → StopsLast kind self.old self.new.target (W.contents writer.old) (W.contents writer.new) fault) }
-        ensures sound { IsSound self.new.target → IsSound self.old.target }
         ensures each { ReflectsSoundness self.old.target self.new.target }
         ensures sure { IsSure self.old.target → IsSure self.new.target }
     {

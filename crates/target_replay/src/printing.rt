@@ -4,7 +4,7 @@ ghost use Rattle.std.specs.Prelude.{◌≡◌, ℕ, List, ◌++◌, ◌<◌, tru
 ghost use Rattle.std.specs.Io.KnownBytes.{Appends};
 ghost use Rattle.iscsi_target.specs.History.{History};
 ghost use Rattle.iscsi_target.specs.World.{Setting, world};
-ghost use Rattle.iscsi_target.specs.Machine.{IsSound, ReflectsSoundness, IsSure, link_at, is_open_at};
+ghost use Rattle.iscsi_target.specs.Machine.{ReflectsSoundness, IsSure, link_at, is_open_at};
 ghost use Rattle.iscsi_target.specs.Stands.{Stands, with_sent};
 ghost use Rattle.target_replay.specs.Printed.{bytes_line, closed_line, all_sent};
 ghost use Rattle.target_replay.specs.Printing.{HasPrintedOne, HasPrintedAll};
@@ -27,7 +27,6 @@ fn take_waiting<S: Store>(
     ensures open { is_open_at target.new c ≡ true }
     ensures stands { OnOk result ((s : Setting) (sent : ℕ → ℕ) (h : History) → Stands s sent target.old h
         → Stands s (with_sent sent c (all_sent (world s h) c)) target.new h) }
-    ensures sound { IsSound target.new → IsSound target.old }
     ensures each { ReflectsSoundness target.old target.new }
     ensures sure { IsSure target.old → IsSure target.new }
 {
@@ -73,7 +72,6 @@ fn print_connection<S: Store>(
     requires open { is_open_at target.old c ≡ true }
     ensures prints { OnOk result ((s : Setting) (sent : ℕ → ℕ) (h : History) → Stands s sent target.old h
         → HasPrintedOne s sent h c (string_bytes text.old) (string_bytes text.new) target.new) }
-    ensures sound { IsSound target.new → IsSound target.old }
     ensures each { ReflectsSoundness target.old target.new }
     ensures sure { IsSure target.old → IsSure target.new }
 {
@@ -90,7 +88,6 @@ fn print_connection<S: Store>(
 pub fn print<S: Store>(alloc: Global, target: &mut Target<S>) -> Result<String, Memory>
     ensures prints { IfOk result (λ text. (s : Setting) (sent : ℕ → ℕ) (h : History) → Stands s sent target.old h
         → HasPrintedAll s sent h (string_bytes text) target.new) }
-    ensures sound { IsSound target.new → IsSound target.old }
     ensures each { ReflectsSoundness target.old target.new }
     ensures sure { IsSure target.old → IsSure target.new }
 {

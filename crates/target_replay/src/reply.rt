@@ -4,7 +4,7 @@ ghost use Rattle.std.specs.Prelude.{◌≡◌, ◌<◌, List, true, None, IfOk, 
 ghost use Rattle.iscsi_session.specs.Comings.{Coming};
 ghost use Rattle.iscsi_target.specs.History.{History};
 ghost use Rattle.iscsi_target.specs.World.{Setting, world};
-ghost use Rattle.iscsi_target.specs.Machine.{IsSound, ReflectsSoundness, IsSure};
+ghost use Rattle.iscsi_target.specs.Machine.{ReflectsSoundness, IsSure};
 ghost use Rattle.iscsi_target.specs.Events.{event_view};
 ghost use Rattle.target_replay.specs.Line.{connection_in};
 ghost use Rattle.target_replay.specs.Comings.{Kind, IsOf};
@@ -25,7 +25,6 @@ fn act<S: Store>(target: &mut Target<S>, event: &Event) -> Result<bool, Starved>
         → allowed ≡ is_allowed (world s h) (event_view event.now)) }
     ensures acted { IfOk result (λ allowed. allowed ≡ true → (kind : Kind) → IsOf kind target.new → (s : Setting) (h : History)
         → HasSentAll s h target.old → HasActed kind s h (event_view event.now) target.new) }
-    ensures sound { IsSound target.new → IsSound target.old }
     ensures each { ReflectsSoundness target.old target.new }
     ensures sure { IsSure target.old → IsSure target.new }
 {
@@ -73,7 +72,6 @@ pub fn reply<S: Store>(
     ensures reply { IfOk result (λ text. (kind : Kind) → IsOf kind target.new → (s : Setting) (h : History) → HasSentAll s h target.old
         → MatchOption text ((comings : List Coming) → reply_by s comings h bytes.now ≡ None)
         (λ text. HasReplied kind s h bytes.now (string_bytes text) target.new)) }
-    ensures sound { IsSound target.new → IsSound target.old }
     ensures each { ReflectsSoundness target.old target.new }
     ensures sure { IsSure target.old → IsSure target.new }
 {

@@ -39,7 +39,6 @@ returns-else-is_err-clause-keeps g c =
     let lt : c.free_number-c.result < 64 = omega (arith, c.free_number-c.ensures.range, c.if-c-eq-CONNECTIONS.false) in
     record {
       back = c.accept.ensures.back;
-      sound = c.open.ensures.sound;
       each = c.open.ensures.each;
       sure = c.open.ensures.sure;
       served = λ tells sound.

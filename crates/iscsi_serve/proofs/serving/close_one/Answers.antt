@@ -16,7 +16,6 @@ pub returns-then-is_done : goal.returns-then-is_done
 returns-then-is_done g c = record {
   keeps = record {
     back = c.close.ensures.back;
-    sound = c.gone.ensures.sound;
     each = c.gone.ensures.each;
     sure = c.gone.ensures.sure;
     served = λ tells sound. close_stays MayHappen _ _ _ _ _ (plain_happens _) c.requires (c.close.ensures.log tells) c.gone.ensures.always;

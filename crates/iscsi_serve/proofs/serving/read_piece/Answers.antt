@@ -31,7 +31,6 @@ returns-in-Bytes g c = λ named due.
     record {
       keeps = record {
         back = λ tells. c.read.ensures.back (told ∙ tells);
-        sound = c.feed-starved.ensures.sound;
         each = c.feed-starved.ensures.each;
         sure = c.feed-starved.ensures.sure;
         served = λ tells sound.

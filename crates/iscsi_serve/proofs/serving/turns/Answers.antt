@@ -39,7 +39,6 @@ returns-in_err-turn_with g c =
       came = keeps.came;
       bounded = keeps.bounded;
       back = keeps.back;
-      sound = keeps.sound;
       each = keeps.each;
       sure = keeps.sure;
     }

@@ -22,7 +22,6 @@ returns-in-Bytes-eq0-clause-does g c =
     record {
       keeps = record {
         back = c.write.ensures.back;
-        sound = λ sound. sound;
         each = λ number sound. sound;
         sure = λ sure. sure;
         served = λ tells sound.
@@ -45,7 +44,6 @@ returns-in-Bytes-clause-does g c =
     record {
       keeps = record {
         back = c.write.ensures.back;
-        sound = c.sent.ensures.sound;
         each = c.sent.ensures.each;
         sure = c.sent.ensures.sure;
         served = λ tells sound.

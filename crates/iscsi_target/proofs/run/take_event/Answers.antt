@@ -4,6 +4,7 @@ use Rattle.iscsi_target.specs.History.{Open, Bytes, Gone}
 use Rattle.iscsi_target.specs.Events.{event_view}
 use Rattle.iscsi_target.specs.Runs.{MayCome, seen, open_row, ended}
 use Rattle.iscsi_target.specs.declared.run.Row.{Row}
+use Rattle.iscsi_target.proofs.Reflected.{sound_back}
 use Rattle.iscsi_target.proofs.Rows.{all_written}
 use Rattle.iscsi_target.proofs.Running.{open_runs, bytes_runs, gone_runs}
 use Rattle.iscsi_target.proofs.Through.{open_through, bytes_through, gone_through}
@@ -22,8 +23,8 @@ returns-in_ok-push-in-Open g c =
     ∙ ap (λ (bytes : List ℕ). rows ++ record (open_row c.in-Open.c) { bytes = bytes } ∷ []) c.new.ensures.items in
     record {
       runs = λ s before h r sound.
-          (let was = r (opens.sound sound) in
-          rw (pushed, is) (open_runs s machine c.open.new.self rows before h c.in-Open.c was may (opens.stands s (λ k. 0) h (λ before_. was.stands) sound)));
+          (let was = r (sound_back machine c.open.new.self opens.each sound) in
+          rw (pushed, is) (open_runs s machine c.open.new.self rows before h c.in-Open.c was may (opens.always s (λ k. 0) h was.stands)));
       through = λ s before es r. rw (pushed, is) (open_through s machine c.open.new.self rows before es c.in-Open.c r may opens.each (opens.always s));
       sure = opens.sure;
       «open» = λ before open_. rw is (opened_tracks machine c.open.new.self c.in-Open.c before may.0 c.open.ensures.count opens.now open_);
@@ -39,7 +40,7 @@ returns-in_ok-feed-in-Bytes g c =
     let fed = c.in_ok-feed-in-Bytes.ensures in
     record {
       runs = λ s before h r sound.
-          (let was = r (fed.sound sound) in
+          (let was = r (sound_back machine c.feed.new.self fed.each sound) in
           rw is (bytes_runs s machine c.feed.new.self rows before h [] c.in-Bytes.c piece was (fed.stands s (λ k. 0) h (λ before_. was.stands) sound)));
       through = λ s before es r. rw is (bytes_through s machine c.feed.new.self rows before es c.in-Bytes.c piece r fed.each
           (λ sent h at. fed.came s sent h at));
@@ -61,9 +62,8 @@ returns-in_ok-end-in-Gone g c =
     let gone = c.gone.ensures in
     record {
       runs = λ s before h r sound.
-          (let was = r (gone.sound sound) in
-          rw (made, is) (gone_runs s machine c.gone.new.self (map seen items) before h c.in-Gone.c was
-          (gone.stands s (λ k. 0) h (λ before_. was.stands) sound)));
+          (let was = r (sound_back machine c.gone.new.self gone.each sound) in
+          rw (made, is) (gone_runs s machine c.gone.new.self (map seen items) before h c.in-Gone.c was (gone.always s (λ k. 0) h was.stands)));
       through = λ s before es r. rw (made, is) (gone_through s machine c.gone.new.self (map seen items) before es c.in-Gone.c r gone.each (gone.always s));
       sure = gone.sure;
       «open» = λ before open_. rw is (gone_tracks machine c.gone.new.self c.in-Gone.c before may.0 gone.count gone.now open_);

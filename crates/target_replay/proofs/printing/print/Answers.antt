@@ -6,7 +6,6 @@ use Rattle.target_replay.proofs.printing.print.Goals.{then-is_open+in_ok-print_c
 pub loop-c-init : goal.loop-c-init
 loop-c-init g c = record {
   printed = rw c.new-text.ensures.bytes (λ s sent h stands. print_none s sent h c.args.target.now stands);
-  sound = λ sound. sound;
   each = λ target sound. sound;
   sure = λ sure. sure;
 }
@@ -22,7 +21,6 @@ loop-c-preserved g c =
                 print_next s sent h at (string_bytes c.loop-c.text) (string_bytes w.print_connection.new.text) c.loop-c.target
                 w.print_connection.new.target so_far
                 (w.in_ok-print_connection.ensures.prints s so_far.sent (gone_below s h at) so_far.stands));
-            sound = λ sound. c.loop-c.invariant.sound (w.print_connection.ensures.sound sound);
             each = λ target sound. c.loop-c.invariant.each target (w.print_connection.ensures.each target sound);
             sure = λ sure. w.print_connection.ensures.sure (c.loop-c.invariant.sure sure);
           }
@@ -33,7 +31,6 @@ loop-c-preserved g c =
                 print_next s sent h at (string_bytes c.loop-c.text) (string_bytes c.loop-c.text) c.loop-c.target c.loop-c.target so_far
                 (pass_one s so_far.sent (gone_below s h at) at (string_bytes c.loop-c.text) c.loop-c.target c.loop-c-test.true so_far.stands
                 (sym w.if-is_open.ensures)));
-            sound = c.loop-c.invariant.sound;
             each = c.loop-c.invariant.each;
             sure = c.loop-c.invariant.sure;
           }

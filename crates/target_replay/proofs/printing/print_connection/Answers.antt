@@ -22,13 +22,6 @@ returns-clause-prints g c = λ s sent h stands.
           c.in_ok-bytes.ensures.bytes (c.in_ok-bytes.ensures.stands s sent h stands) w.if-closing.ensures printed)
     ])
 
-pub returns-clause-sound : goal.returns-clause-sound
-returns-clause-sound g c =
-    elim c.if-closing.branch [
-      | then-closing+in_ok-print_closed w ↦ rw w.target-is (λ sound. c.take_waiting.ensures.sound (w.gone.ensures.sound sound))
-      | else-closing w ↦ rw w.target-is c.take_waiting.ensures.sound
-    ]
-
 pub returns-clause-each : goal.returns-clause-each
 returns-clause-each g c =
     elim c.if-closing.branch [

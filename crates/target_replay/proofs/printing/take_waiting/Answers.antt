@@ -9,7 +9,6 @@ fronts-init g c = record {
   taken = ap (λ (xs : List ℕ). xs ++ (link_at c.args.target.now c.args.c).waiting) c.new-bytes.ensures.items;
   there = c.requires.«open»;
   stands = λ s sent h stands. none_taken s sent h c.args.target.now c.args.c _ (ap (λ (xs : List ℕ). length xs) c.new-bytes.ensures.items) stands;
-  sound = λ sound. sound;
   each = λ target sound. sound;
   sure = λ sure. sure;
 }
@@ -26,7 +25,6 @@ fronts-preserved g c =
           sent_then s sent h c.sent.new.self c.args.c (length c.fronts.bytes.items) (length c.out-front.result.now) (length c.extend_from_slice.new.self.items)
           (omega (arith, simp length-append at (ap (λ (xs : List ℕ). length xs) more)))
           (c.sent.ensures.always s _ h (was.stands s sent h stands));
-      sound = λ sound. was.sound (c.sent.ensures.sound sound);
       each = λ target sound. was.each target (c.sent.ensures.each target sound);
       sure = λ sure. c.sent.ensures.sure (was.sure sure);
     }

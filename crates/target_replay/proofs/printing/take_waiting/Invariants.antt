@@ -1,7 +1,7 @@
 use Rattle.std.proofs.Common.{◌≡◌, ℕ, ◌+◌, ◌++◌, length, true}
 use Rattle.iscsi_target.specs.History.{History}
 use Rattle.iscsi_target.specs.World.{Setting}
-use Rattle.iscsi_target.specs.Machine.{IsSound, ReflectsSoundness, IsSure, link_at, is_open_at}
+use Rattle.iscsi_target.specs.Machine.{ReflectsSoundness, IsSure, link_at, is_open_at}
 use Rattle.iscsi_target.specs.Stands.{Stands, with_sent}
 use Rattle.target_replay.proofs.printing.take_waiting.Given as goal
 
@@ -12,7 +12,6 @@ invariant-fronts g l = record {
   there : is_open_at l.target l.c ≡ true;
   stands : (s : Setting) (sent : ℕ → ℕ) (h : History) → Stands s sent l.fn.target h
       → Stands s (with_sent sent l.c (sent l.c + length l.bytes.items)) l.target h;
-  sound : IsSound l.target → IsSound l.fn.target;
   each : ReflectsSoundness l.fn.target l.target;
   sure : IsSure l.fn.target → IsSure l.target;
 }

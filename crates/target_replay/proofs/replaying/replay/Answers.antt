@@ -14,7 +14,6 @@ loop-init g c = record {
   bytes = [];
   read = Consumes-nil _;
   number = search rules;
-  sound = λ sound. sound;
   each = λ target sound. sound;
   sure = λ sure. sure;
   taken = λ kind is s made. ([], Appends-nil _, begun kind s _ made c.requires.pending c.requires.number);
@@ -29,11 +28,10 @@ loop-preserved g c =
             bytes = so_far.bytes ++ _;
             read = Consumes-trans _ _ _ so_far.bytes _ so_far.read w.in-Ok.ensures.bytes.0;
             number = search rules;
-            sound = λ sound. so_far.sound (w.take.ensures.sound sound);
             each = λ target sound. so_far.each target (w.take.ensures.each target sound);
             sure = λ sure. w.take.ensures.sure (so_far.sure sure);
             taken = λ kind is s made. (
-                let before = so_far.taken kind (is_back kind c.loop.engine.target w.take.new.self.target w.take.ensures.sound is) s made in
+                let before = so_far.taken kind (is_back kind c.loop.engine.target w.take.new.self.target w.take.ensures.each is) s made in
                 let next = w.in_ok-take-in-Ok.ensures.takes kind is s so_far.bytes before.0 before.2 in
                 (before.0 ++ next.0, Appends-trans _ _ _ before.0 next.0 before.1 next.1, next.2));
           }
@@ -42,7 +40,6 @@ loop-preserved g c =
             bytes = so_far.bytes;
             read = Consumes-kept _ _ _ so_far.bytes so_far.read w.in-Err.ensures.bytes;
             number = omega (arith, so_far.number);
-            sound = so_far.sound;
             each = so_far.each;
             sure = so_far.sure;
             taken = so_far.taken;
@@ -57,7 +54,7 @@ returns-in-Ok-eq0-clause-done g c =
     let end = read_end _ _ _ c.read.result c.read.new.buf so_far.bytes c.in-Ok-eq0.field-0 so_far.read c.in-Ok-eq0.is c.in-Ok-eq0.field-0-test
     (search rules) c.read.ensures.bytes in
     on_ok_weaker c.end.result
-    (λ last sound s made. let before = so_far.taken Sound (is_back Sound c.loop.engine.target c.end.new.self.target c.end.ensures.sound sound) s made in
+    (λ last sound s made. let before = so_far.taken Sound (is_back Sound c.loop.engine.target c.end.new.self.target c.end.ensures.each sound) s made in
     ends_plain s c.end.new.self.target _ None _ _
     (whole_done Sound s c.loop.engine c.end.new.self.target so_far.bytes before.0 _ _ _ _ _ end.0 end.1 before.1 before.2 (last Sound sound)))
     c.end.ensures.finishes
@@ -78,7 +75,7 @@ returns-in-Ok-eq0-clause-fails g c =
     let end = read_end _ _ _ c.read.result c.read.new.buf so_far.bytes c.in-Ok-eq0.field-0 so_far.read c.in-Ok-eq0.is c.in-Ok-eq0.field-0-test
     (search rules) c.read.ensures.bytes in
     IfErr-weaker c.end.result _ _
-    (λ fault last sound s made. let before = so_far.taken Sound (is_back Sound c.loop.engine.target c.end.new.self.target c.end.ensures.sound sound) s made in
+    (λ fault last sound s made. let before = so_far.taken Sound (is_back Sound c.loop.engine.target c.end.new.self.target c.end.ensures.each sound) s made in
     ends_by_plain s c.end.new.self.target fault _ _ _ _
     (whole_stopped Sound fault s c.loop.engine c.end.new.self.target so_far.bytes before.0 _ _ _ _ _ end.0 end.1 before.1 before.2 (last Sound sound)))
     c.end.ensures.stops
@@ -104,7 +101,7 @@ returns-in_err-take-in-Ok-clause-fails g c =
     let fault = c.in_err-take-in-Ok.field-0.0 in
     passed_on c.from_residual.result fault _ c.from_residual.ensures.1
     (λ sound s made.
-    (let before = so_far.taken Sound (is_back Sound c.loop.engine.target c.take.new.self.target c.take.ensures.sound sound) s made in
+    (let before = so_far.taken Sound (is_back Sound c.loop.engine.target c.take.new.self.target c.take.ensures.each sound) s made in
     ends_by_plain s c.take.new.self.target fault _ _ _ _
     (part_stopped Sound fault s c.loop.engine c.take.new.self.target so_far.bytes _ before.0 _ _ _ _ _ _ so_far.read c.in-Ok.ensures.bytes.0 before.1
     before.2 (c.in_err-take-in-Ok.ensures.stops Sound sound))))

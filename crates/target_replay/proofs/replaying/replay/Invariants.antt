@@ -1,7 +1,7 @@
 use Rattle.std.proofs.Common.{ℕ, ◌*◌, ◌≤◌, List, []}
 use Rattle.std.specs.Io.KnownBytes.{Appends, Consumes}
 use Rattle.iscsi_target.specs.World.{Setting}
-use Rattle.iscsi_target.specs.Machine.{IsSound, ReflectsSoundness, IsSure}
+use Rattle.iscsi_target.specs.Machine.{ReflectsSoundness, IsSure}
 use Rattle.target_replay.specs.Comings.{Kind, IsOf}
 use Rattle.target_replay.specs.Printed.{HasSentAll}
 use Rattle.target_replay.specs.Engine.{HasTaken}
@@ -13,7 +13,6 @@ invariant-loop g l = record {
   bytes : List ℕ;
   read : Consumes (g.R.Read.remaining l.fn.reader) (g.R.Read.remaining l.reader) bytes;
   number : l.engine.number ≤ 4096 * l.counter;
-  sound : IsSound l.engine.target → IsSound l.fn.engine.target;
   each : ReflectsSoundness l.fn.engine.target l.engine.target;
   sure : IsSure l.fn.engine.target → IsSure l.engine.target;
   taken : (kind : Kind) → IsOf kind l.engine.target → (s : Setting) → HasSentAll s [] l.fn.engine.target → (text : List ℕ)

@@ -15,7 +15,7 @@ returns-in-Ok-true-clause-reply g c = λ kind is s h stands.
     (let event : event_in c.args.bytes.now ≡ Some (event_view c.in-Some.event) = sym c.in_ok-event.ensures.event ∙ ap (option_map event_view) c.in-Some.is in
     replied kind s h c.args.bytes.now (string_bytes c.in_ok-print-in-Ok-true.field-0) (event_view c.in-Some.event) c.act.new.target c.print.new.target event
     (sym (c.in-Ok-true.ensures.allowed s h stands) ∙ c.in-Ok-true.field-0-test)
-    (c.in-Ok-true.ensures.acted c.in-Ok-true.field-0-test kind (is_back kind c.act.new.target c.print.new.target c.print.ensures.sound is) s h stands)
+    (c.in-Ok-true.ensures.acted c.in-Ok-true.field-0-test kind (is_back kind c.act.new.target c.print.new.target c.print.ensures.each is) s h stands)
     c.print.ensures.each c.in_ok-print-in-Ok-true.ensures.prints)
 
 pub returns-in-Ok-false-clause-reply : goal.returns-in-Ok-false-clause-reply

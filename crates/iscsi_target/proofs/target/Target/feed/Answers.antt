@@ -1,12 +1,13 @@
 use Rattle.std.proofs.Common.{◌≡◌, ◌<◌, [], length, true, None, refl, sym, ap, ◌∙◌, arith, rules}
 use Rattle.std.proofs.lemmas.Bool.{eqb-true}
 use Rattle.std.proofs.lemmas.List.{nil_from_length}
-use Rattle.iscsi_target.specs.Machine.{Machine, link_at, closed, is_closing, is_reading}
+use Rattle.iscsi_target.specs.Machine.{Machine, ReflectsSoundness, link_at, closed, is_closing, is_reading}
 use Rattle.iscsi_target.specs.World.{world}
 use Rattle.iscsi_target.proofs.Apart.{part_none, part_as, part_closed, part_halved, part_then}
 use Rattle.iscsi_target.proofs.Feeding.{comes_idle, comes_empty, all_came, ok_came, err_came, none_after, starved_after, starved_came, kept_feeds, kept_reads}
 use Rattle.iscsi_target.proofs.Moving.{own_self, closed_closing, closing_if, closed_moves, feeds_then, moves_as}
-use Rattle.iscsi_target.proofs.Sound.{sound_back, closed_back, at_as, at_units, closed_sound, closed_sure, sound_as, sure_as}
+use Rattle.iscsi_target.proofs.Reflected.{sound_back}
+use Rattle.iscsi_target.proofs.Sound.{closed_back, at_as, at_units, closed_sure, sure_as}
 use Rattle.iscsi_target.proofs.Standing.{stands_as}
 use Rattle.iscsi_target.proofs.Wanting.{fed_bounded, closed_bounded, bounded_as}
 use Rattle.iscsi_target.proofs.target.Target.feed.Goals as goal
@@ -49,17 +50,17 @@ returns-in-Err g c =
     let at = c.args.c in
     let new = c.starve.new.self in
     let same : new ≡ closed machine at = c.starve.ensures.closed ∙ ap (λ (m : Machine). closed m at) c.in-Err.ensures.err in
+    let back : ReflectsSoundness machine new = λ target sound. closed_back machine at target (at_as new _ target same sound) in
     let lt : at < length machine.links = (let below = c.requires.in_range in omega (arith, c.reads.ensures.count)) in
     let reads_so : is_reading (link_at machine at).phase ≡ true = sym c.reads.ensures.value ∙ c.if-not-reads.false in
     let feeds = (moves_as at None machine _ new same (closed_moves at machine at lt reads_so (own_self at machine))).feeds in
     record {
       stands = tt;
       starved = λ s sent h stands sound. starved_came s sent h machine new at c.starve.result.connection c.args.piece.now c.starve.ensures.names
-          c.requires.in_range (stands (closed_sound machine at (sound_as new _ same sound))) reads_so same;
+          c.requires.in_range (stands (sound_back machine new back sound)) reads_so same;
       came = λ s sent h stands. starved_after s sent h machine new at c.starve.result.connection c.args.piece.now c.starve.ensures.names
           c.requires.in_range stands reads_so same;
-      sound = λ sound. closed_sound machine at (sound_as new _ same sound);
-      each = λ target sound. closed_back machine at target (at_as new _ target same sound);
+      each = back;
       sure = λ sure. sure_as _ new (sym same) (closed_sure machine at sure);
       feeds = feeds;
       part = part_as at machine _ new same (part_closed machine at lt);
@@ -92,9 +93,6 @@ pub returns-clause-each : goal.returns-clause-each
 returns-clause-each g c = λ target sound.
     at_units c.keep.new.self.units c.args.self.now target (ap (λ (m : Machine). m.units) c.in_default.ensures.ok)
     (c.take_frames.ensures.takes.leaves.back target sound)
-
-pub returns-clause-sound : goal.returns-clause-sound
-returns-clause-sound g c = sound_back c.args.self.now c.take_frames.new.self (returns-clause-each g c)
 
 pub returns-clause-feeds : goal.returns-clause-feeds
 returns-clause-feeds g c =

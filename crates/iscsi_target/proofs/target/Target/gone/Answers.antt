@@ -2,7 +2,7 @@ use Rattle.std.proofs.Common.{List, rules, length, refl, subst, sym, ap, ◌∙�
 use Rattle.iscsi_target.specs.Machine.{LinkState, Machine, IsWithin, with_link, closed, free_link}
 use Rattle.iscsi_target.proofs.Lending.{Holds, lent_holds}
 use Rattle.iscsi_target.proofs.Moving.{closed_count}
-use Rattle.iscsi_target.proofs.Sound.{closed_back, at_as, at_units, closed_sound, closed_sure, sound_as, sure_as, sound_units}
+use Rattle.iscsi_target.proofs.Sound.{closed_back, at_as, at_units, closed_sure, sure_as}
 use Rattle.iscsi_target.proofs.Standing.{gone_stands, stands_machine}
 use Rattle.iscsi_target.proofs.Wanting.{bounded_links, gone_bounded}
 use Rattle.iscsi_target.proofs.target.Target.gone.Goals as goal
@@ -14,10 +14,6 @@ invariant_of-self g c =
     (lent_holds c.self.inside.connections units units _ c.args.c free_link _ c.free.result c.requires.in_range c.self.invariant refl refl
     (λ was. subst (λ (l : LinkState). IsWithin (length units) l.phase) (sym c.free.ensures) tt))
 
-pub returns-clause-sound : goal.returns-clause-sound
-returns-clause-sound g c = λ sound. closed_sound c.args.self.now c.args.c
-    (sound_as c.close.new.self _ c.close.ensures.closed (sound_units _ c.close.new.self (ap (λ (m : Machine). m.units) c.self.view_is) sound))
-
 pub returns-clause-each : goal.returns-clause-each
 returns-clause-each g c = λ target sound. closed_back c.args.self.now c.args.c target
     (at_as c.close.new.self _ target c.close.ensures.closed (at_units _ c.close.new.self target (ap (λ (m : Machine). m.units) c.self.view_is) sound))
@@ -25,12 +21,6 @@ returns-clause-each g c = λ target sound. closed_back c.args.self.now c.args.c 
 pub returns-clause-sure : goal.returns-clause-sure
 returns-clause-sure g c = λ sure. sure_as c.close.new.self _ (sym c.self.view_is)
     (sure_as _ c.close.new.self (sym c.close.ensures.closed) (closed_sure c.args.self.now c.args.c sure))
-
-pub returns-clause-stands : goal.returns-clause-stands
-returns-clause-stands g c = λ s sent h at sound.
-    (let before = closed_sound c.args.self.now c.args.c (sound_as c.close.new.self _ c.close.ensures.closed
-    (sound_units _ c.close.new.self (ap (λ (m : Machine). m.units) c.self.view_is) sound)) in
-    stands_machine _ _ _ _ _ (search rules) (gone_stands s sent c.args.self.now h c.args.c c.requires.in_range (at before)))
 
 pub returns-clause-always : goal.returns-clause-always
 returns-clause-always g c = λ s sent h at.

@@ -1,14 +1,9 @@
 use Rattle.std.proofs.Common.{rules, length, sym, ap, arith}
 use Rattle.iscsi_target.specs.Machine.{Machine, with_link, opened_link}
-use Rattle.iscsi_target.proofs.Sound.{at_units, sound_units, sure_as}
+use Rattle.iscsi_target.proofs.Sound.{at_units, sure_as}
 use Rattle.iscsi_target.proofs.Standing.{open_stands, stands_machine}
 use Rattle.iscsi_target.proofs.Wanting.{bounded_links, opened_bounded}
 use Rattle.iscsi_target.proofs.target.Target.open.Goals as goal
-
-pub returns-clause-stands : goal.returns-clause-stands
-returns-clause-stands g c = λ s sent h at sound. stands_machine _ _ _ _ _ (search rules)
-    (open_stands s sent c.args.self.now h c.args.c c.requires.in_range c.requires.free
-    (at (sound_units _ c.args.self.now (ap (λ (m : Machine). m.units) c.self.view_is) sound)))
 
 pub returns-clause-always : goal.returns-clause-always
 returns-clause-always g c = λ s sent h at. stands_machine _ _ _ _ _ (search rules)

@@ -1,6 +1,6 @@
 use Rattle.std.proofs.Common.{sym, ap, ◌∙◌, arith}
 use Rattle.iscsi_target.specs.Machine.{Machine, link_at, with_link, sent_link}
-use Rattle.iscsi_target.proofs.Sound.{at_units, sound_units}
+use Rattle.iscsi_target.proofs.Sound.{at_units}
 use Rattle.iscsi_target.proofs.Standing.{sent_stands, stands_machine}
 use Rattle.iscsi_target.proofs.Wanting.{bounded_links, sent_bounded}
 use Rattle.iscsi_target.proofs.target.Target.sent.Goals as goal
@@ -12,10 +12,6 @@ returns-clause-always g c = λ s sent h at. stands_machine s _ h _ _ (sym (c.tri
 pub returns-clause-each : goal.returns-clause-each
 returns-clause-each g c = λ target sound.
     at_units _ c.args.self.now target (ap (λ (m : Machine). m.units) (c.trim.ensures ∙ c.note.ensures ∙ c.advance.ensures.sent)) sound
-
-pub returns-clause-stands : goal.returns-clause-stands
-returns-clause-stands g c = λ s sent h at sound. returns-clause-always g c s sent h
-    (at (sound_units _ c.args.self.now (ap (λ (m : Machine). m.units) (c.trim.ensures ∙ c.note.ensures ∙ c.advance.ensures.sent)) sound))
 
 pub returns-clause-bounded : goal.returns-clause-bounded
 returns-clause-bounded g c = λ bounded.

@@ -1,5 +1,5 @@
 use Rattle.std.proofs.Common.{◌++◌, [], ◌∷◌, refl, rules, subst, arith, length-append}
-use Rattle.iscsi_target.specs.Machine.{Machine, IsSound, IsSoundAt}
+use Rattle.iscsi_target.specs.Machine.{IsSoundAt}
 use Rattle.target_replay.proofs.Comings.{is_back}
 use Rattle.target_replay.proofs.Pieces.{passed_on, cut_more, takes_none, takes_more, stops_within}
 use Rattle.target_replay.proofs.Taking.{rest_takes, rest_stopped}
@@ -11,7 +11,6 @@ loop-line-init g c = record {
   cut = refl;
   number = search rules;
   takes = λ kind is. takes_none kind c.args.self.now _;
-  sound = λ sound. sound;
   each = λ target sound. sound;
   sure = λ sure. sure;
 }
@@ -25,8 +24,7 @@ loop-line-preserved g c =
       cut = cut_more c.args.piece.now so_far.taken c.loop-line.rest.now c.in-Some.line.now c.in-Some.behind.now so_far.cut c.in-Some.ensures.parts;
       number = omega (arith, so_far.number, c.in_ok-take_line.ensures.number, length-append so_far.taken line, length-append c.in-Some.line.now (10 ∷ []));
       takes = λ kind is. takes_more kind c.args.self.now c.loop-line.self c.take_line.new.self so_far.taken line _ _ _
-          (so_far.takes kind (is_back kind c.loop-line.self.target c.take_line.new.self.target c.take_line.ensures.sound is)) (c.in_ok-take_line.ensures.takes kind is);
-      sound = λ sound. so_far.sound (c.take_line.ensures.sound sound);
+          (so_far.takes kind (is_back kind c.loop-line.self.target c.take_line.new.self.target c.take_line.ensures.each is)) (c.in_ok-take_line.ensures.takes kind is);
       each = λ target sound. so_far.each target (c.take_line.ensures.each target sound);
       sure = λ sure. c.take_line.ensures.sure (so_far.sure sure);
     }
@@ -37,7 +35,7 @@ returns-in_err-take_line-clause-stops g c =
     passed_on c.from_residual.result c.in_err-take_line.field-0.0 _ c.from_residual.ensures.1
     (λ kind is. stops_within kind c.args.self.now c.loop-line.self c.args.piece.now so_far.taken c.loop-line.rest.now c.in-Some.line.now
     c.in-Some.behind.now c.take_line.new.self.target _ _ _ c.in_err-take_line.field-0.0 so_far.cut c.in-Some.ensures.parts
-    (so_far.takes kind (is_back kind c.loop-line.self.target c.take_line.new.self.target c.take_line.ensures.sound is)) (c.in_err-take_line.ensures.stops kind is))
+    (so_far.takes kind (is_back kind c.loop-line.self.target c.take_line.new.self.target c.take_line.ensures.each is)) (c.in_err-take_line.ensures.stops kind is))
 
 pub returns-clause-takes : goal.returns-clause-takes
 returns-clause-takes g c =
@@ -50,9 +48,6 @@ returns-clause-stops g c =
     let so_far = c.loop-line.invariant in
     rest_stopped c.push.result c.args.self.now c.loop-line.self c.push.new.self.target c.args.piece.now so_far.taken c.loop-line.rest.now _ _ so_far.cut
     so_far.takes c.push.ensures.target c.push.ensures.memory
-
-pub returns-clause-sound : goal.returns-clause-sound
-returns-clause-sound g c = λ sound. c.loop-line.invariant.sound (subst (λ (target : Machine). IsSound target) c.push.ensures.target sound)
 
 pub returns-clause-each : goal.returns-clause-each
 returns-clause-each g c = λ target sound. c.loop-line.invariant.each target (subst (IsSoundAt target) c.push.ensures.target sound)

@@ -1,5 +1,5 @@
 use Rattle.std.proofs.Common.{◌≡◌, ◌+◌, ◌≤◌, ◌++◌, List, ℕ, length}
-use Rattle.iscsi_target.specs.Machine.{IsSound, ReflectsSoundness, IsSure}
+use Rattle.iscsi_target.specs.Machine.{ReflectsSoundness, IsSure}
 use Rattle.target_replay.specs.Comings.{Kind, IsOf}
 use Rattle.target_replay.specs.Engine.{Takes}
 use Rattle.target_replay.proofs.engine.Engine.take.Given as goal
@@ -11,7 +11,6 @@ invariant-loop-line g l = record {
   cut : l.piece ≡ taken ++ l.rest;
   number : l.self.number ≤ l.fn.self.number + length taken;
   takes : (kind : Kind) → IsOf kind l.self.target → Takes kind l.fn.self taken l.self (g.W.Write.contents l.fn.writer) (g.W.Write.contents l.writer);
-  sound : IsSound l.self.target → IsSound l.fn.self.target;
   each : ReflectsSoundness l.fn.self.target l.self.target;
   sure : IsSure l.fn.self.target → IsSure l.self.target;
 }
