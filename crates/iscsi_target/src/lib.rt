@@ -11,6 +11,20 @@
 //!                  └──────────────────────────────────────────────────┘
 //! ```
 //!
+//! A caller with one connection, whose lines are proved as those of `src/example.rt`:
+//!
+//! ```rust
+//! // A failed allocation closes one connection; the others go on.
+//! target.open(c)?;
+//! target.feed(c, arrived)?;
+//! // The front ends where a PDU does. A socket may take fewer bytes.
+//! let front = target.out(c);
+//! written.extend_from_slice(front)?;
+//! let count = front.len();
+//! target.sent(c, count);
+//! target.gone(c);
+//! ```
+//!
 //! Promised, and proved:
 //!
 //! - A [`Target`] answers what a plainly defined machine answers, the World of `specs/World.antt` (clauses `stands`).
@@ -28,6 +42,7 @@ mod config;
 mod connection;
 mod connections;
 mod event;
+mod example;
 mod fault;
 mod history;
 mod incoming;
