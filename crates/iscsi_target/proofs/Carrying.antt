@@ -2,7 +2,7 @@
 use Rattle.std.proofs.Common.{◌≡◌, ℕ, ◌+◌, ◌<◌, List, [], ◌∷◌, ◌++◌, ◌≤◌, length, take, get_or, Bool, true, false, not, eqb, Option, Some, None, refl, sym, ap, ◌∙◌, subst, inl, arith, cond}
 use Rattle.std.specs.Prelude.{◌==◌}
 use Rattle.std.specs.List.{fold, range_with_len}
-use Rattle.std.proofs.lemmas.Bool.{eq-eqb}
+use Rattle.std.proofs.lemmas.Bool.{eq-eqb, eqb-true}
 use Rattle.std.proofs.lemmas.List.{append-nil, get_or-set_other, take_all, take_more}
 use Rattle.std.proofs.lemmas.List.Sums.{fold-append}
 use Rattle.iscsi_pdu.specs.Header.{lun_field}
@@ -18,7 +18,7 @@ use Rattle.iscsi_target.specs.World.{Setting, World, present, past_of, units_at,
 use Rattle.iscsi_target.specs.Machine.{Machine, KeepsApart, link_at, is_with}
 use Rattle.iscsi_target.specs.SessionCalls.{LeavesSession, LosesCommands}
 use Rattle.iscsi_target.specs.Stands.{machine_with}
-use Rattle.iscsi_target.specs.Serving.{Serves, Preserves, CarriesOut, kept, is_of_none}
+use Rattle.iscsi_target.specs.Serving.{Serves, Preserves, StaysWithin, CarriesOut, kept, is_of_none}
 use Rattle.iscsi_target.proofs.Choices.{cond_true, cond_false}
 use Rattle.iscsi_target.proofs.Lists.{range_next}
 use Rattle.iscsi_target.proofs.Lives.{present-lives}
@@ -191,7 +191,7 @@ pub reset_does : (machine : Machine) (header : List ℕ) (target : ℕ) → Carr
 reset_does machine header target = does_nothing is_of_none (λ s marks place w. reset header target w) kept machine (reset_machine header target machine)
     (λ s sent half w place marks agree h. (reset_serves s sent half w machine header target h, comings_reset header target w))
 
-pub reset_moves : (b : ℕ) (machine : Machine) (header : List ℕ) (target : ℕ) → Preserves b None machine (reset_machine header target machine)
+reset_moves : (b : ℕ) (machine : Machine) (header : List ℕ) (target : ℕ) → Preserves b None machine (reset_machine header target machine)
 reset_moves b machine header target =
     let a = alters_same b machine (reset_machine header target machine) refl in
     record {
@@ -204,12 +204,19 @@ reset_moves b machine header target =
       eases = a.eases;
     }
 
-pub reset_apart : (machine : Machine) (header : List ℕ) (target : ℕ) → KeepsApart target machine (reset_machine header target machine)
+reset_apart : (machine : Machine) (header : List ℕ) (target t : ℕ) → is_same_target (Some target) (Some t) ≡ true
+    → KeepsApart t machine (reset_machine header target machine)
 unfolding changed_units
-reset_apart machine header target = record {
+reset_apart machine header target t e = record {
   links = λ d e. refl;
-  units = λ at differ. get_or-set_other machine.units target at _ [] differ;
+  units = λ at differ. get_or-set_other machine.units target at _ [] (λ same. differ (same ∙ eqb-true target t e));
   same = λ d e. inl e;
+}
+
+pub reset_stays : (machine : Machine) (header : List ℕ) (target : ℕ) → StaysWithin (Some target) None machine (reset_machine header target machine)
+reset_stays machine header target = record {
+  apart = λ t same. reset_apart machine header target t same;
+  moves = λ c. reset_moves c machine header target;
 }
 
 -- ---- a function

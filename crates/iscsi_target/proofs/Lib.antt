@@ -34,6 +34,7 @@ mod Sound
 mod Bounding
 mod Moving
 mod Apart
+mod Within
 mod Asking
 mod Frames
 mod SessionCalls

@@ -2,11 +2,12 @@
 use Rattle.std.specs.Prelude.{◌≡◌, ◌≢◌, ℕ, ◌+◌, ◌<◌, List, [], ◌∷◌, length, drop, Bool, true, false, if◌then◌else◌, ◌&&◌, not, ◌==◌, nat_lt, Option, Some, None, Result, Ok, Err, ⊤}
 use Rattle.std.specs.List.{list_all, fold, enumerate_from}
 use Rattle.iscsi_pdu.specs.Frames.{Frame, rest, is_long}
+use Rattle.iscsi_login.specs.Session.{is_same_target}
 use Rattle.iscsi_session.specs.Comings.{Coming, AreAhead, ArePlain, IsCalm}
 use Rattle.iscsi_session.specs.Steps.{Step, Judging, Taking, Asking, Answering, Doing, is_doing, is_serving}
 use Rattle.iscsi_target.specs.History.{Point, Arriving, Before, AtEnd, Mark, is_within, Arrival, Whole, arrivals, connection_limit}
 use Rattle.iscsi_target.specs.World.{Setting, World, present, is_marked, arrive, settle_one, settle, settle_for}
-use Rattle.iscsi_target.specs.Machine.{LinkState, Machine, IsSound, IsSoundAt, ReflectsSoundness, IsSure, Feeds, KeepsPart, link_at, is_reading, is_closing, closed}
+use Rattle.iscsi_target.specs.Machine.{LinkState, Machine, IsSound, IsSoundAt, ReflectsSoundness, IsSure, Feeds, KeepsApart, KeepsPart, link_at, is_reading, is_closing, closed}
 use Rattle.iscsi_target.specs.Bounded.{AddsAtMost}
 use Rattle.iscsi_target.specs.Stands.{IsQuiet, IsSent, Begins, machine_with, stand_in}
 use Rattle.iscsi_target.specs.declared.fault.Starved.{Starved}
@@ -96,6 +97,11 @@ pub record Preserves (c : ℕ) (starved : Option ℕ) (given after : Machine) : 
 -- own: a call that allocates nothing sets off no step
 abbrev pub is_of_none : ℕ → Mark → Bool
 is_of_none place mark = false
+
+-- The effect of any such call for a target, if one is given: what is not part of it stays as it is.
+pub record StaysWithin (target starved : Option ℕ) (given after : Machine) : Type 0 where
+  pub apart : (t : ℕ) → is_same_target target (Some t) ≡ true → KeepsApart t given after
+  pub moves : (c : ℕ) → Preserves c starved given after
 
 -- The call of an act that cannot fail.
 abbrev pub CarriesOut : (World → World) → Machine → Machine → Type 0

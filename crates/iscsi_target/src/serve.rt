@@ -1,16 +1,15 @@
 //! A frame of a session is judged, and the requests that it lets be taken act. Then the commands that the sessions of
 //! its target have taken are done.
 
-ghost use Rattle.std.specs.Prelude.{◌≡◌, ℕ, ◌<◌, [], Some, true, length};
+ghost use Rattle.std.specs.Prelude.{◌≡◌, ◌<◌, [], Some, true, length};
 ghost use Rattle.iscsi_pdu.specs.Header.{header_length};
 ghost use Rattle.iscsi_login.specs.LoginState.{IsTargetBelow};
-ghost use Rattle.iscsi_login.specs.Session.{is_same_target as is_same};
 ghost use Rattle.scsi_unit.specs.Units.{AreSound, AreSure, numbers_of};
 ghost use Rattle.iscsi_session.specs.Steps.{is_doing, is_serving};
 ghost use Rattle.iscsi_target.specs.World.{units_at};
-ghost use Rattle.iscsi_target.specs.Machine.{Machine, KeepsApart, KeepsPart, link_at, with_link, target_in, is_in_session};
+ghost use Rattle.iscsi_target.specs.Machine.{KeepsPart, link_at, with_link, target_in, is_in_session};
 ghost use Rattle.iscsi_target.specs.Bounded.{AddsAtMost};
-ghost use Rattle.iscsi_target.specs.Serving.{Takes, Settles, SettlesFor, SettlesOne, Preserves, first_starved, first_of, goes_on_by};
+ghost use Rattle.iscsi_target.specs.Serving.{Takes, Settles, SettlesFor, SettlesOne, StaysWithin, Preserves, first_starved, first_of, goes_on_by};
 ghost use Rattle.iscsi_target.specs.SessionCalls.{InSession, LeavesSession, Ends, ServesFrame, SettlesUnits, ChangesOne, ended_link};
 
 use crate::fault::Starved;
@@ -37,8 +36,7 @@ impl<S: Store> Target<S> {
     pub(crate) fn settle(&mut self, target: usize) -> Result<(), Starved>
         requires { target < length self.old.units }
         ensures settles { Settles target (first_starved result) self.old self.new }
-        ensures apart { KeepsApart target self.old self.new }
-        ensures moves { (b : ℕ) → Preserves b (first_starved result) self.old self.new }
+        ensures stays { StaysWithin (Some target) (first_starved result) self.old self.new }
     {
         let mut outcome = Ok(());
         let mut from = 0;
@@ -54,8 +52,7 @@ impl<S: Store> Target<S> {
     pub(crate) fn settle_for(&mut self, target: Option<usize>) -> Result<(), Starved>
         requires { IsTargetBelow (length self.old.units) target }
         ensures settles { SettlesFor target (first_starved result) self.old self.new }
-        ensures apart { (t : ℕ) → is_same target (Some t) ≡ true → KeepsApart t self.old self.new }
-        ensures moves { (b : ℕ) → Preserves b (first_starved result) self.old self.new }
+        ensures stays { StaysWithin target (first_starved result) self.old self.new }
     {
         match target {
             Some(target) => self.settle(target),
@@ -69,8 +66,7 @@ impl<S: Store> Target<S> {
         requires in_range { c < 64 }
         requires target { target < length self.old.units }
         ensures settles { SettlesOne target c (first_starved result) self.old self.new }
-        ensures apart { KeepsApart target self.old self.new }
-        ensures moves { (b : ℕ) → Preserves b (first_starved result) self.old self.new }
+        ensures stays { StaysWithin (Some target) (first_starved result) self.old self.new }
     {
         if !self.is_with(c, target) {
             return Ok(());

@@ -6,15 +6,14 @@ ghost use Rattle.std.specs.List.{fold};
 ghost use Rattle.iscsi_pdu.specs.Header.{lun_field};
 ghost use Rattle.scsi_unit.specs.Units.{AreSound, AreSure, numbers_of};
 ghost use Rattle.iscsi_login.specs.LoginState.{IsTargetBelow};
-ghost use Rattle.iscsi_login.specs.Session.{is_same_target as is_same};
 ghost use Rattle.iscsi_session.specs.Comings.{Coming, lend};
 ghost use Rattle.iscsi_session.specs.Runs.{output, Runs};
 ghost use Rattle.iscsi_session.specs.Weight.{IsAtRest, Eases};
 ghost use Rattle.iscsi_target.specs.World.{units_at, changed_units, function_of, told_by, losing, lose_one, reset_by, reset as reset_in, carry_out, carry_out_for};
 ghost use Rattle.iscsi_target.specs.History.{connections};
-ghost use Rattle.iscsi_target.specs.Machine.{Machine, KeepsApart, link_at};
+ghost use Rattle.iscsi_target.specs.Machine.{link_at};
 ghost use Rattle.iscsi_target.specs.Bounded.{AddsAtMost};
-ghost use Rattle.iscsi_target.specs.Serving.{Preserves, CarriesOut};
+ghost use Rattle.iscsi_target.specs.Serving.{StaysWithin, CarriesOut};
 ghost use Rattle.iscsi_target.specs.SessionCalls.{InSession, LeavesSession, LosesCommands, ChangesOne};
 
 use crate::target::Target;
@@ -85,8 +84,7 @@ impl<S: Store> Target<S> {
     pub(crate) fn carry_out_for(&mut self, c: usize, target: Option<usize>, functions: &[Header])
         requires { IsTargetBelow (length self.old.units) target }
         ensures carries { CarriesOut (carry_out_for c target functions.now) self.old self.new }
-        ensures apart { (t : ℕ) → is_same target (Some t) ≡ true → KeepsApart t self.old self.new }
-        ensures moves { (b : ℕ) → Preserves b None self.old self.new }
+        ensures stays { StaysWithin target None self.old self.new }
     {
         match target {
             Some(target) => self.carry_out_all(c, target, functions),
@@ -98,8 +96,7 @@ impl<S: Store> Target<S> {
     fn carry_out_all(&mut self, c: usize, target: usize, functions: &[Header])
         requires { target < length self.old.units }
         ensures carries { CarriesOut (λ w. fold (carry_out c target) w functions.now) self.old self.new }
-        ensures apart { KeepsApart target self.old self.new }
-        ensures moves { (b : ℕ) → Preserves b None self.old self.new }
+        ensures stays { StaysWithin (Some target) None self.old self.new }
     {
         for function in functions {
             self.carry_out(c, target, function);
@@ -112,8 +109,7 @@ impl<S: Store> Target<S> {
     fn carry_out(&mut self, c: usize, target: usize, function: &Header)
         requires { target < length self.old.units }
         ensures carries { CarriesOut (λ w. carry_out c target w function.now) self.old self.new }
-        ensures apart { KeepsApart target self.old self.new }
-        ensures moves { (b : ℕ) → Preserves b None self.old self.new }
+        ensures stays { StaysWithin (Some target) None self.old self.new }
     {
         if is_for_all_sessions(function) {
             self.lose_all(c, target, function);
@@ -125,8 +121,7 @@ impl<S: Store> Target<S> {
     fn lose_all(&mut self, c: usize, target: usize, function: &Header)
         requires { target < length self.old.units }
         ensures carries { CarriesOut (λ w. fold (lose_one function.now target c) w connections) self.old self.new }
-        ensures apart { KeepsApart target self.old self.new }
-        ensures moves { (b : ℕ) → Preserves b None self.old self.new }
+        ensures stays { StaysWithin (Some target) None self.old self.new }
     {
         for d in 0..CONNECTIONS {
             self.lose_one(c, d, target, function);
@@ -139,8 +134,7 @@ impl<S: Store> Target<S> {
         requires in_range { d < 64 }
         requires target { target < length self.old.units }
         ensures carries { CarriesOut (λ w. lose_one function.now target c w d) self.old self.new }
-        ensures apart { KeepsApart target self.old self.new }
-        ensures moves { (b : ℕ) → Preserves b None self.old self.new }
+        ensures stays { StaysWithin (Some target) None self.old self.new }
     {
         if d == c {
             return;
@@ -173,8 +167,7 @@ impl<S: Store> Target<S> {
     fn reset(&mut self, target: usize, function: &Header)
         requires { target < length self.old.units }
         ensures carries { CarriesOut (reset_in function.now target) self.old self.new }
-        ensures apart { KeepsApart target self.old self.new }
-        ensures moves { (b : ℕ) → Preserves b None self.old self.new }
+        ensures stays { StaysWithin (Some target) None self.old self.new }
     {
         self.reset_units(target, function);
     }

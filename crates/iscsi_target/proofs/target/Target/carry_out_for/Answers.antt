@@ -1,15 +1,10 @@
-use Rattle.std.proofs.Common.{ℕ, Option, sym, subst}
-use Rattle.iscsi_target.specs.World.{carry_out_for}
-use Rattle.iscsi_target.specs.Serving.{CarriesOut}
+use Rattle.std.proofs.Common.{None}
 use Rattle.iscsi_target.proofs.Carrying.{carried_none}
+use Rattle.iscsi_target.proofs.Within.{within_none}
 use Rattle.iscsi_target.proofs.target.Target.carry_out_for.Goals as goal
 
-pub returns-in-Some-clause-carries : goal.returns-in-Some-clause-carries
-returns-in-Some-clause-carries g c =
-    subst (λ (o : Option ℕ). CarriesOut (carry_out_for c.args.c o c.args.functions.now) c.args.self.now c.carry_out_all.new.self) (sym c.in-Some.is)
-    c.carry_out_all.ensures.carries
+pub returns-in-Some : goal.returns-in-Some
+returns-in-Some g c = rw c.in-Some.is (record { carries = c.carry_out_all.ensures.carries; stays = c.carry_out_all.ensures.stays })
 
-pub returns-in-None-clause-carries : goal.returns-in-None-clause-carries
-returns-in-None-clause-carries g c =
-    subst (λ (o : Option ℕ). CarriesOut (carry_out_for c.args.c o c.args.functions.now) c.args.self.now c.args.self.now) (sym c.in-None.is)
-    (carried_none c.args.self.now)
+pub returns-in-None : goal.returns-in-None
+returns-in-None g c = rw c.in-None.is (record { carries = carried_none c.args.self.now; stays = within_none None c.args.self.now })

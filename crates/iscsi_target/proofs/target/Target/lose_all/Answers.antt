@@ -1,26 +1,23 @@
-use Rattle.std.proofs.Common.{◌≡◌, None, subst, arith}
+use Rattle.std.proofs.Common.{◌≡◌, Some, None, subst, arith}
 use Rattle.iscsi_target.specs.History.{connection_limit}
 use Rattle.iscsi_target.specs.Serving.{CarriesOut}
-use Rattle.iscsi_target.proofs.Apart.{apart_none, apart_then}
-use Rattle.iscsi_target.proofs.Moving.{moves_none, moves_then}
 use Rattle.iscsi_target.proofs.Carrying.{lost_below, none_lost, lost_next}
+use Rattle.iscsi_target.proofs.Within.{within_none, within_then}
 use Rattle.iscsi_target.proofs.target.Target.lose_all.Goals as goal
 
 pub loop-d-init : goal.loop-d-init
 loop-d-init g c = (
   none_lost c.args.function.now c.args.target c.args.c c.args.self.now,
-  λ b. moves_none b c.args.self.now,
+  within_none (Some c.args.target) c.args.self.now,
   c.requires,
-  apart_none c.args.target c.args.self.now,
 )
 
 pub loop-d-preserved : goal.loop-d-preserved
 loop-d-preserved g c = (
   lost_next c.args.function.now c.args.target c.args.c c.loop-d.d c.args.self.now c.loop-d.self c.lose_one.new.self
-      (c.lose_one.ensures.moves 0) c.loop-d.invariant.0 c.lose_one.ensures.carries,
-  λ b. moves_then b None None c.args.self.now c.loop-d.self c.lose_one.new.self (c.loop-d.invariant.1 b) (c.lose_one.ensures.moves b),
-  (let is = (c.lose_one.ensures.moves 0).units in let was = c.loop-d.invariant.2 in omega arith),
-  apart_then c.args.target c.args.self.now c.loop-d.self c.lose_one.new.self c.loop-d.invariant.3 c.lose_one.ensures.apart,
+      (c.lose_one.ensures.stays.moves 0) c.loop-d.invariant.0 c.lose_one.ensures.carries,
+  within_then (Some c.args.target) None None c.args.self.now c.loop-d.self c.lose_one.new.self c.loop-d.invariant.1 c.lose_one.ensures.stays,
+  (let is = (c.lose_one.ensures.stays.moves 0).units in let was = c.loop-d.invariant.2 in omega arith),
 )
 
 pub returns-clause-carries : goal.returns-clause-carries

@@ -1,26 +1,22 @@
 use Rattle.std.proofs.Common.{Some, sym, ◌∙◌, arith}
 use Rattle.std.proofs.lemmas.Bool.{ne_eqb}
 use Rattle.iscsi_target.specs.Machine.{link_at}
-use Rattle.iscsi_target.proofs.Choices.{eqb_self}
-use Rattle.iscsi_target.proofs.Apart.{apart_none}
 use Rattle.iscsi_target.proofs.Carrying.{loses_own, loses_none, loses_called}
-use Rattle.iscsi_target.proofs.Moving.{moves_none}
 use Rattle.iscsi_target.proofs.SessionCalls.{session_with, is_called, called_moves, called_apart}
+use Rattle.iscsi_target.proofs.Within.{within_none}
 use Rattle.iscsi_target.proofs.target.Target.lose_one.Goals as goal
 
 pub returns-then-d-c : goal.returns-then-d-c
 returns-then-d-c g c = record {
   carries = loses_own c.args.self.now c.args.function.now c.args.target c.args.c c.args.d (let same = c.if-d-c.true in omega (arith, same));
-  moves = λ b. moves_none b c.args.self.now;
-  apart = apart_none c.args.target c.args.self.now;
+  stays = within_none (Some c.args.target) c.args.self.now;
 }
 
 pub returns-then-not-is_with : goal.returns-then-not-is_with
 returns-then-not-is_with g c = record {
   carries = loses_none c.args.self.now c.args.function.now c.args.target c.args.c c.args.d c.requires.in_range
       (sym c.is_with.ensures ∙ c.if-not-is_with.true);
-  moves = λ b. moves_none b c.args.self.now;
-  apart = apart_none c.args.target c.args.self.now;
+  stays = within_none (Some c.args.target) c.args.self.now;
 }
 
 pub returns : goal.returns
@@ -34,7 +30,9 @@ returns g c =
     record {
       carries = loses_called c.args.function.now c.args.target c.args.c c.args.d given after k
           (ne_eqb c.args.d c.args.c (λ same. absurd (let differ = c.if-d-c.false in omega (arith, same, differ)))) l;
-      apart = called_apart c.args.d own given after k l c.args.target (eqb_self c.args.target);
-      moves = λ b. called_moves c.args.d own given after k l b c.requires.target (λ other. c.lose_session.ensures.eases)
-          c.lose_session.ensures.back c.lose_session.ensures.sure;
+      stays = record {
+        apart = called_apart c.args.d own given after k l;
+        moves = λ b. called_moves c.args.d own given after k l b c.requires.target (λ other. c.lose_session.ensures.eases)
+            c.lose_session.ensures.back c.lose_session.ensures.sure;
+      };
     }

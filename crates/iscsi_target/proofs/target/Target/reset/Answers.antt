@@ -1,7 +1,6 @@
-use Rattle.std.proofs.Common.{None, refl, sym}
-use Rattle.iscsi_target.proofs.Apart.{apart_as}
-use Rattle.iscsi_target.proofs.Moving.{moves_as}
-use Rattle.iscsi_target.proofs.Carrying.{carried_on, reset_machine, reset_does, reset_moves, reset_apart}
+use Rattle.std.proofs.Common.{Some, None, refl, sym}
+use Rattle.iscsi_target.proofs.Carrying.{carried_on, reset_machine, reset_does, reset_stays}
+use Rattle.iscsi_target.proofs.Within.{within_as}
 use Rattle.iscsi_target.proofs.target.Target.reset.Goals as goal
 
 pub returns : goal.returns
@@ -12,6 +11,5 @@ returns g c =
     let is = c.reset_units.ensures in
     record {
       carries = carried_on _ machine after machine _ refl (sym is) (reset_does machine function c.args.target);
-      moves = λ b. moves_as b None machine after _ is (reset_moves b machine function c.args.target);
-      apart = apart_as c.args.target machine after _ is (reset_apart machine function c.args.target);
+      stays = within_as (Some c.args.target) None machine after _ (sym is) (reset_stays machine function c.args.target);
     }

@@ -12,6 +12,7 @@ use Rattle.iscsi_target.proofs.Frames.{finishes}
 use Rattle.iscsi_target.proofs.Heavier.{apart_next}
 use Rattle.iscsi_target.proofs.Moving.{moves_then, moves_starved, ended_units}
 use Rattle.iscsi_target.proofs.SessionCalls.{session_in, is_called, link_only, serves_takes, called_moves, ended_moves, ended_called_apart, ended_adds}
+use Rattle.iscsi_target.proofs.Within.{within_then}
 use Rattle.iscsi_target.proofs.target.Target.serve.Goals as goal
 
 pub carry_out_for-requires : goal.carry_out_for-requires
@@ -22,7 +23,7 @@ carry_out_for-requires g c = subst (λ (n : ℕ). IsTargetBelow n c.target_at-ta
 
 pub settle_for-settled-requires : goal.settle_for-settled-requires
 settle_for-settled-requires g c = subst (λ (n : ℕ). IsTargetBelow n c.target_at-target.result)
-    (sym ((c.carry_out_for.ensures.moves 0).units ∙ ap (λ (m : Machine). length m.units) c.end_unless-served.ensures.same
+    (sym ((c.carry_out_for.ensures.stays.moves 0).units ∙ ap (λ (m : Machine). length m.units) c.end_unless-served.ensures.same
     ∙ ended_units c.serve_session-goes_on.result c.args.c c.serve_session-goes_on.new.self
     ∙ ap (λ (m : Machine). length m.units) c.serve_session-goes_on.ensures.changes)) c.serve_session-goes_on.ensures.below
 
@@ -50,22 +51,19 @@ returns g c =
     c.carry_out_for.ensures.carries in
     let same : (target : ℕ) → is_with target (link_at given c.args.c).phase ≡ true → is_same_target own (Some target) ≡ true = λ target with_.
     ap (λ (o : Option ℕ). is_same_target o (Some target)) c.target_at-target.ensures ∙ with_ in
-    let next = apart_next c.args.c in
+    let rest = within_then own None later ended carried after c.carry_out_for.ensures.stays c.settle_for-settled.ensures.stays in
     record {
       takes = does_starved _ _ _ _ _ _ _ (ap (λ (o : Option ℕ). first_of o later) (sym c.end_unless-served.ensures.value) ∙ sym c.earlier_of.ensures)
           (serves_takes call.result call.new.orders.items c.args.frame c.args.c own given middle ended after later k call.ensures.changes l
-          c.end_unless-served.ensures.same (λ target sound. (c.carry_out_for.ensures.moves 0).back target
-          ((c.settle_for-settled.ensures.moves 0).back target sound))
-          (finishes c.args.c own call.new.orders.items later ended carried after (c.settle_for-settled.ensures.moves 0).back carries
+          c.end_unless-served.ensures.same (rest.moves 0).back
+          (finishes c.args.c own call.new.orders.items later ended carried after (c.settle_for-settled.ensures.stays.moves 0).back carries
           c.settle_for-settled.ensures.settles));
-      moves = moves_starved c.args.c (first_of failed later) _ given after (sym c.earlier_of.ensures) (moves_then c.args.c failed later given ended after first
-          (moves_then c.args.c None later ended carried after (c.carry_out_for.ensures.moves c.args.c) (c.settle_for-settled.ensures.moves c.args.c)));
+      moves = moves_starved c.args.c (first_of failed later) _ given after (sym c.earlier_of.ensures)
+          (moves_then c.args.c failed later given ended after first (rest.moves c.args.c));
       part = λ target with_. apart_then target given ended after
           (ended_called_apart c.args.c own given middle k l call.result target ended (same target with_) c.end_unless-served.ensures.same)
-          (apart_then target ended carried after (c.carry_out_for.ensures.apart target (same target with_))
-          (c.settle_for-settled.ensures.apart target (same target with_)));
+          (rest.apart target (same target with_));
       loads = λ whole. adds_then 1 0 (link_at given c.args.c) (link_at ended c.args.c) (link_at after c.args.c)
           (ended_adds c.args.c own given middle k l call.result 1 ended c.end_unless-served.ensures.same (call.ensures.loads whole))
-          (adds_then 0 0 (link_at ended c.args.c) (link_at carried c.args.c) (link_at after c.args.c)
-          ((c.carry_out_for.ensures.moves (suc c.args.c)).eases c.args.c next) ((c.settle_for-settled.ensures.moves (suc c.args.c)).eases c.args.c next));
+          ((rest.moves (suc c.args.c)).eases c.args.c (apart_next c.args.c));
     }

@@ -1,20 +1,18 @@
-use Rattle.std.proofs.Common.{◌≡◌, ℕ, ◌<◌, ◌≤◌, length, true, sym, ap, ◌∙◌, subst, arith}
+use Rattle.std.proofs.Common.{◌≡◌, ℕ, ◌<◌, ◌≤◌, length, true, Some, sym, ap, ◌∙◌, subst, arith}
 use Rattle.iscsi_target.specs.History.{connection_limit}
-use Rattle.iscsi_target.specs.Machine.{Machine, KeepsApart, link_at, is_settled}
-use Rattle.iscsi_target.specs.Serving.{Preserves, first_starved}
-use Rattle.iscsi_target.proofs.Apart.{apart_none, apart_then}
+use Rattle.iscsi_target.specs.Machine.{Machine, link_at, is_settled}
+use Rattle.iscsi_target.specs.Serving.{first_starved}
 use Rattle.iscsi_target.proofs.Doing.{does_starved}
 use Rattle.iscsi_target.proofs.Frames.{SettledBelow, none_settled, settled_next, all_settled}
-use Rattle.iscsi_target.proofs.Moving.{moves_none, moves_then, moves_starved}
 use Rattle.iscsi_target.proofs.Skipping.{settled_skipped}
+use Rattle.iscsi_target.proofs.Within.{within_none, within_then, within_as, within_starved}
 use Rattle.iscsi_target.proofs.target.Target.settle.Goals as goal
 
 pub loop-c-init : goal.loop-c-init
 loop-c-init g c = (
   none_settled c.args.target c.args.self.now,
-  λ b. moves_none b c.args.self.now,
+  within_none (Some c.args.target) c.args.self.now,
   c.requires,
-  apart_none c.args.target c.args.self.now,
   omega arith,
 )
 
@@ -34,16 +32,14 @@ loop-c-preserved g c =
     (subst (λ (m : Machine). SettledBelow target c.loop-c.from starved given m) (sym same) c.loop-c.invariant.0) in (
       does_starved _ _ _ _ _ _ _ (sym c.earlier_of-outcome.ensures)
           (settled_next target c.in-Some.c starved (first_starved c.settle_one-settled.result) given middle after
-          (c.settle_one-settled.ensures.moves 0).back so_far c.settle_one-settled.ensures.settles),
-      λ b. moves_starved b _ _ _ _ (sym c.earlier_of-outcome.ensures)
-          (moves_then b starved (first_starved c.settle_one-settled.result) given middle after
-          (subst (λ (m : Machine). Preserves b starved given m) (sym same) (c.loop-c.invariant.1 b)) (c.settle_one-settled.ensures.moves b)),
-      (let is = (c.settle_one-settled.ensures.moves 0).units in
+          (c.settle_one-settled.ensures.stays.moves 0).back so_far c.settle_one-settled.ensures.settles),
+      within_starved (Some target) _ _ _ _ (sym c.earlier_of-outcome.ensures)
+          (within_then (Some target) starved (first_starved c.settle_one-settled.result) given middle after
+          (within_as (Some target) starved given c.loop-c.self middle (sym same) c.loop-c.invariant.1) c.settle_one-settled.ensures.stays),
+      (let is = (c.settle_one-settled.ensures.stays.moves 0).units in
           let was = c.loop-c.invariant.2 in
           let kept : length middle.units ≡ length c.loop-c.self.units = ap (λ (m : Machine). length m.units) same in
           omega (arith, is, was, kept)),
-      apart_then target given middle after (subst (λ (m : Machine). KeepsApart target given m) (sym same) c.loop-c.invariant.3)
-          c.settle_one-settled.ensures.apart,
       omega (arith, found.1),
     )
 
@@ -61,9 +57,8 @@ returns-clause-settles g c =
     let behind : (d : ℕ) → c.loop-c.from ≤ d → d < connection_limit → is_settled (link_at after d).phase ≡ true =
     λ d from below. ap (λ (m : Machine). is_settled (link_at m d).phase) same ∙ c.in_default.ensures.none d from below in
     all_settled target starved given after
-    (settled_skipped target c.loop-c.from connection_limit starved given after c.loop-c.invariant.4 (omega arith) links behind
+    (settled_skipped target c.loop-c.from connection_limit starved given after c.loop-c.invariant.3 (omega arith) links behind
     (subst (λ (m : Machine). SettledBelow target c.loop-c.from starved given m) (sym same) c.loop-c.invariant.0))
 
-pub returns-clause-moves : goal.returns-clause-moves
-returns-clause-moves g c = λ b. subst (λ (m : Machine). Preserves b (first_starved c.loop-c.outcome) c.args.self.now m) (sym c.next_unsettled.ensures.same)
-    (c.loop-c.invariant.1 b)
+pub returns-clause-stays : goal.returns-clause-stays
+returns-clause-stays g c = within_as _ _ _ _ _ (sym c.next_unsettled.ensures.same) c.loop-c.invariant.1

@@ -1,17 +1,14 @@
 use Rattle.std.proofs.Common.{Some, sym, ◌∙◌}
 use Rattle.iscsi_target.specs.Machine.{link_at}
 use Rattle.iscsi_target.specs.Serving.{first_starved}
-use Rattle.iscsi_target.proofs.Choices.{eqb_self}
-use Rattle.iscsi_target.proofs.Apart.{apart_none}
-use Rattle.iscsi_target.proofs.Moving.{moves_none}
 use Rattle.iscsi_target.proofs.SessionCalls.{session_with, is_called, settles_none, settles_called, called_moves, ended_moves, ended_called_apart}
+use Rattle.iscsi_target.proofs.Within.{within_none}
 use Rattle.iscsi_target.proofs.target.Target.settle_one.Goals as goal
 
 pub returns-then-not-is_with : goal.returns-then-not-is_with
 returns-then-not-is_with g c = record {
   settles = settles_none c.args.self.now c.args.c c.args.target c.requires.in_range (sym c.is_with.ensures ∙ c.if-not-is_with.true);
-  moves = λ b. moves_none b c.args.self.now;
-  apart = apart_none c.args.target c.args.self.now;
+  stays = within_none (Some c.args.target) c.args.self.now;
 }
 
 pub returns : goal.returns
@@ -27,7 +24,9 @@ returns g c =
     let l = call.ensures.leaves at.0 at.1 in
     record {
       settles = settles_called call.result c.args.c c.args.target given middle after k starved l c.end_unless.ensures.value c.end_unless.ensures.same;
-      apart = ended_called_apart c.args.c own given middle k l call.result c.args.target after (eqb_self c.args.target) c.end_unless.ensures.same;
-      moves = λ b. ended_moves c.args.c own given middle k l call.result b starved after c.end_unless.ensures.value c.end_unless.ensures.same
-          (called_moves c.args.c own given middle k l b c.requires.target (λ other. call.ensures.eases) call.ensures.back call.ensures.sure);
+      stays = record {
+        apart = λ t same. ended_called_apart c.args.c own given middle k l call.result t after same c.end_unless.ensures.same;
+        moves = λ b. ended_moves c.args.c own given middle k l call.result b starved after c.end_unless.ensures.value c.end_unless.ensures.same
+            (called_moves c.args.c own given middle k l b c.requires.target (λ other. call.ensures.eases) call.ensures.back call.ensures.sure);
+      };
     }
