@@ -17,7 +17,7 @@ use Rattle.iscsi_target.specs.World.{Setting, World, present, reads_life, close,
 use Rattle.iscsi_target.specs.Machine.{LinkState, Machine, Feeds, KeepsPart, link_at, with_link, is_reading, closed, free_link, shut_link, GivesFrame}
 use Rattle.iscsi_target.specs.Bounded.{AddsAtMost}
 use Rattle.iscsi_target.specs.Stands.{link_of}
-use Rattle.iscsi_target.specs.Serving.{Serves, ActsAs, is_of_frame, has_place, place_of, is_among, first_of, with_half, KeepsHalf, Preserves, Takes, Leaves, TakesOne, TakesSome, TakesAll}
+use Rattle.iscsi_target.specs.Serving.{Serves, ActsAs, is_of_frame, has_place, place_of, is_among, first_of, with_half, KeepsHalf, Preserves, TakesFrame, Leaves, TakesOne, TakesSome, TakesAll}
 use Rattle.iscsi_target.proofs.Arrivals.{long_end, fold-places}
 use Rattle.iscsi_target.proofs.Choices.{eqb_self, cond_true, cond_false}
 use Rattle.iscsi_target.proofs.Linked.{link_is, reads_there, some_reads, serves_one, serves_as, serves_world, serves_reaching, closes, present-close, present-reaching, units_with}
@@ -30,7 +30,7 @@ use Rattle.iscsi_target.proofs.Comings.{comings_close}
 use Rattle.iscsi_target.proofs.Frames.{idle, arrived, starves}
 use Rattle.iscsi_target.proofs.Apart.{part_none, part_closed, part_halved, part_as, part_then}
 use Rattle.iscsi_target.proofs.Bounding.{adds_none, adds_then, adds_more}
-use Rattle.iscsi_target.proofs.Heavier.{closed_loads, halved_adds}
+use Rattle.iscsi_target.proofs.Heavier.{closed_loads, halved_adds, header_whole}
 use Rattle.iscsi_target.proofs.Moving.{keeps_same, keeps_by, link_other, Changes, reading_open, own_self, feeds_then, closed_then, changes_feeds, closed_moves, starved_moves, moves_as, moves_none}
 
 -- ---- the bytes that are kept
@@ -138,9 +138,11 @@ halved_reads old given c half lt count is r = ap (λ (l : LinkState). is_reading
 pub takes_frame : (old given new : Machine) (c : ℕ) (frame : Frame) (starved : Option ℕ) → c < connection_limit
     → length old.links ≡ connection_limit → is_reading (link_at old c).phase ≡ true
     → GivesFrame frame (link_at old c).half (link_at given c).half → given ≡ with_link old c (record (link_at old c) { half = (link_at given c).half })
-    → Takes c frame starved given new → Preserves c starved given new → KeepsPart c given new → AddsAtMost 1 (link_at given c) (link_at new c)
-    → TakesOne c starved old new
-takes_frame old given new c frame starved lt count r gives is takes moves part loads =
+    → TakesFrame c frame starved given new → TakesOne c starved old new
+takes_frame old given new c frame starved lt count r gives is taken =
+    let takes = taken.takes in
+    let moves = taken.moves in
+    let loads = taken.loads (header_whole (link_at old c).half frame _ gives.first) in
     let more = (link_at given c).half in
     let link = halved_link old given c more lt count is in
     let reads_given = halved_reads old given c more lt count is r in
@@ -164,7 +166,7 @@ takes_frame old given new c frame starved lt count r gives is takes moves part l
         feeds = feeds_then c old given new fed moves.feeds;
         closing = moves.closing;
         part = part_then c old given new reads_given (part_as c old (with_link old c (record (link_at old c) { half = more })) given is
-            (part_halved old c more (omega (arith, count)))) part;
+            (part_halved old c more (omega (arith, count)))) taken.part;
         eases = λ d other. subst (λ (l : LinkState). AddsAtMost 0 l (link_at new d)) (ap (λ (m : Machine). link_at m d) is
             ∙ link_other old old.units c d (record (link_at old c) { half = more }) other) (moves.eases d other);
         keeps = λ d other. (let P : LinkState → Type 0 = λ l. is_reading l.phase ≡ true → KeepsHalf l.half (link_at new d) in

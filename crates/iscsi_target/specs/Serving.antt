@@ -2,6 +2,7 @@
 use Rattle.std.specs.Prelude.{◌≡◌, ◌≢◌, ℕ, ◌+◌, ◌<◌, List, [], ◌∷◌, length, drop, Bool, true, false, if◌then◌else◌, ◌&&◌, not, ◌==◌, nat_lt, Option, Some, None, Result, Ok, Err, ⊤}
 use Rattle.std.specs.List.{list_all, fold, enumerate_from}
 use Rattle.iscsi_pdu.specs.Frames.{Frame, rest, is_long}
+use Rattle.iscsi_pdu.specs.Header.{header_length}
 use Rattle.iscsi_login.specs.Session.{is_same_target}
 use Rattle.iscsi_session.specs.Comings.{Coming, AreAhead, ArePlain, IsCalm}
 use Rattle.iscsi_session.specs.Steps.{Step, Judging, Taking, Asking, Answering, Doing, is_doing, is_serving}
@@ -135,6 +136,13 @@ is_done_below c place mark = nat_lt mark.connection c && is_done_at place mark
 -- a frame is taken
 abbrev pub Takes : ℕ → Frame → Option ℕ → Machine → Machine → Type 0
 Takes c frame starved given after = ActsAs is_of_frame (λ s marks place w. arrive s marks c w (place, Whole frame)) kept starved given after
+
+-- the same, with its effect on every target; a header is whole
+pub record TakesFrame (c : ℕ) (frame : Frame) (starved : Option ℕ) (given after : Machine) : Type 0 where
+  pub takes : Takes c frame starved given after
+  pub moves : Preserves c starved given after
+  pub part : KeepsPart c given after
+  pub loads : length frame.header ≡ header_length → AddsAtMost 1 (link_at given c) (link_at after c)
 
 -- ---- the frames of a piece
 

@@ -3,12 +3,10 @@
 ghost use Rattle.std.specs.Prelude.{◌≡◌, ◌<◌, ◌++◌, [], true, false, length, IfOk, IfSome, IfNone, OnOk, OnErr};
 ghost use Rattle.std.specs.Result.{IsErrOf};
 ghost use Rattle.iscsi_pdu.specs.Frames.{has_frame, is_long};
-ghost use Rattle.iscsi_pdu.specs.Header.{header_length};
 ghost use Rattle.iscsi_login.specs.LoginState.{IsTargetBelow};
-ghost use Rattle.iscsi_target.specs.Bounded.{AddsAtMost};
 ghost use Rattle.iscsi_target.specs.History.{arrivals};
-ghost use Rattle.iscsi_target.specs.Machine.{KeepsPart, GivesFrame, link_at, with_link, is_logging_in, is_reading};
-ghost use Rattle.iscsi_target.specs.Serving.{Takes, TakesOne, TakesAll, Preserves, first_starved};
+ghost use Rattle.iscsi_target.specs.Machine.{GivesFrame, link_at, with_link, is_logging_in, is_reading};
+ghost use Rattle.iscsi_target.specs.Serving.{TakesFrame, TakesOne, TakesAll, first_starved};
 
 use crate::fault::Starved;
 use crate::phase::Phase;
@@ -131,10 +129,7 @@ impl<S: Store> Target<S> {
     fn take_frame(&mut self, c: usize, frame: Frame) -> Result<(), Starved>
         requires in_range { c < 64 }
         requires reads { is_reading (link_at self.old c).phase ≡ true }
-        ensures takes { Takes c frame (first_starved result) self.old self.new }
-        ensures moves { Preserves c (first_starved result) self.old self.new }
-        ensures part { KeepsPart c self.old self.new }
-        ensures loads { length frame.header ≡ header_length → AddsAtMost 1 (link_at self.old c) (link_at self.new c) }
+        ensures { TakesFrame c frame (first_starved result) self.old self.new }
     {
         match &self.connections.at(c).phase {
             Phase::Free | Phase::Closing => Ok(()),
@@ -148,10 +143,7 @@ impl<S: Store> Target<S> {
     fn enter(&mut self, c: usize, frame: &Frame) -> Result<(), Starved>
         requires in_range { c < 64 }
         requires logs_in { is_logging_in (link_at self.old c).phase ≡ true }
-        ensures takes { Takes c frame.now (first_starved result) self.old self.new }
-        ensures moves { Preserves c (first_starved result) self.old self.new }
-        ensures part { KeepsPart c self.old self.new }
-        ensures loads { AddsAtMost 1 (link_at self.old c) (link_at self.new c) }
+        ensures { TakesFrame c frame.now (first_starved result) self.old self.new }
     {
         if frame.header.opcode() == Opcode::Login {
             return match self.log_in(c, frame) {

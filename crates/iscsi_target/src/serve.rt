@@ -7,9 +7,9 @@ ghost use Rattle.iscsi_login.specs.LoginState.{IsTargetBelow};
 ghost use Rattle.scsi_unit.specs.Units.{AreSound, AreSure, numbers_of};
 ghost use Rattle.iscsi_session.specs.Steps.{is_doing, is_serving};
 ghost use Rattle.iscsi_target.specs.World.{units_at};
-ghost use Rattle.iscsi_target.specs.Machine.{KeepsPart, link_at, with_link, target_in, is_in_session};
+ghost use Rattle.iscsi_target.specs.Machine.{link_at, with_link, target_in, is_in_session};
 ghost use Rattle.iscsi_target.specs.Bounded.{AddsAtMost};
-ghost use Rattle.iscsi_target.specs.Serving.{Takes, Settles, SettlesFor, SettlesOne, StaysWithin, Preserves, first_starved, first_of, goes_on_by};
+ghost use Rattle.iscsi_target.specs.Serving.{TakesFrame, Settles, SettlesFor, SettlesOne, StaysWithin, first_starved, first_of, goes_on_by};
 ghost use Rattle.iscsi_target.specs.SessionCalls.{InSession, LeavesSession, Ends, ServesFrame, SettlesUnits, ChangesOne, ended_link};
 
 use crate::fault::Starved;
@@ -98,10 +98,7 @@ impl<S: Store> Target<S> {
     pub(crate) fn serve(&mut self, c: usize, frame: Frame) -> Result<(), Starved>
         requires in_range { c < 64 }
         requires session { is_in_session (link_at self.old c).phase ≡ true }
-        ensures takes { Takes c frame (first_starved result) self.old self.new }
-        ensures moves { Preserves c (first_starved result) self.old self.new }
-        ensures part { KeepsPart c self.old self.new }
-        ensures loads { length frame.header ≡ header_length → AddsAtMost 1 (link_at self.old c) (link_at self.new c) }
+        ensures { TakesFrame c frame (first_starved result) self.old self.new }
     {
         let target = self.target_at(c);
         let mut orders = Vec::new(self.alloc);

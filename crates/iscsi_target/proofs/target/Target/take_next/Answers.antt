@@ -1,6 +1,5 @@
 use Rattle.std.proofs.Common.{refl, sym, ap, ◌∙◌}
 use Rattle.iscsi_target.specs.Machine.{Machine, link_at, closed, GivesFrame}
-use Rattle.iscsi_target.proofs.Heavier.{header_whole}
 use Rattle.iscsi_target.proofs.Taking.{none_whole, halved_reads, takes_frame, takes_long, takes_none, takes_as}
 use Rattle.iscsi_target.proofs.target.Target.take_next.Goals as goal
 
@@ -13,8 +12,7 @@ returns-in-Ok-Some-clause-takes g c =
     let gives : GivesFrame c.in-Ok-Some.frame _ _ = rw c.in-Ok-Some.field-0-is at c.in-Ok-Some.ensures.given in
     takes_frame c.args.self.now c.next_frame.new.self c.take_frame.new.self c.args.c c.in-Ok-Some.frame _ c.requires.in_range
     c.next_frame.ensures.count c.requires.reads gives
-    (rw c.in-Ok-Some.field-0-is at c.in-Ok-Some.ensures.same) c.take_frame.ensures.takes c.take_frame.ensures.moves c.take_frame.ensures.part
-    (c.take_frame.ensures.loads (header_whole (link_at c.args.self.now c.args.c).half c.in-Ok-Some.frame _ gives.first))
+    (rw c.in-Ok-Some.field-0-is at c.in-Ok-Some.ensures.same) c.take_frame.ensures
 
 pub returns-in-Ok-None-clause-whole : goal.returns-in-Ok-None-clause-whole
 returns-in-Ok-None-clause-whole g c =
