@@ -11,6 +11,7 @@ use Rattle.iscsi_session.specs.Requests.{Past}
 use Rattle.iscsi_session.specs.State.{SessionState, is_waiting}
 use Rattle.iscsi_session.specs.Steps.{Step, is_doing, is_serving, served, settled}
 use Rattle.iscsi_session.specs.Runs.{output, Runs, Stops}
+use Rattle.iscsi_session.specs.Weight.{IsAtRest, Eases}
 use Rattle.iscsi_login.specs.Directory.{KnownTargets}
 use Rattle.iscsi_login.specs.Session.{is_same_target}
 use Rattle.iscsi_login.specs.LoginState.{IsTargetBelow}
@@ -21,7 +22,7 @@ use Rattle.iscsi_target.specs.Machine.{LinkState, Machine, ReflectsSoundness, Ke
 use Rattle.iscsi_target.specs.Stands.{phase_for, link_of}
 use Rattle.iscsi_target.specs.Bounded.{AddsAtMost}
 use Rattle.iscsi_target.specs.Serving.{Serves, Preserves, kept, is_done_at, is_done_by, SettlesOne, SettlesFor, Takes, first_of, starved_by, goes_on_by, ended_unless}
-use Rattle.iscsi_target.specs.SessionCalls.{LeavesSession, Ends, ServesFrame, SettlesUnits, ChangesOne, called, ended_link}
+use Rattle.iscsi_target.specs.SessionCalls.{LeavesSession, CallsSession, Ends, ServesFrame, SettlesUnits, ChangesOne, called, ended_link}
 use Rattle.iscsi_target.specs.declared.phase.Phase.{Phase as CodePhase}
 use Rattle.iscsi_target.specs.declared.phase.Phase.TheVariants as phases
 use Rattle.iscsi_target.proofs.Choices.{cond_true, cond_false}
@@ -30,6 +31,7 @@ use Rattle.iscsi_target.proofs.Doing.{does_nothing, does_starved}
 use Rattle.iscsi_target.proofs.AtWork.{IsCalled, CallDoes, call_does, serve_kind, settle_kind, settle_acts, settle_agrees}
 use Rattle.iscsi_target.proofs.Frames.{Finishes, takes_served}
 use Rattle.iscsi_target.proofs.Apart.{target_apart, ended_apart, apart_as, apart_then}
+use Rattle.iscsi_target.proofs.Bounding.{session_eases}
 use Rattle.iscsi_target.proofs.Heavier.{closed_link}
 use Rattle.iscsi_target.proofs.Moving.{Changes, changes_moves, session_half, units_back, units_sure, length_with, moves_as, moves_then, moves_starved, closed_moves, starved_moves}
 
@@ -74,6 +76,20 @@ leaves_session P old framer phase before waiting given session then_ view is was
       grows = (grows.0, grows.1 ∙ ap (λ (l : List ℕ). l ++ grows.0) bytes);
       does = subst (λ (x : SessionState). P x then_ old.waiting waiting) same (subst (λ (l : List ℕ). P session then_ l waiting) bytes does);
     }
+
+-- and what else of the connection and the units
+pub calls_session : (P : SessionState → SessionState → List ℕ → List ℕ → Type 0) (units after : UnitStates) (old : LinkState) (framer : List ℕ)
+    (phase : CodePhase) (before waiting : List ℕ) (session then_ : SessionState) → viewed framer phase before ≡ old → phase ≡ phases.FullFeature session
+    → then_.params ≡ session.params → (more : List ℕ) × (waiting ≡ before ++ more) → P session then_ before waiting
+    → (IsAtRest session → Eases session then_ before waiting) → (AreSound after → AreSound units) → (AreSure units → AreSure after)
+    → CallsSession P units after old (viewed framer (phases.FullFeature then_) waiting)
+calls_session P units after old framer phase before waiting session then_ view is params grows does eases back sure = record {
+  leaves = λ given was. leaves_session P old framer phase before waiting given session then_ view is was params grows does;
+  eases = session_eases old (viewed framer (phases.FullFeature then_) waiting) session then_ (sym (ap (λ (l : LinkState). l.phase) view) ∙ is) refl
+      (subst (λ (bytes : List ℕ). IsAtRest session → Eases session then_ bytes waiting) (ap (λ (l : LinkState). l.waiting) view) eases);
+  back = back;
+  sure = sure;
+}
 
 -- it was done to its end, or up to a step before which an allocation failed
 pub ends_so : {E : Type 0} (r : Result Bool E) (is_kind : Step → Bool) (Leads : Option (ℕ → Step) → Bool → Type 0) → IfOk r (Leads None)

@@ -1,13 +1,16 @@
 -- The effect of a call of a session on its connection, and on the target.
-use Rattle.std.specs.Prelude.{◌≡◌, ℕ, List, [], ◌++◌, Bool, true, false, if◌then◌else◌, Option, None, Result, Ok, Err}
-use Rattle.scsi_unit.specs.Units.{UnitStates, numbers_of}
+use Rattle.std.specs.Prelude.{◌≡◌, ℕ, List, [], ◌++◌, length, Bool, true, false, if◌then◌else◌, Option, None, Result, Ok, Err}
+use Rattle.scsi_unit.specs.Units.{UnitStates, AreSound, AreSure, numbers_of}
 use Rattle.iscsi_pdu.specs.Frames.{Frame}
+use Rattle.iscsi_pdu.specs.Header.{header_length}
 use Rattle.iscsi_session.specs.Comings.{Coming, TargetUnits, CameAs, lend}
 use Rattle.iscsi_session.specs.State.{SessionState}
-use Rattle.iscsi_session.specs.Steps.{Step, served, settled}
+use Rattle.iscsi_session.specs.Steps.{Step, served, settled, is_doing, is_serving}
 use Rattle.iscsi_session.specs.Runs.{output, Runs, Stops}
 use Rattle.iscsi_target.specs.World.{units_at, with_units, losing}
+use Rattle.iscsi_target.specs.Bounded.{AddsAtMost}
 use Rattle.iscsi_target.specs.Machine.{LinkState, Machine, link_at, with_link, shut_link}
+use Rattle.iscsi_target.specs.Serving.{goes_on_by}
 use Rattle.iscsi_target.specs.declared.phase.Phase.{Phase}
 use Rattle.iscsi_target.specs.declared.phase.Phase.TheVariants.{FullFeature}
 
@@ -49,6 +52,28 @@ SettlesUnits units after failed goes_on old new before waiting = CameAs old.para
 abbrev pub LosesCommands : List ℕ → UnitStates → UnitStates → SessionState → SessionState → List ℕ → List ℕ → Type 0
 LosesCommands function units after old new before waiting = (comings : List Coming)
     → Runs (λ fails place. losing function) None true old new (output before []) (output waiting []) (lend units comings) (lend after comings)
+
+-- a call that serves a frame; what it adds to the weight of the connection
+pub record ServesSession {E : Type 0} (r : Result Bool E) (frame : Frame) (luns : List ℕ) (orders : List (List ℕ)) (old new : LinkState) : Type 0 where
+  pub leaves : InSession old.phase (λ given. LeavesSession (λ session waiting. Ends is_serving
+      (λ failed goes_on. ServesFrame frame luns orders failed goes_on given session old.waiting waiting) r) given old new)
+  pub loads : (units : UnitStates) → luns ≡ numbers_of units → length frame.header ≡ header_length → AddsAtMost 1 old (ended_link (goes_on_by r) new)
+
+-- A call that leaves the session of a connection by P, with units that become others. The connection becomes no
+-- heavier. Units that are sound after the call were so before, and those that are sure stay so.
+pub record CallsSession (P : SessionState → SessionState → List ℕ → List ℕ → Type 0) (units after : UnitStates) (old new : LinkState) : Type 0 where
+  pub leaves : InSession old.phase (λ given. LeavesSession (λ session waiting. P given session old.waiting waiting) given old new)
+  pub eases : AddsAtMost 0 old new
+  pub back : AreSound after → AreSound units
+  pub sure : AreSure units → AreSure after
+
+abbrev pub SettlesSession : {E : Type 0} → Result Bool E → UnitStates → UnitStates → LinkState → LinkState → Type 0
+SettlesSession r units after old new = CallsSession (λ given session before waiting. Ends is_doing
+    (λ failed goes_on. SettlesUnits units after failed goes_on given session before waiting) r) units after old new
+
+abbrev pub LosesInSession : List ℕ → UnitStates → UnitStates → LinkState → LinkState → Type 0
+LosesInSession function units after old new =
+    CallsSession (λ given session before waiting. LosesCommands function units after given session before waiting) units after old new
 
 -- ---- of the target
 

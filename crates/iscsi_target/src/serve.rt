@@ -2,15 +2,12 @@
 //! its target have taken are done.
 
 ghost use Rattle.std.specs.Prelude.{◌≡◌, ◌<◌, [], Some, true, length};
-ghost use Rattle.iscsi_pdu.specs.Header.{header_length};
 ghost use Rattle.iscsi_login.specs.LoginState.{IsTargetBelow};
-ghost use Rattle.scsi_unit.specs.Units.{AreSound, AreSure, numbers_of};
-ghost use Rattle.iscsi_session.specs.Steps.{is_doing, is_serving};
+ghost use Rattle.scsi_unit.specs.Units.{numbers_of};
 ghost use Rattle.iscsi_target.specs.World.{units_at};
 ghost use Rattle.iscsi_target.specs.Machine.{link_at, with_link, target_in, is_in_session};
-ghost use Rattle.iscsi_target.specs.Bounded.{AddsAtMost};
-ghost use Rattle.iscsi_target.specs.Serving.{TakesFrame, Settles, SettlesFor, SettlesOne, StaysWithin, first_starved, first_of, goes_on_by};
-ghost use Rattle.iscsi_target.specs.SessionCalls.{InSession, LeavesSession, Ends, ServesFrame, SettlesUnits, ChangesOne, ended_link};
+ghost use Rattle.iscsi_target.specs.Serving.{TakesFrame, Settles, SettlesFor, SettlesOne, StaysWithin, first_starved, first_of};
+ghost use Rattle.iscsi_target.specs.SessionCalls.{ServesSession, SettlesSession, ChangesOne};
 
 use crate::fault::Starved;
 use crate::target::Target;
@@ -80,12 +77,8 @@ impl<S: Store> Target<S> {
         requires in_range { c < 64 }
         requires target { target < length self.old.units }
         ensures changes { ChangesOne c (Some target) self.old self.new }
-        ensures leaves { InSession (link_at self.old c).phase (λ session. LeavesSession (λ after waiting. Ends is_doing (λ failed goes_on.
-            SettlesUnits (units_at (Some target) self.old.units) (units_at (Some target) self.new.units) failed goes_on session after
-            (link_at self.old c).waiting waiting) result) session (link_at self.old c) (link_at self.new c)) }
-        ensures eases { AddsAtMost 0 (link_at self.old c) (link_at self.new c) }
-        ensures back { AreSound (units_at (Some target) self.new.units) → AreSound (units_at (Some target) self.old.units) }
-        ensures sure { AreSure (units_at (Some target) self.old.units) → AreSure (units_at (Some target) self.new.units) }
+        ensures calls { SettlesSession result (units_at (Some target) self.old.units) (units_at (Some target) self.new.units)
+            (link_at self.old c) (link_at self.new c) }
         ensures count { length self.old.links ≡ 64 }
     {
         let units = &mut self.units[target];
@@ -121,11 +114,8 @@ impl<S: Store> Target<S> {
         requires own { target ≡ target_in (link_at self.old c).phase }
         requires fresh { orders.old.items ≡ [] }
         ensures changes { self.new ≡ with_link self.old c (link_at self.new c) }
-        ensures leaves { InSession (link_at self.old c).phase (λ session. LeavesSession (λ after waiting. Ends is_serving (λ failed goes_on.
-            ServesFrame frame (numbers_of (units_at target self.old.units)) orders.new.items failed goes_on session after
-            (link_at self.old c).waiting waiting) result) session (link_at self.old c) (link_at self.new c)) }
-        ensures loads { length frame.header ≡ header_length
-            → AddsAtMost 1 (link_at self.old c) (ended_link (goes_on_by result) (link_at self.new c)) }
+        ensures calls { ServesSession result frame (numbers_of (units_at target self.old.units)) orders.new.items
+            (link_at self.old c) (link_at self.new c) }
         ensures below { IsTargetBelow (length self.old.units) target }
         ensures count { length self.old.links ≡ 64 }
     {

@@ -1,15 +1,10 @@
 //! The calls on the session of a connection: it serves a frame, performs its commands, and loses commands to the
 //! function of another session. A connection without a session does nothing.
 
-ghost use Rattle.std.specs.Prelude.{◌≡◌, ℕ, List, [], length};
-ghost use Rattle.iscsi_pdu.specs.Header.{header_length};
+ghost use Rattle.std.specs.Prelude.{◌≡◌, ℕ, []};
 ghost use Rattle.iscsi_login.specs.Values.{AreInRange};
-ghost use Rattle.scsi_unit.specs.Units.{UnitStates, AreSound, AreSure, numbers_of};
-ghost use Rattle.iscsi_session.specs.Steps.{is_doing, is_serving};
-ghost use Rattle.iscsi_target.specs.Bounded.{AddsAtMost};
 ghost use Rattle.iscsi_target.specs.Machine.{IsWithin, target_in};
-ghost use Rattle.iscsi_target.specs.Serving.{goes_on_by};
-ghost use Rattle.iscsi_target.specs.SessionCalls.{InSession, LeavesSession, Ends, ServesFrame, SettlesUnits, LosesCommands, ended_link};
+ghost use Rattle.iscsi_target.specs.SessionCalls.{InSession, ServesSession, SettlesSession, LosesInSession};
 
 use crate::connection::Connection;
 use crate::phase::Phase;
@@ -41,12 +36,8 @@ impl Connection {
     ) -> Result<bool, Memory>
         requires values { InSession self.old.phase (λ session. AreInRange session.params.values) }
         requires fresh { orders.old.items ≡ [] }
-        ensures leaves { InSession self.old.phase (λ session. LeavesSession (λ after waiting. Ends is_serving (λ failed goes_on.
-            ServesFrame frame luns.now orders.new.items failed goes_on session after self.old.waiting waiting) result)
-            session self.old self.new) }
+        ensures calls { ServesSession result frame luns.now orders.new.items self.old self.new }
         ensures within { (count : ℕ) → IsWithin count self.old.phase → IsWithin count self.new.phase }
-        ensures loads { (units : UnitStates) → luns.now ≡ numbers_of units → length frame.header ≡ header_length
-            → AddsAtMost 1 self.old (ended_link (goes_on_by result) self.new) }
     {
         let Phase::FullFeature(session) = &mut self.phase else {
             return Ok(true);
@@ -62,13 +53,8 @@ impl Connection {
         units: &mut Units<S>,
     ) -> Result<bool, Memory>
         requires { InSession self.old.phase (λ session. AreInRange session.params.values) }
-        ensures leaves { InSession self.old.phase (λ session. LeavesSession (λ after waiting. Ends is_doing (λ failed goes_on.
-            SettlesUnits units.old units.new failed goes_on session after self.old.waiting waiting) result)
-            session self.old self.new) }
+        ensures calls { SettlesSession result units.old units.new self.old self.new }
         ensures within { (count : ℕ) → IsWithin count self.old.phase → IsWithin count self.new.phase }
-        ensures eases { AddsAtMost 0 self.old self.new }
-        ensures back { AreSound units.new → AreSound units.old }
-        ensures sure { AreSure units.old → AreSure units.new }
     {
         let Phase::FullFeature(session) = &mut self.phase else {
             return Ok(true);
@@ -83,12 +69,8 @@ impl Connection {
     /// Removes the commands of the connection's session that the function of another session reaches. If it lost any
     /// to CLEAR TASK SET, its nexus gets the unit attention.
     pub(crate) fn lose<S: Store>(&mut self, units: &mut Units<S>, function: &Header)
-        ensures leaves { InSession self.old.phase (λ session. LeavesSession (λ after waiting.
-            LosesCommands function.now units.old units.new session after self.old.waiting waiting) session self.old self.new) }
+        ensures calls { LosesInSession function.now units.old units.new self.old self.new }
         ensures within { (count : ℕ) → IsWithin count self.old.phase → IsWithin count self.new.phase }
-        ensures eases { AddsAtMost 0 self.old self.new }
-        ensures back { AreSound units.new → AreSound units.old }
-        ensures sure { AreSure units.old → AreSure units.new }
     {
         let Phase::FullFeature(session) = &mut self.phase else {
             return;

@@ -12,9 +12,8 @@ ghost use Rattle.iscsi_session.specs.Weight.{IsAtRest, Eases};
 ghost use Rattle.iscsi_target.specs.World.{units_at, changed_units, function_of, told_by, losing, lose_one, reset_by, reset as reset_in, carry_out, carry_out_for};
 ghost use Rattle.iscsi_target.specs.History.{connections};
 ghost use Rattle.iscsi_target.specs.Machine.{link_at};
-ghost use Rattle.iscsi_target.specs.Bounded.{AddsAtMost};
 ghost use Rattle.iscsi_target.specs.Serving.{StaysWithin, CarriesOut};
-ghost use Rattle.iscsi_target.specs.SessionCalls.{InSession, LeavesSession, LosesCommands, ChangesOne};
+ghost use Rattle.iscsi_target.specs.SessionCalls.{LosesInSession, ChangesOne};
 
 use crate::target::Target;
 use iscsi_pdu::{Header, TaskFunction};
@@ -150,12 +149,8 @@ impl<S: Store> Target<S> {
         requires in_range { d < 64 }
         requires target { target < length self.old.units }
         ensures changes { ChangesOne d (Some target) self.old self.new }
-        ensures leaves { InSession (link_at self.old d).phase (λ session. LeavesSession (λ after waiting.
-            LosesCommands function.now (units_at (Some target) self.old.units) (units_at (Some target) self.new.units) session after
-            (link_at self.old d).waiting waiting) session (link_at self.old d) (link_at self.new d)) }
-        ensures eases { AddsAtMost 0 (link_at self.old d) (link_at self.new d) }
-        ensures back { AreSound (units_at (Some target) self.new.units) → AreSound (units_at (Some target) self.old.units) }
-        ensures sure { AreSure (units_at (Some target) self.old.units) → AreSure (units_at (Some target) self.new.units) }
+        ensures calls { LosesInSession function.now (units_at (Some target) self.old.units) (units_at (Some target) self.new.units)
+            (link_at self.old d) (link_at self.new d) }
         ensures count { length self.old.links ≡ 64 }
     {
         let units = &mut self.units[target];

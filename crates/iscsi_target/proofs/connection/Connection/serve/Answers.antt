@@ -12,25 +12,26 @@ use Rattle.iscsi_target.proofs.Bounding.{session_loads}
 use Rattle.iscsi_target.proofs.SessionCalls.{leaves_session, ends_so}
 use Rattle.iscsi_target.proofs.connection.Connection.serve.Goals as goal
 
-pub returns-clause-leaves : goal.returns-clause-leaves
-returns-clause-leaves c = λ session is.
-    leaves_session (λ given then_ before waiting. Ends is_serving
-    (λ failed goes_on. ServesFrame c.args.frame c.args.luns.now c.serve.new.orders.items failed goes_on
-    given then_ before waiting) c.serve.result)
-    c.args.self.now c.self.inside.framer c.self.inside.phase c.self.inside.waiting.items c.serve.new.out.items session c.in-FullFeature.session
-    c.serve.new.self c.self.view_is c.in-FullFeature.is is c.serve.ensures.params c.serve.ensures.grows
-    (ends_so c.serve.result is_serving (λ failed goes_on. ServesFrame c.args.frame c.args.luns.now c.serve.new.orders.items failed goes_on
-    c.in-FullFeature.session
-    c.serve.new.self c.self.inside.waiting.items c.serve.new.out.items)
-    (rw c.requires.fresh at c.serve.ensures.ok) (rw c.requires.fresh at c.serve.ensures.err))
-
-pub returns-clause-loads : goal.returns-clause-loads
-returns-clause-loads c = λ units numbers whole.
+pub returns-clause-calls : goal.returns-clause-calls
+returns-clause-calls c =
+    let session = c.in-FullFeature.session in
+    let then_ = c.serve.new.self in
+    let before = c.self.inside.waiting.items in
+    let after = c.serve.new.out.items in
     let here = sym (ap (λ (l : LinkState). l.phase) c.self.view_is) ∙ c.in-FullFeature.is in
-    let range : AreInRange c.in-FullFeature.session.params.values = c.requires.values c.in-FullFeature.session here in
-    session_loads (goes_on_by c.serve.result) c.args.self.now _ c.in-FullFeature.session c.serve.new.self here refl
-    (λ rests. subst (λ (bytes : List ℕ). Loads (goes_on_by c.serve.result) c.in-FullFeature.session c.serve.new.self bytes c.serve.new.out.items)
-    (ap (λ (l : LinkState). l.waiting) c.self.view_is)
-    (serve_loads c.serve.result c.args.frame c.args.luns.now c.in-FullFeature.session c.serve.new.self
-    (output c.self.inside.waiting.items c.args.orders.now.items) (output c.serve.new.out.items c.serve.new.orders.items) (lend units []) numbers
-    c.serve.ensures.ok c.serve.ensures.err c.serve.ensures.idle whole range rests))
+    let range : AreInRange session.params.values = c.requires.values session here in
+    record {
+      leaves = λ given is.
+          leaves_session (λ given then_ before waiting. Ends is_serving
+          (λ failed goes_on. ServesFrame c.args.frame c.args.luns.now c.serve.new.orders.items failed goes_on given then_ before waiting) c.serve.result)
+          c.args.self.now c.self.inside.framer c.self.inside.phase before after given session then_ c.self.view_is c.in-FullFeature.is is
+          c.serve.ensures.params c.serve.ensures.grows
+          (ends_so c.serve.result is_serving
+          (λ failed goes_on. ServesFrame c.args.frame c.args.luns.now c.serve.new.orders.items failed goes_on session then_ before after)
+          (rw c.requires.fresh at c.serve.ensures.ok) (rw c.requires.fresh at c.serve.ensures.err));
+      loads = λ units numbers whole.
+          session_loads (goes_on_by c.serve.result) c.args.self.now _ session then_ here refl
+          (λ rests. subst (λ (bytes : List ℕ). Loads (goes_on_by c.serve.result) session then_ bytes after) (ap (λ (l : LinkState). l.waiting) c.self.view_is)
+          (serve_loads c.serve.result c.args.frame c.args.luns.now session then_ (output before c.args.orders.now.items)
+          (output after c.serve.new.orders.items) (lend units []) numbers c.serve.ensures.ok c.serve.ensures.err c.serve.ensures.idle whole range rests));
+    }

@@ -26,13 +26,13 @@ returns g c =
     let given = c.args.self.now in
     let after = c.lose_session.new.self in
     let k = is_called c.args.d own given after c.requires.in_range c.lose_session.ensures.count at c.lose_session.ensures.changes in
-    let l = c.lose_session.ensures.leaves at.0 at.1 in
+    let calls = c.lose_session.ensures.calls in
+    let l = calls.leaves at.0 at.1 in
     record {
       carries = loses_called c.args.function.now c.args.target c.args.c c.args.d given after k
           (ne_eqb c.args.d c.args.c (λ same. absurd (let differ = c.if-d-c.false in omega (arith, same, differ)))) l;
       stays = record {
         apart = called_apart c.args.d own given after k l;
-        moves = λ b. called_moves c.args.d own given after k l b c.requires.target (λ other. c.lose_session.ensures.eases)
-            c.lose_session.ensures.back c.lose_session.ensures.sure;
+        moves = λ b. called_moves c.args.d own given after k l b c.requires.target (λ other. calls.eases) calls.back calls.sure;
       };
     }

@@ -1,8 +1,7 @@
-use Rattle.std.proofs.Common.{length, sym, ap, ◌∙◌, subst}
+use Rattle.std.proofs.Common.{length, ap}
 use Rattle.std.proofs.lemmas.List.{length-set}
-use Rattle.scsi_unit.specs.Units.{AreSound}
-use Rattle.iscsi_target.specs.SessionCalls.{LeavesSession, LosesCommands}
-use Rattle.iscsi_target.specs.Machine.{LinkState, Machine}
+use Rattle.iscsi_target.specs.SessionCalls.{LosesInSession}
+use Rattle.iscsi_target.specs.Machine.{Machine}
 use Rattle.iscsi_target.proofs.Lending.{lent_was, lent_is, units_were, units_are, lent_holds, lent_so}
 use Rattle.iscsi_target.proofs.target.Target.lose_session.Goals as goal
 
@@ -12,25 +11,16 @@ invariant_of-self g c =
     lent_holds c.self.inside.connections units _ _ c.args.d _ _ c.lose.new.self c.requires.in_range c.self.invariant c.at_mut-connection.ensures.value
     (length-set units c.args.target c.lose.new.units) (c.lose.ensures.within (length units))
 
-pub returns-clause-leaves : goal.returns-clause-leaves
-returns-clause-leaves g c = λ session is.
-    (let links = c.self.inside.connections in
+pub returns-clause-calls : goal.returns-clause-calls
+returns-clause-calls g c =
+    let links = c.self.inside.connections in
     let all = c.self.inside.units.items in
     let machine = c.args.self.now in
     let units = ap (λ (m : Machine). m.units) c.self.view_is in
-    let was = lent_was links machine c.args.d _ _ c.self.invariant.0 c.requires.in_range c.at_mut-connection.ensures.value
-    (ap (λ (m : Machine). m.links) c.self.view_is) in
-    lent_so (λ old new units after. LeavesSession (λ then_ waiting.
-    LosesCommands c.args.function.now units after session then_ old.waiting waiting) session old new) _ _ _ _ _ _ _ _ was
+    lent_so (λ old new units after. LosesInSession c.args.function.now units after old new) _ _ _ _ _ _ _ _
+    (lent_was links machine c.args.d _ _ c.self.invariant.0 c.requires.in_range c.at_mut-connection.ensures.value
+    (ap (λ (m : Machine). m.links) c.self.view_is))
     (lent_is links c.args.d c.lose.new.self c.self.invariant.0 c.requires.in_range)
     (units_were all machine c.args.target _ _ c.requires.target units c.index_mut-units.ensures.value)
     (units_are all machine c.args.target c.lose.new.units c.requires.target units)
-    (c.lose.ensures.leaves session (ap (λ (l : LinkState). l.phase) was ∙ is)))
-
-pub returns-clause-back : goal.returns-clause-back
-returns-clause-back g c = λ sound.
-    (let all = c.self.inside.units.items in
-    let machine = c.args.self.now in
-    let units = ap (λ (m : Machine). m.units) c.self.view_is in
-    subst AreSound (units_were all machine c.args.target _ _ c.requires.target units c.index_mut-units.ensures.value)
-    (c.lose.ensures.back (subst AreSound (sym (units_are all machine c.args.target c.lose.new.units c.requires.target units)) sound)))
+    c.lose.ensures.calls

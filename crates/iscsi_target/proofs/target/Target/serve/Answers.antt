@@ -41,7 +41,7 @@ returns g c =
     let at = session_in (link_at given c.args.c).phase c.requires.session in
     let k = is_called c.args.c own given middle c.requires.in_range call.ensures.count (at.0, at.1, at.2 ∙ sym c.target_at-target.ensures)
     (link_only given middle c.args.c own call.ensures.changes) in
-    let l = call.ensures.leaves at.0 at.1 in
+    let l = call.ensures.calls.leaves at.0 at.1 in
     let units : middle.units ≡ given.units = ap (λ (m : Machine). m.units) call.ensures.changes in
     let first : Preserves c.args.c failed given ended = ended_moves c.args.c own given middle k l call.result c.args.c failed ended
     c.end_unless-served.ensures.value c.end_unless-served.ensures.same
@@ -64,6 +64,6 @@ returns g c =
           (ended_called_apart c.args.c own given middle k l call.result target ended (same target with_) c.end_unless-served.ensures.same)
           (rest.apart target (same target with_));
       loads = λ whole. adds_then 1 0 (link_at given c.args.c) (link_at ended c.args.c) (link_at after c.args.c)
-          (ended_adds c.args.c own given middle k l call.result 1 ended c.end_unless-served.ensures.same (call.ensures.loads whole))
+          (ended_adds c.args.c own given middle k l call.result 1 ended c.end_unless-served.ensures.same (call.ensures.calls.loads (units_at own given.units) refl whole))
           ((rest.moves (suc c.args.c)).eases c.args.c (apart_next c.args.c));
     }

@@ -21,12 +21,13 @@ returns g c =
     let after = c.end_unless.new.self in
     let starved = first_starved c.end_unless.result in
     let k = is_called c.args.c own given middle c.requires.in_range call.ensures.count at call.ensures.changes in
-    let l = call.ensures.leaves at.0 at.1 in
+    let calls = call.ensures.calls in
+    let l = calls.leaves at.0 at.1 in
     record {
       settles = settles_called call.result c.args.c c.args.target given middle after k starved l c.end_unless.ensures.value c.end_unless.ensures.same;
       stays = record {
         apart = λ t same. ended_called_apart c.args.c own given middle k l call.result t after same c.end_unless.ensures.same;
         moves = λ b. ended_moves c.args.c own given middle k l call.result b starved after c.end_unless.ensures.value c.end_unless.ensures.same
-            (called_moves c.args.c own given middle k l b c.requires.target (λ other. call.ensures.eases) call.ensures.back call.ensures.sure);
+            (called_moves c.args.c own given middle k l b c.requires.target (λ other. calls.eases) calls.back calls.sure);
       };
     }

@@ -1,9 +1,7 @@
-use Rattle.std.proofs.Common.{length, sym, ap, ◌∙◌, subst}
+use Rattle.std.proofs.Common.{length, ap}
 use Rattle.std.proofs.lemmas.List.{length-set}
-use Rattle.scsi_unit.specs.Units.{AreSound}
-use Rattle.iscsi_session.specs.Steps.{is_doing}
-use Rattle.iscsi_target.specs.SessionCalls.{LeavesSession, Ends, SettlesUnits}
-use Rattle.iscsi_target.specs.Machine.{LinkState, Machine}
+use Rattle.iscsi_target.specs.SessionCalls.{SettlesSession}
+use Rattle.iscsi_target.specs.Machine.{Machine}
 use Rattle.iscsi_target.proofs.Lending.{lent_was, lent_is, units_were, units_are, lent_holds, lent_so}
 use Rattle.iscsi_target.proofs.target.Target.settle_session.Goals as goal
 
@@ -13,25 +11,16 @@ invariant_of-self g c =
     lent_holds c.self.inside.connections units _ _ c.args.c _ _ c.settle.new.self c.requires.in_range c.self.invariant c.at_mut-connection.ensures.value
     (length-set units c.args.target c.settle.new.units) (c.settle.ensures.within (length units))
 
-pub returns-clause-leaves : goal.returns-clause-leaves
-returns-clause-leaves g c = λ session is.
-    (let links = c.self.inside.connections in
+pub returns-clause-calls : goal.returns-clause-calls
+returns-clause-calls g c =
+    let links = c.self.inside.connections in
     let all = c.self.inside.units.items in
     let machine = c.args.self.now in
     let units = ap (λ (m : Machine). m.units) c.self.view_is in
-    let was = lent_was links machine c.args.c _ _ c.self.invariant.0 c.requires.in_range c.at_mut-connection.ensures.value
-    (ap (λ (m : Machine). m.links) c.self.view_is) in
-    lent_so (λ old new units after. LeavesSession (λ then_ waiting. Ends is_doing (λ failed goes_on.
-    SettlesUnits units after failed goes_on session then_ old.waiting waiting) c.settle.result) session old new) _ _ _ _ _ _ _ _ was
+    lent_so (λ old new units after. SettlesSession c.settle.result units after old new) _ _ _ _ _ _ _ _
+    (lent_was links machine c.args.c _ _ c.self.invariant.0 c.requires.in_range c.at_mut-connection.ensures.value
+    (ap (λ (m : Machine). m.links) c.self.view_is))
     (lent_is links c.args.c c.settle.new.self c.self.invariant.0 c.requires.in_range)
     (units_were all machine c.args.target _ _ c.requires.target units c.index_mut-units.ensures.value)
     (units_are all machine c.args.target c.settle.new.units c.requires.target units)
-    (c.settle.ensures.leaves session (ap (λ (l : LinkState). l.phase) was ∙ is)))
-
-pub returns-clause-back : goal.returns-clause-back
-returns-clause-back g c = λ sound.
-    (let all = c.self.inside.units.items in
-    let machine = c.args.self.now in
-    let units = ap (λ (m : Machine). m.units) c.self.view_is in
-    subst AreSound (units_were all machine c.args.target _ _ c.requires.target units c.index_mut-units.ensures.value)
-    (c.settle.ensures.back (subst AreSound (sym (units_are all machine c.args.target c.settle.new.units c.requires.target units)) sound)))
+    c.settle.ensures.calls
