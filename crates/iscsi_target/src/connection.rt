@@ -1,8 +1,8 @@
 //! One connection: its bytes, its phase and its output that is still to be sent.
 
-ghost use Rattle.std.specs.Prelude.{◌≡◌, ◌<◌, ◌≤◌, ◌++◌, ◌∷◌, None, true, false, length, take, nat_lt, IfOk, IfSome, IfNone, OnOk, OnErr};
+ghost use Rattle.std.specs.Prelude.{◌≡◌, ◌<◌, ◌≤◌, ◌++◌, [], None, true, length, take, nat_lt, IfOk, IfSome, IfNone, OnOk, OnErr};
 ghost use Rattle.std.specs.Result.{IsErrOf};
-ghost use Rattle.iscsi_pdu.specs.Frames.{frames, rest, has_frame, is_long, wanted};
+ghost use Rattle.iscsi_pdu.specs.Frames.{has_frame, is_long, wanted};
 ghost use Rattle.iscsi_pdu.specs.Answer.{spelling};
 ghost use Rattle.iscsi_outbox.specs.Offered.{EndsPdu};
 ghost use Rattle.scsi_unit.specs.Units.{join as join_units};
@@ -10,7 +10,8 @@ ghost use Rattle.iscsi_login.specs.Values.{AreInRange};
 ghost use Rattle.iscsi_login.specs.Lookup.{lookup_in};
 ghost use Rattle.iscsi_login.specs.LoginState.{LoginState, IsTargetBelow};
 ghost use Rattle.iscsi_login.specs.Login.{advanced, reply_of};
-ghost use Rattle.iscsi_target.specs.Machine.{LinkState, is_reading, is_logging_in, session_in_phase, free_link, opened_link, shut_link, begun_link, IsAnswered, IsWithin, sent_link, is_settled, is_silent, most_waiting};
+ghost use Rattle.iscsi_target.specs.History.{arrivals};
+ghost use Rattle.iscsi_target.specs.Machine.{LinkState, is_reading, is_logging_in, session_in_phase, free_link, opened_link, shut_link, begun_link, GivesFrame, IsAnswered, IsWithin, sent_link, is_settled, is_silent, most_waiting};
 ghost use Rattle.iscsi_target.specs.declared.phase.Phase.TheVariants.{Login as UnderWay};
 
 use crate::phase::Phase;
@@ -42,7 +43,8 @@ pub(crate) struct Connection {
 
 impl Model for Connection {
     ghost use Rattle.std.specs.Prelude.{[], if◌then◌else◌};
-    ghost use Rattle.iscsi_target.specs.Machine.{LinkState, is_reading};
+    ghost use Rattle.iscsi_target.specs.History.{arrivals};
+ghost use Rattle.iscsi_target.specs.Machine.{LinkState, is_reading};
 
     ghost Value = { LinkState };
 
@@ -96,12 +98,9 @@ impl Connection {
     /// Takes the first whole frame from the front of the bytes. Returns `None` if no frame is whole yet.
     pub(crate) fn next_frame(&mut self) -> Result<Option<Frame>, PduFault>
         requires { is_reading self.old.phase ≡ true }
-        ensures given { IfOk result (λ o. IfSome o (λ f. frames self.old.half ≡ f ∷ frames self.new.half)) }
-        ensures rest { IfOk result (λ o. IfSome o (λ _. rest self.new.half ≡ rest self.old.half)) }
-        ensures shorter { IfOk result (λ o. IfSome o (λ _. length self.new.half < length self.old.half)) }
-        ensures same { IfOk result (λ o. IfSome o (λ _. self.new ≡ record self.old { half = self.new.half })) }
-        ensures none { IfOk result (λ o. IfNone o (has_frame self.old.half ≡ false)) }
-        ensures not_long { IfOk result (λ o. IfNone o (is_long self.old.half ≡ false)) }
+        ensures given { IfOk result (λ o. IfSome o (λ f. GivesFrame f self.old.half self.new.half)) }
+        ensures same { self.new ≡ record self.old { half = self.new.half } }
+        ensures none { IfOk result (λ o. IfNone o (arrivals self.old.half ≡ [])) }
         ensures waits { IfOk result (λ o. IfNone o (self.new ≡ self.old)) }
         ensures too_long { IsErrOf result PduFault.TooLong → is_long self.old.half ≡ true }
         ensures memory { IsErrOf result PduFault.Memory → has_frame self.old.half ≡ true }

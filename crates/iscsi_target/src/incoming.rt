@@ -75,9 +75,8 @@ impl<S: Store> Target<S> {
         requires in_range { c < 64 }
         requires reads { is_reading (link_at self.old c).phase ≡ true }
         ensures given { IfOk result (λ o. IfSome o (λ f. GivesFrame f (link_at self.old c).half (link_at self.new c).half)) }
-        ensures same { IfOk result (λ o. IfSome o (λ _. self.new ≡ with_link self.old c (record (link_at self.old c) { half = (link_at self.new c).half }))) }
-        ensures none { IfOk result (λ o. IfNone o (has_frame (link_at self.old c).half ≡ false)) }
-        ensures not_long { IfOk result (λ o. IfNone o (is_long (link_at self.old c).half ≡ false)) }
+        ensures same { self.new ≡ with_link self.old c (record (link_at self.old c) { half = (link_at self.new c).half }) }
+        ensures none { IfOk result (λ o. IfNone o (arrivals (link_at self.old c).half ≡ [])) }
         ensures waits { IfOk result (λ o. IfNone o (self.new ≡ self.old)) }
         ensures too_long { IsErrOf result PduFault.TooLong → is_long (link_at self.old c).half ≡ true }
         ensures memory { IsErrOf result PduFault.Memory → has_frame (link_at self.old c).half ≡ true }

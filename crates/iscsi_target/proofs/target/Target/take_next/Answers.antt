@@ -1,23 +1,18 @@
 use Rattle.std.proofs.Common.{refl, sym, ap, ◌∙◌}
 use Rattle.iscsi_target.specs.Machine.{Machine, link_at, closed, GivesFrame}
-use Rattle.iscsi_target.proofs.Taking.{none_whole, halved_reads, takes_frame, takes_long, takes_none, takes_as}
+use Rattle.iscsi_target.proofs.Taking.{halved_reads, takes_frame, takes_long, takes_none, takes_as}
 use Rattle.iscsi_target.proofs.target.Target.take_next.Goals as goal
 
 pub take_frame-requires-clause-reads : goal.take_frame-requires-clause-reads
 take_frame-requires-clause-reads g c = halved_reads c.args.self.now c.next_frame.new.self c.args.c _ c.requires.in_range c.next_frame.ensures.count
-    (rw c.in-Ok-Some.field-0-is at c.in-Ok-Some.ensures.same) c.requires.reads
+    c.next_frame.ensures.same c.requires.reads
 
 pub returns-in-Ok-Some-clause-takes : goal.returns-in-Ok-Some-clause-takes
 returns-in-Ok-Some-clause-takes g c =
     let gives : GivesFrame c.in-Ok-Some.frame _ _ = rw c.in-Ok-Some.field-0-is at c.in-Ok-Some.ensures.given in
     takes_frame c.args.self.now c.next_frame.new.self c.take_frame.new.self c.args.c c.in-Ok-Some.frame _ c.requires.in_range
     c.next_frame.ensures.count c.requires.reads gives
-    (rw c.in-Ok-Some.field-0-is at c.in-Ok-Some.ensures.same) c.take_frame.ensures
-
-pub returns-in-Ok-None-clause-whole : goal.returns-in-Ok-None-clause-whole
-returns-in-Ok-None-clause-whole g c =
-    none_whole (link_at c.args.self.now c.args.c).half (rw c.in-Ok-None.field-0-is at c.in-Ok-None.ensures.none)
-    (rw c.in-Ok-None.field-0-is at c.in-Ok-None.ensures.not_long)
+    c.next_frame.ensures.same c.take_frame.ensures
 
 pub returns-in-Err-TooLong-clause-takes : goal.returns-in-Err-TooLong-clause-takes
 returns-in-Err-TooLong-clause-takes g c =
