@@ -122,7 +122,6 @@ impl<S: Store> Target<S> {
         ensures feeds { Feeds c self.old self.new }
         ensures part { KeepsPart c self.old self.new }
         ensures closing { IfErr result (λ starved. is_closing (link_at self.new starved.connection).phase ≡ true) }
-        ensures open { (d : ℕ) → is_open_at self.new d ≡ is_open_at self.old d }
 
         // If no more comes than is wanted, no connection makes the target hold more than it may.
         ensures bounded { length piece.now ≤ want_of (link_at self.old c) → Bounded self.old → Bounded self.new }

@@ -45,7 +45,7 @@ returns-in_ok-feed-in-Bytes g c =
       through = λ s before es r. rw is (bytes_through s machine c.feed.new.self rows before es c.in-Bytes.c piece r fed.each
           (λ sent h at. fed.came s sent h at));
       sure = fed.sure;
-      «open» = λ before open_. rw is (fed_tracks machine c.feed.new.self before fed.«open» open_);
+      «open» = λ before open_. rw is (fed_tracks machine c.feed.new.self before fed.feeds.opens open_);
     }
 
 pub returns-in_ok-end-in-Gone : goal.returns-in_ok-end-in-Gone

@@ -66,7 +66,6 @@ returns-in-Err g c =
       part = part_as at machine _ new same (part_closed machine at lt);
       closing = ap (λ k. is_closing (link_at new k).phase) c.starve.ensures.names
           ∙ ap (λ (m : Machine). is_closing (link_at m at).phase) same ∙ closed_closing machine at lt;
-      «open» = feeds.opens;
       bounded = λ le bounded. bounded_as (closed machine at) new same (closed_bounded machine at lt bounded);
       empty = search rules;
       idle = search rules;
