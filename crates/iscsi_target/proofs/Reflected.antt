@@ -1,5 +1,5 @@
 -- A target is sound before a call if it is sound after it and each of its targets was so.
-use Rattle.std.proofs.Common.{ℕ, zero, suc, List, [], ◌∷◌, get_or, subst, arith}
+use Rattle.std.proofs.Common.{ℕ, zero, suc, List, [], ◌∷◌, subst, arith}
 use Rattle.std.specs.Prelude.{All, slice_index_or}
 use Rattle.std.proofs.lemmas.List.{get_or_default}
 use Rattle.scsi_unit.specs.Units.{UnitStates, AreSound}

@@ -1,5 +1,5 @@
 -- What waits on a connection is sent in parts.
-use Rattle.std.proofs.Common.{◌≡◌, ℕ, ◌+◌, ◌<◌, List, length, drop, set, get_or, take, Option, ap, sym, ◌∙◌, subst, arith, ◌≤◌, set-set, drop-drop, get_or-set_same}
+use Rattle.std.proofs.Common.{◌≡◌, ℕ, ◌+◌, ◌<◌, List, length, set, get_or, take, Option, ap, sym, ◌∙◌, subst, arith, ◌≤◌, set-set, drop-drop, get_or-set_same}
 use Rattle.std.proofs.lemmas.List.{set-get_or, length-drop, length-take}
 use Rattle.std.specs.Prelude.{All}
 use Rattle.scsi_unit.specs.Units.{UnitStates}

@@ -43,8 +43,7 @@ pub(crate) struct Connection {
 
 impl Model for Connection {
     ghost use Rattle.std.specs.Prelude.{[], if◌then◌else◌};
-    ghost use Rattle.iscsi_target.specs.History.{arrivals};
-ghost use Rattle.iscsi_target.specs.Machine.{LinkState, is_reading};
+    ghost use Rattle.iscsi_target.specs.Machine.{LinkState, is_reading};
 
     ghost Value = { LinkState };
 

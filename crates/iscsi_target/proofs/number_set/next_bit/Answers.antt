@@ -1,4 +1,4 @@
-use Rattle.std.proofs.Common.{◌≡◌, ℕ, ◌/◌, ◌^◌, ◌<◌, arith}
+use Rattle.std.proofs.Common.{◌/◌, ◌^◌, ◌<◌, arith}
 use Rattle.iscsi_target.proofs.NumberSet.{none_behind, none_before, found_within}
 use Rattle.iscsi_target.proofs.number_set.next_bit.Goals as goal
 

@@ -1,4 +1,4 @@
-use Rattle.std.proofs.Common.{◌≡◌, ◌<◌, ◌∷◌, ◌∙◌, List, [], ℕ, length, drop, true, false, Option, Some, None, Result, Ok, IfOk, sym, ap}
+use Rattle.std.proofs.Common.{◌≡◌, ◌∷◌, ◌∙◌, List, [], ℕ, drop, true, false, Option, Some, None, Result, Ok, IfOk, sym, ap}
 use Rattle.std.specs.Prelude.{IfSome, IfNone}
 use Rattle.iscsi_pdu.specs.Frames.{Frame, frames, rest, has_frame, is_long, frame_length}
 use Rattle.iscsi_pdu.specs.declared.fault.PduFault.{PduFault}

@@ -1,5 +1,5 @@
-use Rattle.std.proofs.Common.{◌≡◌, ℕ, ◌<◌, ◌≤◌, List, Bool, get_or, refl, sym, ap, ◌∙◌, arith, rules}
-use Rattle.iscsi_target.specs.Machine.{LinkState, free_link, is_settled, is_silent}
+use Rattle.std.proofs.Common.{List, Bool, get_or, refl, sym, ap, ◌∙◌, arith}
+use Rattle.iscsi_target.specs.Machine.{LinkState, free_link, is_settled}
 use Rattle.iscsi_target.proofs.Lending.{get_or_any}
 use Rattle.iscsi_target.proofs.Marked.{found_of_others, passed_to, passed_with}
 use Rattle.iscsi_target.proofs.connections.Connections.next_unsettled.Goals as goal

@@ -1,5 +1,4 @@
-use Rattle.std.proofs.Common.{◌≡◌, ◌+◌, ◌≤◌, ℕ, length}
-use Rattle.iscsi_target.specs.Machine.{link_at}
+use Rattle.std.proofs.Common.{◌≡◌, ◌+◌, ℕ}
 use Rattle.iscsi_target.proofs.Sent.{with_part}
 use Rattle.iscsi_target.proofs.target.Target.advance.Given as goal
 

@@ -1,5 +1,5 @@
 use Rattle.std.proofs.Common.{refl, sym, ap, ◌∙◌}
-use Rattle.iscsi_target.specs.Machine.{Machine, link_at, closed, GivesFrame}
+use Rattle.iscsi_target.specs.Machine.{Machine, closed, GivesFrame}
 use Rattle.iscsi_target.proofs.Taking.{halved_reads, takes_frame, takes_long, takes_none, takes_as}
 use Rattle.iscsi_target.proofs.target.Target.take_next.Goals as goal
 
