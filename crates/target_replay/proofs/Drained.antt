@@ -1,7 +1,7 @@
 -- What waits on a connection is taken front by front.
 use Rattle.std.proofs.Common.{◌≡◌, ℕ, zero, suc, ◌+◌, ◌<◌, ◌≤◌, List, [], ◌∷◌, ◌++◌, length, take, drop, set, get_or, Bool, true, not, refl, sym, ap, ◌∙◌, subst, inl, inr, arith, append_assoc, append-nil}
 use Rattle.std.proofs.lemmas.Bool.Decides.{eqb_tells}
-use Rattle.std.proofs.lemmas.List.{take-append-drop, length-append, length-drop}
+use Rattle.std.proofs.lemmas.List.{take-append-drop, length-drop}
 use Rattle.iscsi_target.specs.History.{History, connection_limit}
 use Rattle.iscsi_target.specs.World.{Setting, world}
 use Rattle.iscsi_target.specs.Machine.{Machine, LinkState, link_at, with_link, sent_link, is_open_at, is_free, free_link}

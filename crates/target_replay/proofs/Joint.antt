@@ -4,7 +4,7 @@ use Rattle.std.proofs.lemmas.List.{length-drop}
 use Rattle.iscsi_login.specs.Directory.{KnownTargets}
 use Rattle.iscsi_target.specs.History.{History, Gone, plain, connection_limit}
 use Rattle.iscsi_target.specs.Life.{Life, Phase, LoggingIn, FullFeature, Closing, Over}
-use Rattle.iscsi_target.specs.World.{Setting, World, present, end, world}
+use Rattle.iscsi_target.specs.World.{Setting, World, present, world}
 use Rattle.iscsi_target.specs.Output.{out_now}
 use Rattle.iscsi_target.specs.Machine.{Machine, LinkState, link_at, is_open_at, is_closing}
 use Rattle.iscsi_target.specs.Stands.{link_of, half_of, phase_for, StandsAt}

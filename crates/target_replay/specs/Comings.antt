@@ -1,5 +1,5 @@
 -- How the commands that the lines bring come out, even if stores fail.
-use Rattle.std.specs.Prelude.{◌≡◌, ℕ, List, [], ◌∷◌, All, ⊤}
+use Rattle.std.specs.Prelude.{◌≡◌, ℕ, List, [], All, ⊤}
 use Rattle.iscsi_session.specs.Comings.{Coming, IsCalm}
 use Rattle.iscsi_target.specs.Machine.{Machine, IsSound, IsSoundAt}
 

@@ -1,4 +1,4 @@
-use Rattle.std.proofs.Common.{◌≡◌, ◌∙◌, ℕ, List, ◌+◌, ◌++◌, length, refl, ap, arith, rules}
+use Rattle.std.proofs.Common.{◌≡◌, ℕ, List, ◌++◌, length, refl, ap, arith, rules}
 use Rattle.std.proofs.lemmas.List.{length-append}
 use Rattle.iscsi_target.specs.Machine.{link_at}
 use Rattle.target_replay.proofs.Drained.{drained_more, drained_open, drained_less, none_taken, none_waits, sent_then, all_taken, all_drained}
