@@ -11,7 +11,7 @@
 //!                  └──────────────────────────────────────────────────┘
 //! ```
 //!
-//! A caller with one connection, whose lines are proved as those of `src/example.rt`:
+//! One connection from its opening to its end. These lines are proved, as those of `src/example.rt`:
 //!
 //! ```rust
 //! // A failed allocation closes one connection; the others go on.
@@ -27,9 +27,9 @@
 //!
 //! Promised, and proved:
 //!
-//! - A [`Target`] answers what a plainly defined machine answers, the World of `specs/World.antt` (clauses `stands`).
-//!   This holds for every list of openings, pieces of bytes and closings on up to 64 connections. It holds as long as
-//!   the stores of its units are honest and no call of one has failed.
+//! - A [`Target`] answers what a plainly defined machine answers, the World of `specs/World.antt` (clauses `stands`,
+//!   `always`). This holds for every list of openings, pieces of bytes and closings on up to 64 connections. It holds
+//!   as long as the stores of its units are honest and no call of one has failed.
 //! - If allocations fail, each connection for which one failed closes between two steps. Each request was done and
 //!   answered whole or did nothing, and the other connections go on (`starved`).
 //! - If no allocation fails, and the stores of a target's units are sound, other connections change neither the answers
