@@ -1,5 +1,5 @@
 -- What is offered is a front of what waits.
-use Rattle.std.proofs.Common.{◌≡◌, ℕ, ◌<◌, ◌≤◌, List, [], ◌∷◌, ◌++◌, length, take, drop, suc, Bool, false, eqb, refl, sym, ap, ◌∙◌, arith, rules}
+use Rattle.std.proofs.Common.{◌≡◌, ℕ, ◌<◌, ◌≤◌, List, [], ◌∷◌, ◌++◌, length, take, drop, suc, false, eqb, refl, sym, ap, ◌∙◌, arith, rules}
 use Rattle.std.proofs.lemmas.List.{take-append-drop, length-take}
 
 pub offered_front : (offered waiting : List ℕ) → offered ≡ take (length offered) waiting → waiting ≡ offered ++ drop (length offered) waiting

@@ -1,5 +1,5 @@
 -- Connections on which nothing waits, and that are not closing, are passed over.
-use Rattle.std.proofs.Common.{◌≡◌, ℕ, zero, suc, ◌+◌, ◌-◌, ◌<◌, ◌≤◌, List, get_or, Bool, true, false, ◌||◌, ◌&&◌, refl, sym, ap, ◌∙◌, subst, inl, inr, arith}
+use Rattle.std.proofs.Common.{◌≡◌, ℕ, zero, suc, ◌+◌, ◌-◌, ◌<◌, ◌≤◌, List, get_or, Bool, true, false, ◌||◌, ◌&&◌, refl, sym, ap, subst, inl, inr, arith}
 use Rattle.std.proofs.lemmas.Bool.{cases_lt}
 use Rattle.std.specs.List.{range_with_len}
 use Rattle.iscsi_target.specs.Machine.{Machine, link_at, is_open_at, is_silent}

@@ -1,4 +1,4 @@
-use Rattle.std.proofs.Common.{◌≡◌, ℕ, ◌≤◌, get_or, false, sym, ◌∙◌, arith}
+use Rattle.std.proofs.Common.{sym, ◌∙◌, arith}
 use Rattle.iscsi_serve.specs.Turn.{Writes}
 use Rattle.iscsi_serve.proofs.Closing.{none_first, none_next}
 use Rattle.iscsi_serve.proofs.Keeping.{none_does, one_more_does}

@@ -1,8 +1,8 @@
-use Rattle.std.proofs.Common.{◌≡◌, ◌<◌, ◌∙◌, length, sym, refl, rules, inl, inr, arith}
+use Rattle.std.proofs.Common.{◌≡◌, ◌<◌, length, refl, rules, inl, inr, arith}
 use Rattle.iscsi_ports.specs.Log.{Wrote, Fault, End}
 use Rattle.iscsi_serve.specs.Served.{MayHappen, MayComeOut}
 use Rattle.iscsi_serve.proofs.Closing.{open_sent, sent_none, others_same, others_sent, others_ended}
-use Rattle.iscsi_serve.proofs.Fronts.{none_offered, offered_within}
+use Rattle.iscsi_serve.proofs.Fronts.{none_offered}
 use Rattle.iscsi_serve.proofs.Goings.{empty_write, write_some, write_ended}
 use Rattle.iscsi_serve.proofs.Keeping.{keeps_same, keeps_told, write_stays, nothing_stays}
 use Rattle.iscsi_serve.proofs.serving.write_open.Goals as goal
