@@ -192,17 +192,13 @@ reset_does machine header target = does_nothing is_of_none (λ s marks place w. 
     (λ s sent half w place marks agree h. (reset_serves s sent half w machine header target h, comings_reset header target w))
 
 reset_moves : (b : ℕ) (machine : Machine) (header : List ℕ) (target : ℕ) → Preserves b None machine (reset_machine header target machine)
-reset_moves b machine header target =
-    let a = alters_same b machine (reset_machine header target machine) refl in
-    record {
-      back = reset_back header target machine;
-      sure = reset_sure header target machine;
-      feeds = a.feeds;
-      closing = tt;
-      units = reset_units header target machine;
-      keeps = a.keeps;
-      eases = a.eases;
-    }
+reset_moves b machine header target = record {
+  alters = alters_same b machine (reset_machine header target machine) refl;
+  back = reset_back header target machine;
+  sure = reset_sure header target machine;
+  closing = tt;
+  units = reset_units header target machine;
+}
 
 reset_apart : (machine : Machine) (header : List ℕ) (target t : ℕ) → is_same_target (Some target) (Some t) ≡ true
     → KeepsApart t machine (reset_machine header target machine)

@@ -16,7 +16,7 @@ use Rattle.iscsi_login.specs.declared.reply.Reply.TheVariants.{GoOn, Full, Refus
 use Rattle.iscsi_target.specs.World.{left, units_at, with_units, changed_units, lookup_for}
 use Rattle.iscsi_target.specs.Machine.{LinkState, Machine, IsSure, Feeds, link_at, with_link, is_free, is_reading, is_closing, free_link, shut_link, closed, session_in_phase, sessions, is_logging_in, gone_on_link, refused_link, begun_link, shut_older, replied, logged_in, ReflectsSoundness}
 use Rattle.iscsi_target.specs.Bounded.{AddsAtMost}
-use Rattle.iscsi_target.specs.Serving.{KeepsHalf, Preserves, IsClosed, first_of, first_starved, ended_unless}
+use Rattle.iscsi_target.specs.Serving.{KeepsHalf, Alters, Preserves, IsClosed, first_of, first_starved, ended_unless}
 use Rattle.iscsi_target.specs.declared.fault.Starved.{Starved}
 use Rattle.iscsi_target.specs.declared.phase.Phase.{Phase}
 use Rattle.iscsi_target.specs.declared.phase.Phase.TheVariants as phases
@@ -27,12 +27,6 @@ use Rattle.iscsi_target.proofs.Sound.{set_back, sure_set, closed_back, closed_su
 
 pub keeps_same : (link : LinkState) → is_reading link.phase ≡ true → KeepsHalf link.half link
 keeps_same link r = record { reading = λ e. refl; idle = λ e. absurd (cc (r, e)) }
-
--- what is done for a connection, but for what it makes of units
-pub record Alters (b : ℕ) (given after : Machine) : Type 0 where
-  pub feeds : Feeds b given after
-  pub keeps : (c : ℕ) → is_reading (link_at given c).phase ≡ true → KeepsHalf (link_at given c).half (link_at after c)
-  pub eases : (d : ℕ) → d ≢ b → AddsAtMost 0 (link_at given d) (link_at after d)
 
 -- the same connections
 pub alters_same : (b : ℕ) (given after : Machine) → after.links ≡ given.links → Alters b given after
@@ -49,8 +43,7 @@ alters_same b given after same = subst (λ (links : List LinkState). Alters b gi
 
 pub moves_none : (b : ℕ) (machine : Machine) → Preserves b None machine machine
 moves_none b machine =
-    let a = alters_same b machine machine refl in
-    record { back = λ target sound. sound; sure = λ sure. sure; feeds = a.feeds; closing = tt; units = refl; keeps = a.keeps; eases = a.eases }
+    record { alters = alters_same b machine machine refl; back = λ target sound. sound; sure = λ sure. sure; closing = tt; units = refl }
 
 pub keeps_by : (b : Bool) (half : List ℕ) (now after : LinkState) → is_reading now.phase ≡ b → KeepsHalf half now
     → (is_reading now.phase ≡ true → KeepsHalf now.half after) → (is_reading now.phase ≡ false → after ≡ now) → KeepsHalf half after
@@ -91,22 +84,15 @@ alters_then k given now after a b = record {
   eases = λ d other. adds_then 0 0 (link_at given d) (link_at now d) (link_at after d) (a.eases d other) (b.eases d other);
 }
 
-alters_of : (b : ℕ) (x : Option ℕ) (given after : Machine) → Preserves b x given after → Alters b given after
-alters_of b x given after m = record { feeds = m.feeds; keeps = m.keeps; eases = m.eases }
-
 pub moves_then : (b : ℕ) (x y : Option ℕ) (given now after : Machine) → Preserves b x given now → Preserves b y now after → Preserves b
     (first_of x y) given after
-moves_then k x y given now after a b =
-    let both = alters_then k given now after (alters_of k x given now a) (alters_of k y now after b) in
-    record {
-      back = λ target sound. a.back target (b.back target sound);
-      sure = λ sure. b.sure (a.sure sure);
-      feeds = both.feeds;
-      closing = closed_then x y k now after a.closing b.feeds b.closing;
-      units = b.units ∙ a.units;
-      keeps = both.keeps;
-      eases = both.eases;
-    }
+moves_then k x y given now after a b = record {
+  alters = alters_then k given now after a.alters b.alters;
+  back = λ target sound. a.back target (b.back target sound);
+  sure = λ sure. b.sure (a.sure sure);
+  closing = closed_then x y k now after a.closing b.alters.feeds b.closing;
+  units = b.units ∙ a.units;
+}
 
 pub moves_as : (b : ℕ) (x : Option ℕ) (given now after : Machine) → after ≡ now → Preserves b x given now → Preserves b x given after
 moves_as b x given now after e m = let P : Machine → Type 0 = λ after. Preserves b x given after in subst P (sym e) m
@@ -190,8 +176,7 @@ pub changes_moves : (b : ℕ) (machine : Machine) (units : List UnitStates) (c :
     → let after : Machine = record (with_link machine c link) { units = units } in ReflectsSoundness machine after
     → (IsSure machine → IsSure after) → Preserves b None machine after
 changes_moves b machine units c link lt ch own half count light back sure =
-    let a = changes_alters b machine units c link lt ch own half light in
-    record { back = back; sure = sure; units = count; feeds = a.feeds; closing = tt; keeps = a.keeps; eases = a.eases }
+    record { alters = changes_alters b machine units c link lt ch own half light; back = back; sure = sure; closing = tt; units = count }
 
 -- ---- a connection closes
 
@@ -219,17 +204,13 @@ closed_closing machine c lt = ap (λ (l : LinkState). is_closing l.phase) (get_o
 closed_when : (x : Option ℕ) (b : ℕ) (machine : Machine) (c : ℕ) → c < length machine.links → is_reading (link_at machine c).phase ≡ true
     → IsOwn b machine c → IsClosed x (closed machine c)
     → Preserves b x machine (closed machine c)
-closed_when x b machine c lt r own closing =
-    let a = closed_alters b machine c lt r own in
-    record {
-      back = closed_back machine c;
-      sure = λ sure. closed_sure machine c sure;
-      feeds = a.feeds;
-      closing = closing;
-      units = closed_units machine c;
-      keeps = a.keeps;
-      eases = a.eases;
-    }
+closed_when x b machine c lt r own closing = record {
+  alters = closed_alters b machine c lt r own;
+  back = closed_back machine c;
+  sure = λ sure. closed_sure machine c sure;
+  closing = closing;
+  units = closed_units machine c;
+}
 
 pub closed_moves : (b : ℕ) (machine : Machine) (c : ℕ) → c < length machine.links → is_reading (link_at machine c).phase ≡ true → IsOwn b machine c
     → Preserves b None machine (closed machine c)
@@ -346,14 +327,10 @@ logged_in_alters machine c login request lt reads =
 
 pub logged_in_moves : (machine : Machine) (c : ℕ) (login : LoginState) (request : Frame) → c < length machine.links
     → is_reading (link_at machine c).phase ≡ true → Preserves c None machine (logged_in machine c login request)
-logged_in_moves machine c login request lt reads =
-    let a = logged_in_alters machine c login request lt reads in
-    record {
-      back = logged_in_back machine c login request;
-      sure = λ sure. logged_in_sure machine c login request sure;
-      feeds = a.feeds;
-      closing = tt;
-      units = logged_in_units machine c login request;
-      keeps = a.keeps;
-      eases = a.eases;
-    }
+logged_in_moves machine c login request lt reads = record {
+  alters = logged_in_alters machine c login request lt reads;
+  back = logged_in_back machine c login request;
+  sure = λ sure. logged_in_sure machine c login request sure;
+  closing = tt;
+  units = logged_in_units machine c login request;
+}

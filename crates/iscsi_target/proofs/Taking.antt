@@ -154,7 +154,7 @@ takes_frame old given new c frame starved lt count r gives is taken =
       front = some_whole (link_at old c).half more frame gives.first gives.behind;
       behind = λ e. sym gives.behind;
       shorter = gives.shorter;
-      kept = moves.keeps c reads_given;
+      kept = moves.alters.keeps c reads_given;
       does = does_from takes takes.of_kind (λ s sent half w place marks agree ahead h.
           takes.stands s sent (with_half c more half) w place marks agree ahead
           (serves_as s sent (with_half c more half) w (with_link old c (record (link_at old c) { half = more })) given is
@@ -163,14 +163,15 @@ takes_frame old given new c frame starved lt count r gives is taken =
         back = λ target sound. subst (λ (us : List UnitStates). AreSound (slice_index_or us target [])) (ap (λ (m : Machine). m.units) is)
             (moves.back target sound);
         sure = λ sure. moves.sure (subst (λ (us : List UnitStates). All AreSure us) (sym (ap (λ (m : Machine). m.units) is)) sure);
-        feeds = feeds_then c old given new fed moves.feeds;
+        feeds = feeds_then c old given new fed moves.alters.feeds;
         closing = moves.closing;
         part = part_then c old given new reads_given (part_as c old (with_link old c (record (link_at old c) { half = more })) given is
             (part_halved old c more (omega (arith, count)))) taken.part;
         eases = λ d other. subst (λ (l : LinkState). AddsAtMost 0 l (link_at new d)) (ap (λ (m : Machine). link_at m d) is
-            ∙ link_other old old.units c d (record (link_at old c) { half = more }) other) (moves.eases d other);
+            ∙ link_other old old.units c d (record (link_at old c) { half = more }) other) (moves.alters.eases d other);
         keeps = λ d other. (let P : LinkState → Type 0 = λ l. is_reading l.phase ≡ true → KeepsHalf l.half (link_at new d) in
-            subst P (ap (λ (m : Machine). link_at m d) is ∙ link_other old old.units c d (record (link_at old c) { half = more }) other) (moves.keeps d));
+            subst P (ap (λ (m : Machine). link_at m d) is ∙ link_other old old.units c d (record (link_at old c) { half = more }) other)
+            (moves.alters.keeps d));
         loads = halved_adds 1 (link_at old c) (link_at new c) more (subst (λ (l : LinkState). AddsAtMost 1 l (link_at new c)) link loads);
       };
     }
@@ -181,12 +182,12 @@ closes_leaves : (c : ℕ) (starved : Option ℕ) (old new : Machine) → c < len
 closes_leaves c starved old new lt is moves = record {
   back = moves.back;
   sure = moves.sure;
-  feeds = moves.feeds;
+  feeds = moves.alters.feeds;
   closing = moves.closing;
   part = part_as c old (closed old c) new is (part_closed old c lt);
-  eases = moves.eases;
+  eases = moves.alters.eases;
   loads = closed_loads 1 old new c lt is;
-  keeps = λ d other reads_. moves.keeps d reads_;
+  keeps = λ d other reads_. moves.alters.keeps d reads_;
 }
 
 -- a header that names too much data
@@ -275,10 +276,10 @@ begins machine c lt r = record {
   leaves = record {
     back = λ target sound. sound;
     sure = λ sure. sure;
-    feeds = (moves_none c machine).feeds;
+    feeds = (moves_none c machine).alters.feeds;
     closing = tt;
     part = part_none c machine;
-    eases = (moves_none c machine).eases;
+    eases = (moves_none c machine).alters.eases;
     loads = adds_none 0 (link_at machine c);
     keeps = λ d other reads_. keeps_same (link_at machine d) reads_;
   };

@@ -83,17 +83,21 @@ pub record KeepsHalf (half : List ℕ) (link : LinkState) : Type 0 where
   pub reading : is_reading link.phase ≡ true → link.half ≡ half
   pub idle : is_reading link.phase ≡ false → link.half ≡ []
 
--- The effect of any such call, for a connection, on every target.
-pub record Preserves (c : ℕ) (starved : Option ℕ) (given after : Machine) : Type 0 where
-  pub back : ReflectsSoundness given after
-  pub sure : IsSure given → IsSure after
+-- The effect of any such call, for a connection, on the connections of every target.
+pub record Alters (c : ℕ) (given after : Machine) : Type 0 where
   pub feeds : Feeds c given after
-  pub closing : IsClosed starved after
-  -- as many targets as before
-  pub units : length after.units ≡ length given.units
   pub keeps : (d : ℕ) → is_reading (link_at given d).phase ≡ true → KeepsHalf (link_at given d).half (link_at after d)
   -- no other connection is heavier than before
   pub eases : (d : ℕ) → d ≢ c → AddsAtMost 0 (link_at given d) (link_at after d)
+
+-- the same, and its effect on the units
+pub record Preserves (c : ℕ) (starved : Option ℕ) (given after : Machine) : Type 0 where
+  pub alters : Alters c given after
+  pub back : ReflectsSoundness given after
+  pub sure : IsSure given → IsSure after
+  pub closing : IsClosed starved after
+  -- as many targets as before
+  pub units : length after.units ≡ length given.units
 
 -- own: a call that allocates nothing sets off no step
 abbrev pub is_of_none : ℕ → Mark → Bool

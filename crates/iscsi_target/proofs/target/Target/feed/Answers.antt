@@ -53,7 +53,7 @@ returns-in-Err g c =
     let back : ReflectsSoundness machine new = λ target sound. closed_back machine at target (at_as new _ target same sound) in
     let lt : at < length machine.links = (let below = c.requires.in_range in omega (arith, c.reads.ensures.count)) in
     let reads_so : is_reading (link_at machine at).phase ≡ true = sym c.reads.ensures.value ∙ c.if-not-reads.false in
-    let feeds = (moves_as at None machine _ new same (closed_moves at machine at lt reads_so (own_self at machine))).feeds in
+    let feeds = (moves_as at None machine _ new same (closed_moves at machine at lt reads_so (own_self at machine))).alters.feeds in
     record {
       stands = tt;
       starved = λ s sent h stands sound. starved_came s sent h machine new at c.starve.result.connection c.args.piece.now c.starve.ensures.names

@@ -64,6 +64,7 @@ returns g c =
           (ended_called_apart c.args.c own given middle k l call.result target ended (same target with_) c.end_unless-served.ensures.same)
           (rest.apart target (same target with_));
       loads = λ whole. adds_then 1 0 (link_at given c.args.c) (link_at ended c.args.c) (link_at after c.args.c)
-          (ended_adds c.args.c own given middle k l call.result 1 ended c.end_unless-served.ensures.same (call.ensures.calls.loads (units_at own given.units) refl whole))
-          ((rest.moves (suc c.args.c)).eases c.args.c (apart_next c.args.c));
+          (ended_adds c.args.c own given middle k l call.result 1 ended c.end_unless-served.ensures.same
+          (call.ensures.calls.loads (units_at own given.units) refl whole))
+          ((rest.moves (suc c.args.c)).alters.eases c.args.c (apart_next c.args.c));
     }
