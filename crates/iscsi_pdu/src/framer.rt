@@ -303,7 +303,7 @@ impl Framer {
     }
 
     /// Returns the first header, if it is whole.
-    fn header(&self) -> Option<Header>
+    pub fn header(&self) -> Option<Header>
         ensures some { IfSome result (λ h. (h ≡ take header_length self.now) × (header_length ≤ length self.now)) }
         ensures none { IfNone result (length self.now < header_length) }
     {

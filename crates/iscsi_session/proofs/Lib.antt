@@ -31,3 +31,4 @@ pub mod Came
 pub mod Calm
 pub mod Runs
 mod Stages
+pub mod Needed

@@ -1,5 +1,5 @@
 -- Sessions computed from the definitions alone, with the expected numbers written by hand.
-use Rattle.std.specs.Prelude.{◌≡◌, ℕ, Option, Some, None, is_some, not, filter, filter_map, List, [], ◌∷◌, ◌++◌, ◌+◌, ◌*◌, take, drop, fold, replicate, Bool, true, false, refl}
+use Rattle.std.specs.Prelude.{◌≡◌, ℕ, Option, Some, None, is_some, not, filter, filter_map, List, [], ◌∷◌, ◌++◌, ◌+◌, take, drop, fold, replicate, Bool, true, false, refl}
 use Rattle.scsi_unit.specs.Lun.{lun_number}
 use Rattle.iscsi_pdu.specs.Frames.{Frame}
 use Rattle.iscsi_pdu.specs.declared.answer.Answer.{Answer}

@@ -10,6 +10,7 @@ pub use Rattle.iscsi_order.specs.Stat
 pub use Rattle.iscsi_transfer.specs.DataIn
 pub use Rattle.iscsi_transfer.specs.Payload
 pub use Rattle.iscsi_transfer.specs.WriteData
+pub use Rattle.iscsi_transfer.specs.Counted
 pub use Rattle.scsi_sense.specs.Done
 pub mod Requests
 pub mod Transfers
@@ -29,6 +30,7 @@ pub mod Draining
 pub mod Runs
 pub mod RequestQueue
 pub mod Weight
+pub mod Needed
 pub mod Laws
 pub mod Examples
 pub mod ExamplesAsking

@@ -1,9 +1,11 @@
 //! The data of removed SCSI Commands for which functions wait.
 
-ghost use Rattle.std.specs.Prelude.{◌≡◌, ◌++◌, ◌&&◌, ◌==◌, OnOk, OnErr};
+ghost use Rattle.std.specs.Prelude.{◌≡◌, ◌++◌, ◌&&◌, ◌==◌, ◌<◌, ◌^◌, OnOk, OnErr};
+ghost use Rattle.iscsi_transfer.specs.Counted.{brought};
 ghost use Rattle.std.specs.List.{list_any};
 ghost use Rattle.iscsi_session.specs.declared.verdict.Verdict.TheVariants.{Feeding};
 ghost use Rattle.iscsi_session.specs.Draining.{is_awaited, drained_for, awaited_in, awaits_in, is_draining, drain_with, drain_for, judged_drain, fed_drain, function_tag, lacks_for, telling_place, function_at, drains_without};
+ghost use Rattle.iscsi_session.specs.Needed.{drains_out};
 ghost use Rattle.iscsi_session.specs.State.{bears, transfers_without};
 
 use crate::abort_scope::Reach;
@@ -69,6 +71,14 @@ impl DrainedTransfer {
         self.is_draining() && self.header.initiator_task_tag() == tag
     }
 
+    /// Returns whether a Data-Out with this header and `size` bytes of data is for this data, and an R2T is open.
+    pub(crate) fn takes(&self, header: &Header, size: usize) -> bool
+        requires { size < 2 ^ 63 }
+        ensures { result ≡ drains_out (brought header.now size) self.now }
+    {
+        self.drains(header.initiator_task_tag()) && self.progress.fault_by(header, size).is_none()
+    }
+
     /// Returns whether the function with this tag waits for this data.
     fn is_for(&self, tag: u32) -> bool
         ensures { result ≡ (function_tag self.now == tag) }
@@ -85,6 +95,16 @@ impl DrainedTransfer {
 }
 
 impl Transfers {
+    /// Returns whether a Data-Out with this header and `size` bytes of data is for data that is drained.
+    pub(crate) fn drains_more(&self, header: &Header, size: usize) -> bool
+        requires { size < 2 ^ 63 }
+        ensures { result ≡ list_any (drains_out (brought header.now size)) self.now.drains }
+    {
+        self.drains
+            .iter()
+            .any(|drained| drained.takes(header, size))
+    }
+
     /// Returns where the data of the command with this tag is drained.
     pub(crate) fn drain_of(&self, tag: u32) -> Option<usize>
         ensures { result ≡ drain_with tag self.now.drains }

@@ -1,7 +1,11 @@
 //! A session in full feature phase.
 
-ghost use Rattle.std.specs.Prelude.{◌≡◌, ◌∷◌, List, [], drop, true, IfSome, IfNone};
+ghost use Rattle.std.specs.Prelude.{◌≡◌, ◌≤◌, ◌∷◌, List, [], drop, true, IfSome, IfNone};
+ghost use Rattle.iscsi_pdu.specs.Header.{data_length};
+ghost use Rattle.iscsi_pdu.specs.Segment.{most_data};
 ghost use Rattle.iscsi_pdu.specs.declared.answer.Answer.{Answer};
+ghost use Rattle.iscsi_transfer.specs.Counted.{brought};
+ghost use Rattle.iscsi_session.specs.Needed.{is_needed};
 ghost use Rattle.iscsi_session.specs.Requests.{Past, begun, bearing, stamp, answering};
 ghost use Rattle.iscsi_session.specs.State.{remembered, Stands, whole_at, place_for, is_waiting};
 
@@ -11,7 +15,7 @@ use crate::transfers::Transfers;
 use iscsi_exchange::Exchange;
 use iscsi_login::SessionParams;
 use iscsi_order::Stat;
-use iscsi_pdu::{Frame, Stamp};
+use iscsi_pdu::{Frame, Header, Stamp};
 use std::alloc::Global;
 use std::marker::Model;
 use target_limits::Memory;
@@ -120,5 +124,14 @@ impl Session {
         } else {
             None
         }
+    }
+
+    /// Returns whether the data of a Data-Out with this header is needed: a command that is not finished takes it, or one
+    /// whose data is drained. Of any other Data-Out the header and the length of its data decide all (RFC 7143 §11.7).
+    pub fn needs(&self, header: &Header) -> bool
+        requires { data_length header.now ≤ most_data }
+        ensures { (past : Past) → Stands past self.now → result ≡ is_needed past (brought header.now (data_length header.now)) }
+    {
+        self.transfers.needs(header, header.data_length())
     }
 }

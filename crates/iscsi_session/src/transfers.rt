@@ -1,12 +1,15 @@
 //! The data that the initiator sends for the SCSI Commands of a session.
 
-ghost use Rattle.std.specs.Prelude.{◌≡◌, ◌++◌, ◌∷◌, List, [], None, OnOk, OnErr};
+ghost use Rattle.std.specs.Prelude.{◌≡◌, ◌++◌, ◌∷◌, ◌<◌, ◌^◌, List, [], None, OnOk, OnErr};
+ghost use Rattle.std.specs.List.{list_any};
 ghost use Rattle.iscsi_login.specs.Values.{AreInRange};
+ghost use Rattle.iscsi_transfer.specs.Counted.{brought};
 ghost use Rattle.iscsi_transfer.specs.Payload.{begun};
 ghost use Rattle.iscsi_transfer.specs.WriteData.{command_fault, remembered as task_of};
 ghost use Rattle.iscsi_session.specs.declared.transfers.Transfer.{Transfer};
 ghost use Rattle.iscsi_session.specs.declared.verdict.Verdict.TheVariants.{Feeding};
 ghost use Rattle.iscsi_session.specs.Draining.{judged_in, fed_in, is_live_in};
+ghost use Rattle.iscsi_session.specs.Needed.{takes_out, needs_in};
 ghost use Rattle.iscsi_session.specs.State.{no_transfers, place_with, immediate_transfers, whole_at, payload_at, removed_at, begun_transfer, reaches_some, transfers_without};
 
 use crate::abort_scope::Reach;
@@ -28,6 +31,17 @@ pub(crate) struct Transfer {
     pub(crate) header: Header,
     /// Its data so far, and how far that has come.
     pub(crate) task: WriteData,
+}
+
+impl Transfer {
+    /// Returns whether the command takes a Data-Out with this header and `size` bytes of data.
+    pub(crate) fn takes(&self, header: &Header, size: usize) -> bool
+        requires { size < 2 ^ 63 }
+        ensures { result ≡ takes_out (brought header.now size) self.now }
+    {
+        self.header.initiator_task_tag() == header.initiator_task_tag()
+            && self.task.fault_by(header, size).is_none()
+    }
 }
 
 /// The data of a session's SCSI Commands.
@@ -115,6 +129,25 @@ impl Transfers {
             Some(_) => Verdict::Violating,
             None => Verdict::Feeding,
         }
+    }
+
+    /// Returns whether a command that is not finished takes a Data-Out with this header and `size` bytes of data, or one
+    /// whose data is drained.
+    pub(crate) fn needs(&self, header: &Header, size: usize) -> bool
+        requires { size < 2 ^ 63 }
+        ensures { result ≡ needs_in self.now (brought header.now size) }
+    {
+        self.takes(header, size) || self.drains_more(header, size)
+    }
+
+    /// Returns whether a command that is not finished takes a Data-Out with this header and `size` bytes of data.
+    fn takes(&self, header: &Header, size: usize) -> bool
+        requires { size < 2 ^ 63 }
+        ensures { result ≡ list_any (takes_out (brought header.now size)) self.now.list }
+    {
+        self.list
+            .iter()
+            .any(|transfer| transfer.takes(header, size))
     }
 
     /// Accepts the data of a Data-Out that has no fault, in the buffer in which it came. If an allocation fails,

@@ -2,6 +2,7 @@
 
 ghost use Rattle.std.specs.Prelude.{◌≡◌, ◌+◌, ◌*◌, ◌^◌, ◌<◌, ◌≤◌, [], ◌∷◌, length, replicate, true, IfErr, OnOk, OnErr, Some, None};
 ghost use Rattle.iscsi_pdu.specs.DataOut.{data_sn};
+ghost use Rattle.iscsi_pdu.specs.Frames.{Frame as FrameState};
 ghost use Rattle.iscsi_transfer.specs.Payload.{announces, expected as expected_in};
 ghost use Rattle.iscsi_transfer.specs.WriteData.{WriteDataState, blank, fault_of as fault_in, filled, grown, with_data, with_asked, allowed, due_asks, first, is_due, is_asked, is_whole as is_whole_in, wanted as wanted_in, next_ask, sequence_tag, sequence_end, lacks_data};
 ghost use Rattle.iscsi_transfer.specs.Counted.{brought};
@@ -260,18 +261,28 @@ impl Progress {
     pub fn fault_of(&self, out: &Frame) -> Option<DataFault>
         ensures { result ≡ fault_in self.now out.now }
     {
+        self.fault_by(&out.header, out.body.len())
+    }
+
+    /// Returns what is wrong with a Data-Out of this command, as [`Progress::fault_of`] does, by its header and the
+    /// number of bytes that it brings.
+    #[tactic(auto, unfolding(crate::specs::WriteData::fault_of))]
+    pub fn fault_by(&self, header: &Header, size: usize) -> Option<DataFault>
+        requires { size < 2 ^ 63 }
+        ensures { (out : FrameState) → out.header ≡ header.now → length out.body ≡ size → result ≡ fault_in self.now out }
+    {
         let is_expected = self.is_open || self.is_asked();
-        let reached = self.length + out.body.len();
+        let reached = self.length + size;
         let end = self.sequence_end();
-        if !(is_expected && out.header.target_transfer_tag() == self.sequence_tag()) {
+        if !(is_expected && header.target_transfer_tag() == self.sequence_tag()) {
             Some(DataFault::TransferTag)
-        } else if out.header.data_sn() as usize != self.sequence_length {
+        } else if header.data_sn() as usize != self.sequence_length {
             Some(DataFault::DataSn)
-        } else if out.header.buffer_offset() as usize != self.length {
+        } else if header.buffer_offset() as usize != self.length {
             Some(DataFault::BufferOffset)
         } else if end < reached {
             Some(DataFault::TooMuch)
-        } else if !self.is_open && out.header.is_final() != (reached == end) {
+        } else if !self.is_open && header.is_final() != (reached == end) {
             Some(DataFault::Final)
         } else {
             None

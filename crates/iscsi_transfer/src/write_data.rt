@@ -1,6 +1,7 @@
 //! The data of a SCSI Command on its way from the initiator.
 
 ghost use Rattle.std.specs.Prelude.{◌≡◌, ◌+◌, ◌*◌, ◌^◌, ◌<◌, ◌≤◌, [], ◌∷◌, ◌⊎◌, length, true, IfOk, IfErr, OnOk, OnErr, IfNone, Some, None};
+ghost use Rattle.iscsi_pdu.specs.Frames.{Frame as FrameState};
 ghost use Rattle.iscsi_transfer.specs.Payload.{Past, begun, accepted, asked as asked_in, announces, expected as expected_in};
 ghost use Rattle.iscsi_transfer.specs.WriteData.{blank, remembered, command_fault as command_fault_in, fault_of as fault_in, with_data, with_asked, due_asks, first, is_due, is_asked, is_whole as is_whole_in, wanted as wanted_in, next_ask, sequence_tag, sequence_end, ends_rightly, lacks_data};
 ghost use Rattle.iscsi_transfer.specs.declared.fault.DataFault.TheVariants.{Memory};
@@ -9,7 +10,7 @@ use crate::fault::DataFault;
 use crate::progress::{Ask, Progress, announces, expected};
 use data_parts::{Data, Parts};
 use iscsi_login::Values;
-use iscsi_pdu::Frame;
+use iscsi_pdu::{Frame, Header};
 use std::alloc::{AllocError, Global};
 use std::marker::Model;
 
@@ -133,6 +134,15 @@ impl WriteData {
         ensures { result ≡ fault_in self.now out.now }
     {
         self.progress.fault_of(out)
+    }
+
+    /// Returns what is wrong with a Data-Out of this command, as [`WriteData::fault_of`] does, by its header and the
+    /// number of bytes that it brings.
+    pub fn fault_by(&self, header: &Header, size: usize) -> Option<DataFault>
+        requires { size < 2 ^ 63 }
+        ensures { (out : FrameState) → out.header ≡ header.now → length out.body ≡ size → result ≡ fault_in self.now out }
+    {
+        self.progress.fault_by(header, size)
     }
 
     /// Accepts a Data-Out of this command. Its data is appended to the payload, in the buffer in which it came. If
