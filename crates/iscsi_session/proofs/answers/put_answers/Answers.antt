@@ -18,9 +18,6 @@ overflow_cast-count c =
       count_is c.args.values.now c.args.frame.now c.args.done _ _ c.requires.values c.sent_length-sent.ensures.value c.count_of-count.ensures,
     )
 
-pub limits_for-requires-clause-sent : goal.limits_for-requires-clause-sent
-limits_for-requires-clause-sent c = omega (arith, sent_short c.args.frame.now c.args.done c.requires.given, c.sent_length-sent.ensures.value)
-
 -- ---- from where the data lies
 
 pub returns-in-Some : goal.returns-in-Some
@@ -39,13 +36,6 @@ returns-in-Some c =
     ∙ all_spelled c.args.numbers values frame done c.count_of-count.result c.response-response.result c.response-response.ensures.value counted)
 
 -- ---- one piece, where nothing waits
-
-pub sent_buffer-buffer-requires-then-is_empty-clause-some : goal.sent_buffer-buffer-requires-then-is_empty-clause-some
-sent_buffer-buffer-requires-then-is_empty-clause-some c =
-    let values = c.args.values.now in
-    let fits = count_fits c.sent_length-sent.result values.max_burst_length values.max_recv_data_segment_length (let some = c.requires.values.burst
-    in omega arith) (let some = c.requires.values.segment in omega arith) in
-    omega (arith, fits, c.count_of-count.ensures, c.if-count-eq1.true)
 
 pub put_alone-requires-clause-one : goal.put_alone-requires-clause-one
 put_alone-requires-clause-one c =

@@ -32,13 +32,3 @@ loop-key-preserved c =
         c.loop-key.invariant.room,
       );
     }
-
-pub push_reserved-requires : goal.push_reserved-requires
-push_reserved-requires c =
-    let t = turns c.loop-key.window c.in-Some.key (sym c.take.ensures.key ∙ c.in-Some.is) in
-    omega (arith, t.prefix, c.loop-key.invariant.room, c.loop-key.due.ok.0)
-
-pub returns : goal.returns
-returns c =
-    let none : get_or c.loop-key.window.keys 0 None ≡ None = sym c.take.ensures.key ∙ c.in_default.is in
-    rw (c.take.ensures.turned, none) (sym (moves_end c.loop-key.window c.loop-key.due.items none) ∙ c.loop-key.invariant.same)

@@ -5,21 +5,6 @@ use Rattle.iscsi_session.specs.RequestQueue.{lists_of, keys_in, AreLines, moves_
 use Rattle.iscsi_session.proofs.Lines.{holds_vacant}
 use Rattle.iscsi_session.proofs.request_queue.RequestQueue.hold.Goals as goal
 
-pub take_ready-requires : goal.take_ready-requires
-take_ready-requires c =
-    let held = holds_vacant c.self.inside.requests c.insert.new.self c.in_ok-key.key c.args.number c.args.frame c.self.inside.window c.self.inside.due.items
-    c.self.inside.queue.items _ c.self.view_is c.requires c.in_ok-key.ensures.updates c.in_ok-key.ensures.was_vacant c.self.invariant c.held.ensures.len in
-    omega (
-      arith,
-      held.count,
-      ap (λ (w : WindowKeys). length w.keys) c.arrive.ensures.key,
-      c.in_ok-reserve.ensures.ok,
-      ap (λ (l : List ℕ). length l)
-          c.reserve.ensures.items,
-      c.self.inside.due.ok.0,
-      ap (λ (l : List (Option ℕ)). length l) c.held.ensures.value,
-    )
-
 pub returns-clause-ok : goal.returns-clause-ok
 returns-clause-ok c =
     let held = holds_vacant c.self.inside.requests c.insert.new.self c.in_ok-key.key c.args.number c.args.frame c.self.inside.window c.self.inside.due.items

@@ -55,23 +55,3 @@ returns-clause-numbers c past frame others is s =
     c.numbers-numbers.ensures past
     (subst (λ (w : WindowKeys). windows.Stands past (windows.marked w)) (sym counted) (marked_known c.remove-frame.result c.remove-frame.new.self
     c.self.inside.window (remove c.self.inside.due.items 0) c.self.inside.queue.items r.once known))
-
-pub take_ready-requires : goal.take_ready-requires
-take_ready-requires c =
-    let r = replaced c.self.inside.requests c.remove-frame.new.self c.insert_reserved-key.new.self c.args.number c.remove-key.result
-    c.insert_reserved-key.result c.remove-frame.result _ c.self.inside.window c.self.inside.due.items _ c.self.inside.queue.items _ c.self.view_is
-    c.requires.vacant c.requires.some c.reserve.ensures.items c.remove-key.ensures.value c.remove-frame.ensures.value c.remove-frame.ensures.updates
-    c.self.invariant c.insert_reserved-key.ensures.was_vacant c.plug.ensures c.insert_reserved-key.ensures.updates c.held.ensures.len in
-    let counted : c.count_out.new.window ≡ counted_out c.remove-frame.result c.self.inside.window = c.count_out.ensures in
-    omega (
-      arith,
-      r.count,
-      ap (λ (w : WindowKeys). length w.keys) (c.arrive.ensures.key ∙ ap (with_key c.args.number c.insert_reserved-key.result) counted),
-      c.in_ok-reserve.ensures.ok,
-      ap (λ (l : List ℕ). length l) c.reserve.ensures.items,
-      ap (λ (l : List ℕ). length l) c.remove-key.ensures.items,
-      c.remove-key.ensures.len,
-      c.remove-key.ensures.capacity,
-      c.self.inside.due.ok.0,
-      ap (λ (l : List (Option ℕ)). length l) c.held.ensures.value,
-    )

@@ -35,12 +35,3 @@ returns-clause-verdict c past s =
     sym (task_told past c.args.frame.now true false false false (sym (c.is_fresh.ensures.fresh past s) ∙ c.if-not-is_fresh.false)
     (sym (c.is_over.ensures past s) ∙ c.if-is_over.false) (sym (c.is_taken.ensures.taken past s) ∙ c.if-is_taken.false)
     (ap (λ (p : SessionParams). is_faulty p.values c.args.frame.now) (sym (parts past _ s).params_is) ∙ sym c.is_faulty.ensures ∙ c.if-is_faulty.false))
-
-pub returns-clause-acceptable : goal.returns-clause-acceptable
-returns-clause-acceptable c e =
-    let parts = or_parts _ _ (c.is_taken.ensures.places c.if-is_taken.false) in
-    record {
-      tag = none_by _ (or_parts _ (is_some (drain_with (initiator_task_tag c.args.frame.now.header) c.args.self.now.transfers.drains)) parts.0).0;
-      function_tag = none_by _ parts.1;
-      agreed = λ h. none_by _ (faultless_agreed c.args.self.now.params.values c.args.frame.now h (sym c.is_faulty.ensures ∙ c.if-is_faulty.false));
-    }

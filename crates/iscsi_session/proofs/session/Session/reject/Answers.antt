@@ -6,9 +6,6 @@ use Rattle.iscsi_session.specs.Requests.{stamp}
 use Rattle.iscsi_session.specs.Judging.{reject}
 use Rattle.iscsi_session.proofs.session.Session.reject.Goals as goal
 
-pub put-requires : goal.put-requires
-put-requires c = record { room = omega (arith, c.rejected.ensures.short, c.in_ok-reserve.ensures.spare) }
-
 pub returns-clause-out : goal.returns-clause-out
 returns-clause-out c past frame s h =
     let answer : c.rejected.result ≡ reject c.args.reason (stamp past) frame = c.rejected.ensures.value frame h

@@ -45,16 +45,5 @@ returns-clause-ok g c = came_then _ _ _ _ _ _ _ c.loop.invariant.ran
     (came_with _ _ _ _ _ (ap (λ (p : SessionParams). p.target) c.loop.invariant.params) c.in_ok-finish.ensures.steps) c.in_ok-finish.ensures.back
     (λ given middle left ran one. all_settled _ _ _ _ _ _ _ _ given middle left ran one c.if-branch.false)
 
-pub returns-in_err-finish-clause-eases : goal.returns-in_err-finish-clause-eases
-returns-in_err-finish-clause-eases g c r =
-    let first = c.loop.invariant.eases r in eases_then _ _ _ _ _ _ first (c.in_err-finish.ensures.eases first.rests)
-
-pub returns-clause-eases : goal.returns-clause-eases
-returns-clause-eases g c r =
-    let first = c.loop.invariant.eases r in eases_then _ _ _ _ _ _ first (c.in_ok-finish.ensures.eases first.rests)
-
-pub returns-clause-back : goal.returns-clause-back
-returns-clause-back g c = λ sound. c.loop.invariant.back (c.in_ok-finish.ensures.back sound)
-
 pub returns-clause-sure : goal.returns-clause-sure
 returns-clause-sure g c = λ sure. c.in_ok-finish.ensures.sure (c.loop.invariant.sure sure)

@@ -11,26 +11,12 @@ loop-due-init c = record {
   tag = c.due_at-due.ensures.tag;
 }
 
-pub put_r2t-requires : goal.put_r2t-requires
-put_r2t-requires c =
-    let room = c.loop-due.invariant.sent.room in
-    omega (arith, room, ap (λ (l : List R2t). length l) c.send.ensures.rest)
-
-pub loop-due-smaller : goal.loop-due-smaller
-loop-due-smaller c =
-    let less : length (r2ts_at c.send.new.self c.args.stamp c.args.place) < length (r2ts_at c.loop-due.self c.args.stamp c.args.place) =
-    omega (arith, ap (λ (l : List R2t). length l) c.send.ensures.rest) in
-    less
-
 pub loop-due-preserved : goal.loop-due-preserved
 loop-due-preserved c = record {
   sent = sending_more c.send.result c.loop-due.invariant.sent c.send.ensures.rest c.send.ensures.sent c.put_r2t.ensures.written c.put_r2t.ensures.spare;
   next = c.due_at-due-in-Some.ensures.value;
   tag = c.due_at-due-in-Some.ensures.tag;
 }
-
-pub returns-clause-written : goal.returns-clause-written
-returns-clause-written c = (sending_ends c.loop-due.invariant.sent c.loop-due.invariant.tag (sym c.loop-due.invariant.next ∙ c.in_default.is)).0
 
 pub returns-clause-sent : goal.returns-clause-sent
 returns-clause-sent c = (sending_ends c.loop-due.invariant.sent c.loop-due.invariant.tag (sym c.loop-due.invariant.next ∙ c.in_default.is)).1
