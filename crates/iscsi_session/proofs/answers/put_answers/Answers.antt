@@ -4,9 +4,8 @@ use Rattle.std.proofs.lemmas.Bool.{eqb-true}
 use Rattle.std.proofs.lemmas.List.{nil_from_length}
 use Rattle.iscsi_pdu.specs.Answer.{spelling}
 use Rattle.scsi_sense.specs.Done.{Outcome}
-use Rattle.iscsi_transfer.proofs.Counts.{count_fits}
 use Rattle.iscsi_session.specs.Answers.{sent_pieces, data_sent, data_answers, command_answers}
-use Rattle.iscsi_session.proofs.Room.{pieces_few, sent_short, data_fits, count_is, all_spelled, cut_as_sent}
+use Rattle.iscsi_session.proofs.Room.{pieces_few, data_fits, count_is, all_spelled, cut_as_sent}
 use Rattle.iscsi_session.proofs.answers.put_answers.Goals as goal
 
 pub overflow_cast-count : goal.overflow_cast-count

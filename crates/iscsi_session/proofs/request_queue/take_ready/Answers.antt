@@ -2,7 +2,7 @@ use Rattle.std.proofs.Common.{◌≡◌, ◌<◌, get_or, Some, None, refl, sym,
 use Rattle.std.specs.Prelude.{is_some}
 use Rattle.std.specs.List.{prefix_len}
 use Rattle.iscsi_order.specs.WindowState.{WindowKeys}
-use Rattle.iscsi_session.proofs.Lines.{turns, moves_on, moves_end}
+use Rattle.iscsi_session.proofs.Lines.{turns, moves_on}
 use Rattle.std.proofs.lemmas.List.Sums.{prefix_len-le-length}
 use Rattle.iscsi_session.proofs.request_queue.take_ready.Goals as goal
 

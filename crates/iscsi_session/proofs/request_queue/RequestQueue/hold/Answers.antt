@@ -1,4 +1,4 @@
-use Rattle.std.proofs.Common.{◌≡◌, Option, ℕ, List, length, refl, sym, ap, subst, ◌∙◌, arith}
+use Rattle.std.proofs.Common.{◌≡◌, ℕ, List, refl, sym, ap, subst, ◌∙◌}
 use Rattle.iscsi_order.specs.WindowState.{WindowKeys, with_key}
 use Rattle.iscsi_session.specs.State.{TaskLists, holding, takes_all}
 use Rattle.iscsi_session.specs.RequestQueue.{lists_of, keys_in, AreLines, moves_all}

@@ -1,4 +1,4 @@
-use Rattle.std.proofs.Common.{◌≡◌, ℕ, List, length, drop, remove, Option, refl, sym, ap, subst, ◌∙◌, arith}
+use Rattle.std.proofs.Common.{◌≡◌, ℕ, List, drop, remove, refl, sym, ap, subst, ◌∙◌}
 use Rattle.iscsi_order.specs.WindowState.{WindowKeys, with_key}
 use Rattle.iscsi_order.specs.WindowState as windows
 use Rattle.iscsi_session.specs.Functions.{plug}

@@ -1,13 +1,8 @@
 use Rattle.std.proofs.Common.{true, false, refl, sym, ap, ◌∙◌}
-use Rattle.std.proofs.lemmas.Bool.{or_parts}
-use Rattle.std.specs.Prelude.{is_some}
-use Rattle.iscsi_pdu.specs.Header.{initiator_task_tag}
 use Rattle.iscsi_login.specs.declared.session_params.SessionParams.{SessionParams}
 use Rattle.iscsi_session.specs.Judging.{is_faulty}
-use Rattle.iscsi_session.specs.Draining.{drain_with}
-use Rattle.iscsi_session.proofs.Feeding.{none_by}
 use Rattle.iscsi_session.proofs.Parts.{parts}
-use Rattle.iscsi_session.proofs.Verdicts.{task_told, faultless_agreed}
+use Rattle.iscsi_session.proofs.Verdicts.{task_told}
 use Rattle.iscsi_session.proofs.session.Session.judge_task.Goals as goal
 
 pub returns-then-not-is_fresh-clause-verdict : goal.returns-then-not-is_fresh-clause-verdict

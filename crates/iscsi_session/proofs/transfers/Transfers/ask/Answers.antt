@@ -1,6 +1,4 @@
-use Rattle.std.proofs.Common.{◌<◌, List, length, sym, ap, ◌∙◌, arith}
-use Rattle.iscsi_pdu.specs.declared.r2t.R2t.{R2t}
-use Rattle.iscsi_session.specs.State.{r2ts_at}
+use Rattle.std.proofs.Common.{sym, ◌∙◌}
 use Rattle.iscsi_session.proofs.Sending.{sending_begins, sending_more, sending_ends}
 use Rattle.iscsi_session.proofs.transfers.Transfers.ask.Goals as goal
 
