@@ -1,21 +1,15 @@
-use Rattle.std.proofs.Common.{◌≡◌, ◌++◌, ℕ, List, length, take, drop, sym, ap, ◌∙◌, arith, append_assoc}
+use Rattle.std.proofs.Common.{◌≡◌, ◌++◌, ℕ, List, take, drop, ap, ◌∙◌, arith, append_assoc}
 use Rattle.std.specs.Prelude.{flat_map}
 use Rattle.std.proofs.lemmas.Bool.{eqb-true}
 use Rattle.std.proofs.lemmas.List.{nil_from_length}
 use Rattle.iscsi_pdu.specs.Answer.{spelling}
 use Rattle.scsi_sense.specs.Done.{Outcome}
-use Rattle.iscsi_session.specs.Answers.{sent_pieces, data_sent, data_answers, command_answers}
+use Rattle.iscsi_session.specs.Answers.{data_sent, data_answers}
 use Rattle.iscsi_session.proofs.Room.{pieces_few, data_fits, count_is, all_spelled, cut_as_sent}
 use Rattle.iscsi_session.proofs.answers.put_answers.Goals as goal
 
 pub overflow_cast-count : goal.overflow_cast-count
-overflow_cast-count c =
-    let few = pieces_few c.args.values.now c.args.frame.now c.args.done c.requires.values c.requires.given in
-    omega (
-      arith,
-      few,
-      count_is c.args.values.now c.args.frame.now c.args.done _ _ c.requires.values c.sent_length-sent.ensures.value c.count_of-count.ensures,
-    )
+overflow_cast-count c = grind (arith, pieces_few, count_is)
 
 -- ---- from where the data lies
 
@@ -37,51 +31,18 @@ returns-in-Some c =
 -- ---- one piece, where nothing waits
 
 pub put_alone-requires-clause-one : goal.put_alone-requires-clause-one
-put_alone-requires-clause-one c =
-    let values = c.args.values.now in
-    let frame = c.args.frame.now in
-    let done = c.args.done in
-    let sent_is : drop 48 c.sent_buffer-buffer-then-is_empty.result.items ≡ data_sent frame done = c.sent_buffer-buffer-then-is_empty.ensures.data
-    ∙ ap (λ (d : Outcome). take c.sent_length-sent.result d.given) c.done.view_is ∙ c.sent_length-sent.ensures.data in
-    ap (λ (xs : List ℕ). length (sent_pieces values xs)) sent_is
-    ∙ sym (count_is values frame done _ _ c.requires.values c.sent_length-sent.ensures.value c.count_of-count.ensures) ∙ c.if-count-eq1.true
+put_alone-requires-clause-one c = grind (arith, count_is)
 
 pub returns-then-is_empty : goal.returns-then-is_empty
-returns-then-is_empty c =
-    let values = c.args.values.now in
-    let frame = c.args.frame.now in
-    let done = c.args.done in
-    let counted = count_is values frame done _ _ c.requires.values c.sent_length-sent.ensures.value c.count_of-count.ensures in
-    let sent_is : drop 48 c.sent_buffer-buffer-then-is_empty.result.items ≡ data_sent frame done = c.sent_buffer-buffer-then-is_empty.ensures.data
-    ∙ ap (λ (d : Outcome). take c.sent_length-sent.result d.given) c.done.view_is ∙ c.sent_length-sent.ensures.data in
-    let waits = nil_from_length c.args.out.now.items (eqb-true _ 0 (sym c.is_empty.ensures ∙ c.if-is_empty.true)) in
-    c.put_alone.ensures
-    ∙ ap (λ (xs : List ℕ). flat_map spelling (data_answers c.args.numbers values frame xs) ++ spelling c.response-response.result) sent_is
-    ∙ all_spelled c.args.numbers values frame done c.count_of-count.result c.response-response.result c.response-response.ensures.value counted
-    ∙ ap (λ (xs : List ℕ). xs ++ flat_map spelling (command_answers c.args.numbers values frame done)) (sym waits)
+returns-then-is_empty c = grind (arith, count_is, nil_from_length, eqb-true, all_spelled)
 
 -- ---- copied
 
 pub put_data-requires-2-clause-room : goal.put_data-requires-2-clause-room
-put_data-requires-2-clause-room c =
-    let frame = c.args.frame.now in
-    let done = c.args.done in
-    let cut : take c.sent_length-sent.result c.as_slice.result.now ≡ data_sent frame done = ap (take c.sent_length-sent.result)
-    (c.as_slice.ensures ∙ ap (λ (d : Outcome). d.given) c.done.view_is) ∙ c.sent_length-sent.ensures.data in
-    let fits = data_fits c.args.numbers c.args.values.now frame (data_sent frame done) c.sent_length-sent.result c.requires.values
-    c.sent_length-sent.ensures.value c.in_default.ensures.copied in
-    rw cut (omega (arith, fits, c.requires.room))
+put_data-requires-2-clause-room c = grind (arith, data_fits)
 
 pub put-requires : goal.put-requires
-put-requires c =
-    let frame = c.args.frame.now in
-    let done = c.args.done in
-    let cut : take c.sent_length-sent.result c.as_slice.result.now ≡ data_sent frame done = ap (take c.sent_length-sent.result)
-    (c.as_slice.ensures ∙ ap (λ (d : Outcome). d.given) c.done.view_is) ∙ c.sent_length-sent.ensures.data in
-    let fits = data_fits c.args.numbers c.args.values.now frame (data_sent frame done) c.sent_length-sent.result c.requires.values
-    c.sent_length-sent.ensures.value c.in_default.ensures.copied in
-    let left = rw cut at c.put_data-2.ensures.spare in
-    record { room = omega (arith, c.response-response.ensures.short, left, fits, c.requires.room) }
+put-requires c = grind (arith, data_fits)
 
 pub returns : goal.returns
 returns c =

@@ -1,12 +1,10 @@
-use Rattle.std.proofs.Common.{◌+◌, ℕ, List, length, drop, ap, ◌∙◌, arith, length-drop}
+use Rattle.std.proofs.Common.{◌+◌, ℕ, List, length, ap, arith, length-drop}
 use Rattle.std.proofs.lemmas.List.{length-take}
 use Rattle.iscsi_session.proofs.Room.{sent_behind}
 use Rattle.iscsi_session.proofs.answers.sent_buffer.Goals as goal
 
 pub returns-clause-data : goal.returns-clause-data
-returns-clause-data c =
-    ap (drop 48) c.truncate.ensures.items
-    ∙ sent_behind c.into_buffer-buffer.result.items c.args.given c.args.sent c.into_buffer-buffer.ensures.data
+returns-clause-data c = grind (arith, sent_behind)
 
 pub returns-clause-room : goal.returns-clause-room
 returns-clause-room c =

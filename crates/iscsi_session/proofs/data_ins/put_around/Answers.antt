@@ -1,4 +1,4 @@
-use Rattle.std.proofs.Common.{◌-◌, ◌++◌, ℕ, List, length, take, drop, ap, ◌∙◌, arith, length-drop}
+use Rattle.std.proofs.Common.{◌-◌, ◌++◌, ℕ, List, length, drop, ap, ◌∙◌, arith, length-drop}
 use Rattle.std.proofs.lemmas.List.{take_all}
 use Rattle.iscsi_pdu.specs.Segment.{segment}
 use Rattle.iscsi_session.proofs.Room.{pieces_counted, piece_there, one_answer}
@@ -11,14 +11,10 @@ piece_of-piece-requires-clause-number c =
     rw same (omega (arith, pieces_counted c.args.values.now (drop 48 c.args.buffer.now.items) c.requires.values, c.requires.one))
 
 pub data_in-requires-clause-within : goal.data_in-requires-clause-within
-data_in-requires-clause-within c =
-    let whole = c.as_slice.result.now in
-    (piece_there c.args.values.now (take (length whole - 48) (drop 48 whole)) 0 c.piece_of-piece.result c.requires.values c.piece_of-piece.ensures).within
+data_in-requires-clause-within c = grind (arith, piece_there)
 
 pub data_in-requires-clause-short : goal.data_in-requires-clause-short
-data_in-requires-clause-short c =
-    let whole = c.as_slice.result.now in
-    (piece_there c.args.values.now (take (length whole - 48) (drop 48 whole)) 0 c.piece_of-piece.result c.requires.values c.piece_of-piece.ensures).short
+data_in-requires-clause-short c = grind (arith, piece_there)
 
 pub returns-clause-written : goal.returns-clause-written
 returns-clause-written c =

@@ -1,19 +1,13 @@
-use Rattle.std.proofs.Common.{◌≡◌, ◌+◌, ◌<◌, ◌≤◌, ◌++◌, List, length, get_or, sym, ap, ◌∙◌, arith}
-use Rattle.std.specs.Prelude.{flat_map}
+use Rattle.std.proofs.Common.{◌≡◌, ◌<◌, length, get_or, sym, ◌∙◌, arith}
 use Rattle.std.proofs.lemmas.List.{take_all}
 use Rattle.std.proofs.lemmas.Option.{slice_get_within}
-use Rattle.iscsi_pdu.specs.Answer.{spelling}
-use Rattle.iscsi_pdu.specs.declared.answer.Answer.{Answer}
 use Rattle.iscsi_pdu.specs.declared.answer.Answer.TheVariants as answers
 use Rattle.iscsi_session.specs.Answers.{sent_pieces, data_answers}
 use Rattle.iscsi_session.proofs.Room.{piece_there, pieces_counted, data_answer_at, data_answers_count, written_more, next_fits}
 use Rattle.iscsi_session.proofs.data_ins.put_data.Goals as goal
 
 pub data_in-requires : goal.data_in-requires
-data_in-requires c =
-    let there = piece_there c.args.values.now c.args.sent.now c.loop-data_sn.data_sn c.piece_of-piece.result c.requires.values c.piece_of-piece.ensures in
-    let early = there.early in
-    record { within = there.within; short = there.short; sent = c.requires.short; data_sn = omega (arith, early, c.requires.short) }
+data_in-requires c = grind (arith, piece_there)
 
 pub put-requires : goal.put-requires
 put-requires c =
@@ -42,24 +36,7 @@ loop-data_sn-preserved c =
     c.put.ensures.items c.put.ensures.spare
 
 pub returns-clause-written : goal.returns-clause-written
-returns-clause-written c =
-    let all = data_answers c.args.numbers c.args.values.now c.args.frame.now c.args.sent.now in
-    let past : length all ≤ c.loop-data_sn.data_sn = omega (
-      arith,
-      data_answers_count c.args.numbers c.args.values.now c.args.frame.now c.args.sent.now,
-      pieces_counted c.args.values.now c.args.sent.now c.requires.values,
-      c.count_of-data_sn-end.ensures,
-    ) in
-    c.loop-data_sn.invariant.written ∙ ap (λ (xs : List Answer). c.args.out.now.items ++ flat_map spelling xs) (take_all c.loop-data_sn.data_sn all past)
+returns-clause-written c = grind (arith, data_answers_count, pieces_counted, take_all)
 
 pub returns-clause-spare : goal.returns-clause-spare
-returns-clause-spare c =
-    let all = data_answers c.args.numbers c.args.values.now c.args.frame.now c.args.sent.now in
-    let past : length all ≤ c.loop-data_sn.data_sn = omega (
-      arith,
-      data_answers_count c.args.numbers c.args.values.now c.args.frame.now c.args.sent.now,
-      pieces_counted c.args.values.now c.args.sent.now c.requires.values,
-      c.count_of-data_sn-end.ensures,
-    ) in
-    ap (λ (xs : List Answer). c.loop-data_sn.out.spare + length (flat_map spelling xs)) (sym (take_all c.loop-data_sn.data_sn all past))
-    ∙ c.loop-data_sn.invariant.spare
+returns-clause-spare c = grind (arith, data_answers_count, pieces_counted, take_all)

@@ -1,16 +1,11 @@
-use Rattle.std.proofs.Common.{suc, refl, ◌∙◌}
+use Rattle.std.proofs.Common.{suc, ◌∙◌, arith}
 use Rattle.iscsi_session.proofs.Parts.{on_err_known}
 use Rattle.iscsi_session.proofs.Runs.{same_output, grows_none, grows_then}
 use Rattle.iscsi_session.proofs.Settled.{none_acted, acted_more, all_acted, acting_ends, acting_stops, act_stops, acts}
 use Rattle.iscsi_session.proofs.session.Session.act_all.Goals as goal
 
 pub loop-init : goal.loop-init
-loop-init c = record {
-  turns = 0;
-  ran = λ units numbers. none_acted _ _ units;
-  grows = grows_none _;
-  params = refl;
-}
+loop-init c = grind (arith, none_acted, grows_none)
 
 pub returns-in_err-act-clause-err : goal.returns-in_err-act-clause-err
 returns-in_err-act-clause-err c = on_err_known _

@@ -1,11 +1,10 @@
-use Rattle.std.proofs.Common.{◌≡◌, ◌<◌, List, [], ◌∷◌, length, drop, true, false, refl, sym, ap, subst, ◌∙◌, arith}
-use Rattle.iscsi_pdu.specs.Frames.{Frame}
+use Rattle.std.proofs.Common.{◌≡◌, ◌<◌, [], ◌∷◌, length, drop, true, false, refl, sym, ap, subst, ◌∙◌, arith}
 use Rattle.iscsi_pdu.specs.Header.{initiator_task_tag}
 use Rattle.iscsi_pdu.specs.TaskManagement.{ref_cmd_sn}
 use Rattle.iscsi_session.specs.Requests.{frame_of, numbers}
 use Rattle.iscsi_session.specs.Functions.{FunctionReach, awaited, plug, plugs}
 use Rattle.iscsi_session.specs.Acts.{reach_of, ended}
-use Rattle.iscsi_session.specs.State.{SessionState, TaskLists, Stands, one_fewer, plugged_behind, holding, takes_all, without, transfers_without, is_vacant, waiting}
+use Rattle.iscsi_session.specs.State.{SessionState, TaskLists, Stands, one_fewer, plugged_behind, holding, takes_all, without, transfers_without, is_vacant}
 use Rattle.iscsi_session.proofs.Kept.{function_no_command}
 use Rattle.iscsi_session.proofs.Parts.{window_stands}
 use Rattle.iscsi_session.proofs.Answered.{first_drops, function_here}
@@ -40,12 +39,7 @@ returns-then-plugs-clause-stands c luns past k rest s is e same unasked =
     (c.in_ok-numbers.ensures.numbers (numbers (ended luns k past)) frame (drop 1 tasks.due) some (window_stands (ended luns k past) _ ends), rw now after)
 
 pub returns-then-plugs-clause-fewer : goal.returns-then-plugs-clause-fewer
-returns-then-plugs-clause-fewer c frame others is function =
-    let tasks = c.self.inside.tasks in
-    let there : tasks.due ≡ frame ∷ others = ap (λ (x : SessionState). x.tasks.due) c.self.view_is ∙ is in
-    let less = waiting_plugged c.ref_cmd_sn.result frame others tasks there function in
-    let now = ap waiting (c.in_ok-numbers.ensures.ok ∙ ap (plugged_behind c.ref_cmd_sn.result tasks) there) in
-    omega (arith, less, now, ap (λ (x : SessionState). waiting x.tasks) c.self.view_is)
+returns-then-plugs-clause-fewer c frame others is function = grind (arith, waiting_plugged)
 
 -- ---- commands are removed
 
@@ -77,13 +71,4 @@ returns-clause-stands c luns past k rest s is e same unasked =
     (c.numbers.ensures (numbers (ended luns k past)) (window_stands (ended luns k past) _ there), stands_behind luns past _ k none there)
 
 pub returns-clause-fewer : goal.returns-clause-fewer
-returns-clause-fewer c frame others is function =
-    let before = ap (λ (x : SessionState). waiting x.tasks) c.self.view_is in
-    let some : 0 < length c.self.inside.tasks.due = omega (
-      arith,
-      ap (λ (l : List Frame). length l) is,
-      ap (λ (x : SessionState). length x.tasks.due) c.self.view_is,
-    ) in
-    let g = given_frame c.finish_due.result c.self.inside.tasks.due c.finish_due.ensures.some c.finish_due.ensures.same c.finish_due.ensures.none some in
-    let less = finishes_one g.0 c.self.inside.tasks c.finish_due.new.self g.1 g.2 in
-    omega (arith, less, before, ap waiting c.remove-2.ensures, waiting_without c.args.reach.now c.finish_due.new.self)
+returns-clause-fewer c frame others is function = grind (arith, given_frame, finishes_one, waiting_without)
