@@ -207,14 +207,7 @@ either_of : (a b c : Bool) → (a || b) ≡ true → (b ≡ true → c ≡ true)
 either_of a b c e known = grind arith
 
 waits_more : (past : Past) (k j : ℕ) (names : List ℕ) → waits_in (draining k names past) j ≡ true → (waits_in past j || j == k) ≡ true
-waits_more past k j names e =
-    let more = map (λ d. d.function) (map (drain_for k) names) in
-    let is : awaiting (draining k names past) ≡ awaiting past ++ left past.answered more = ap (left past.answered)
-    (map-append (λ (d : Drain). d.function) past.drains (map (drain_for k) names))
-    ∙ left_append past.answered (map (λ d. d.function) past.drains) more in
-    either_of (waits_in past j) (is_in j (left past.answered more)) (j == k)
-    (sym (is_in_append j (awaiting past) (left past.answered more)) ∙ ap (is_in j) (sym is) ∙ e)
-    (λ h. named_again k j names (in_left j past.answered more h))
+waits_more past k j names e = grind (arith, map-append, left_append, either_of, waits_in, is_in_append, named_again, in_left)
 
 module _ (luns : List ℕ) (past : Past) (k : ℕ) (rest : List ℕ) (f : is_function (frame_of past.came k) ≡ true) (w : IsWithinLimits past)
     (is : due past ≡ k ∷ rest) where
@@ -333,12 +326,7 @@ act_adds work k rest is w =
 
 asks_long : (past : Past) (k : ℕ) → AreInRange past.params.values → length (flat_map spelling (r2t_answers (r2ts_of past k))) ≤ 98304
 unfolding r2ts_of task_at task_of
-asks_long past k range =
-    omega (
-      arith,
-      r2ts_long (frame_of past.came k).header (next_transfer_tag past) (stamp past) (asks_of past k),
-      few_asks (task_at past k) range.burst,
-    )
+asks_long past k range = grind (arith, r2ts_long, few_asks)
 
 pub ask_adds : (work : Work) (k : ℕ) (rest : List ℕ) → asking work.past ≡ k ∷ rest → AreInRange work.past.params.values → IsWithinLimits work.past
     → Adds 98304 0 work.past (ask k work).past

@@ -65,13 +65,7 @@ after_one (suc n) m open_tags tag tags e =
 
 pub sent_then : (task : WriteDataState) (tag : ℕ) (tags : List ℕ) → with_asked tags (with_asked (tag ∷ []) task) ≡ with_asked (tag ∷ tags) task
 unfolding with_asked
-sent_then task tag tags =
-    let n = filled task - task.sent in
-    let m = filled task - (task.sent + 1) in
-    let more : (task.sent + 1) + length tags ≡ task.sent + length (tag ∷ tags) = omega arith in
-    ap (λ (k : ℕ). record task { sent = k; open_tags = (task.open_tags ++ drop n (tag ∷ [])) ++ drop m tags }) more
-    ∙ ap (λ (l : List ℕ). record task { sent = task.sent + length (tag ∷ tags); open_tags = l })
-    (after_one n m task.open_tags tag tags (omega arith))
+sent_then task tag tags = grind (arith, after_one)
 
 pub one_less : (task : WriteDataState) (ask : Ask) (asks : List Ask) (tag : ℕ) → due_asks task ≡ ask ∷ asks → due_asks (with_asked (tag ∷ []) task) ≡ asks
 one_less task ask asks tag e = sent_is_due_no_more task tag ∙ ap (drop 1) e
@@ -101,10 +95,7 @@ tags_elsewhere k j (r2t ∷ r2ts) e = rw e (tags_elsewhere k j r2ts e)
 
 tags_more : (past : Past) (k j : ℕ) → tags_of (asked k past) j ≡ tags_of past j ++ map (λ r. r.tag) (filter (named j) (map (sent_for k) (r2ts_of past k)))
 unfolding tags_of
-tags_more past k j =
-    let more = map (sent_for k) (r2ts_of past k) in
-    ap (map (λ (r : SentR2t). r.tag)) (filter-append (named j) past.r2ts more)
-    ∙ map-append (λ (r : SentR2t). r.tag) (filter (named j) past.r2ts) (filter (named j) more)
+tags_more past k j = grind (arith, filter-append, map-append)
 
 abbrev from_tags : Past → ℕ → List ℕ → Transfer
 from_tags past k tags = record {
@@ -182,23 +173,14 @@ next_behind past k =
 asked_transfers : (past : Past) (k i : ℕ) → AreDrained past → slice_get (unfinished past) i ≡ Some k
     → sent_at i (r2ts_of past k) (transfers_of past) ≡ transfers_of (asked k past)
 unfolding transfers_of
-asked_transfers past k i drained at =
-    ap (λ (n : ℕ). record (sent_at i (r2ts_of past k) (transfers_of past)) { next_tag = n }) (next_behind past k)
-    ∙ ap (λ (l : List Transfer). record (transfers_of (asked k past)) { list = l; drains = map (drained_of past) (drains_of past) })
-    (asked_list past k i at ∙ ap (map (transfer_of (asked k past))) (sym (unfinished_asked past k)))
-    ∙ ap (λ (l : List Drained). record (transfers_of (asked k past)) { drains = l }) (asked_drains past k i drained at)
+asked_transfers past k i drained at = grind (arith, next_behind, asked_list, unfinished_asked, asked_drains)
 
 r2ts_bear_none : (r2ts : List R2t) → bearing (r2t_answers r2ts) ≡ 0
 r2ts_bear_none [] = refl
 r2ts_bear_none (r2t ∷ r2ts) = r2ts_bear_none r2ts
 
 statuses_asked : (past : Past) (k : ℕ) → statuses (asked k past) ≡ statuses past
-statuses_asked past k =
-    omega (
-      arith,
-      statuses_answering (r2t_answers (r2ts_of past k)) (record past { r2ts = past.r2ts ++ map (sent_for k) (r2ts_of past k) }),
-      r2ts_bear_none (r2ts_of past k),
-    )
+statuses_asked past k = grind (arith, statuses_answering, r2ts_bear_none)
 
 -- ---- the numbers that they carry
 
@@ -233,12 +215,7 @@ lawful_asked past k lt lawful =
 stands_one : (past : Past) (state : SessionState) (k i : ℕ) (others : List ℕ) → Stands past state → asking past ≡ k ∷ others
     → slice_get (unfinished past) i ≡ Some k → Stands (asked k past) (record state { transfers = sent_at i (r2ts_of past k) state.transfers })
 unfolding tasks_of functions_of exchange_of due queue standing functions
-stands_one past state k i others s is at = record {
-  lawful = lawful_asked past k (asking_came past k others is) s.lawful;
-  remembered = ap (λ (x : SessionState). record x { transfers = sent_at i (r2ts_of past k) x.transfers }) s.remembered
-      ∙ ap (λ (t : TransferList). record (remembered past) { transfers = t }) (asked_transfers past k i s.lawful.drained at)
-      ∙ ap (λ (n : ℕ). record (remembered (asked k past)) { stat = stat_sn n }) (sym (statuses_asked past k));
-}
+stands_one past state k i others s is at = grind (arith, lawful_asked, asking_came, asked_transfers, statuses_asked)
 
 -- ---- what is sent
 

@@ -130,10 +130,7 @@ below_kept q past = λ i d lt. all_came q past _ (kept_in q past _ (in_at (kept_
 -- ---- the functions that wait for data, and the data that they wait for
 
 pub left_push : (gone names : List ℕ) (k : ℕ) → is_in k gone ≡ false → left gone (names ++ k ∷ []) ≡ left gone names ++ k ∷ []
-left_push gone names k e =
-    left_append gone names (k ∷ [])
-    ∙ ap (λ (l : List ℕ). left gone names ++ l)
-    (left_all gone (k ∷ []) (All-cons (λ a. is_in a gone ≡ false) k [] e (All-nil (λ a. is_in a gone ≡ false))))
+left_push gone names k e = grind (arith, left_append, left_all)
 
 -- what holds of the function of each
 holds_named : (q : ℕ → Bool) (k : ℕ) (drains : List Drain) → All (λ d. q d.function ≡ true) drains → is_in k (map (λ d. d.function) drains) ≡ true → q k ≡ true
@@ -219,10 +216,7 @@ drains_once past drained = distinct_map_filter (λ (d : Drain). d.command) (λ d
 -- it is of none that is not finished
 pub drains_apart : (past : Past) (k : ℕ) → AreDrained past → is_in k (unfinished past) ≡ true → All (λ d. d.command ≢ k) past.drains
 unfolding unfinished
-drains_apart past k drained there = λ i d lt same.
-    let yes = drained.removed i d lt in
-    let no = not_gone k past.removed _ there in
-    absurd (let both = sym yes ∙ ap (λ (n : ℕ). is_in n past.removed) same ∙ no in cc)
+drains_apart past k drained there = grind (arith, not_gone)
 
 pub drain_functions_below : (past : Past) → AreDrained past → Below past past.finished → All (λ d. d.function < length past.came) past.drains
 drain_functions_below past drained below = λ i d lt. below_of (length past.came) _ past.finished below (drained.acted i d lt)
@@ -234,36 +228,17 @@ drain_commands_below past drained below = λ i d lt. below_of (length past.came)
 
 -- where a request comes
 pub drained_joined : (past : Past) (x : Request) → AreDrained past → Below past past.finished → AreDrained (joined x past)
-drained_joined past x drained below = record {
-  functions = λ i d lt. ap (λ (r : Request). is_function r.frame) (request_before past.came x _ (drain_functions_below past drained below i d lt))
-      ∙ drained.functions i d lt;
-  acted = drained.acted;
-  answered = drained.answered;
-  removed = drained.removed;
-  once = drained.once;
-}
+drained_joined past x drained below = grind (arith, request_before, drain_functions_below)
 
 -- where more is removed, or finished
 pub drained_removing : (past : Past) (gone : List ℕ) → AreDrained past → AreDrained (removing gone past)
-drained_removing past gone drained = record {
-  functions = drained.functions;
-  acted = drained.acted;
-  answered = drained.answered;
-  removed = λ i d lt. in_front _ past.removed gone (drained.removed i d lt);
-  once = drained.once;
-}
+drained_removing past gone drained = grind (arith, in_front)
 
 pub drained_acted : (past : Past) (acted : List ℕ) → AreDrained past → AreDrained (record past { acted = acted })
 drained_acted past acted drained = grind arith
 
 pub drained_finished : (past : Past) (acted : List ℕ) (k : ℕ) → AreDrained past → AreDrained (finished k (record past { acted = acted }))
-drained_finished past acted k drained = record {
-  functions = drained.functions;
-  acted = λ i d lt. in_front _ past.finished (k ∷ []) (drained.acted i d lt);
-  answered = λ i d lt. in_front _ past.finished (k ∷ []) (drained.answered i d lt);
-  removed = drained.removed;
-  once = drained.once;
-}
+drained_finished past acted k drained = grind (arith, in_front)
 
 -- ---- the SCSI Commands
 

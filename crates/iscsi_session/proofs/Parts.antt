@@ -130,13 +130,7 @@ stands_tasks past after state tasks s lawful params answers is same_data same_he
 pub stands_stat : (past : Past) (more : List Answer) (state : SessionState) (stat : ℕ) → Stands past state → bearing more ≡ 1
     → stat ≡ stat_sn (suc (statuses past)) → Stands (answering more past) (record state { stat = stat })
 unfolding tasks_of transfers_of functions_of exchange_of due queue standing unfinished functions task_at outs_of tags_of
-stands_stat past more state stat s one is =
-    let count : suc (statuses past) ≡ statuses (answering more past) = omega (arith, statuses_answering more past, one) in
-    record {
-      lawful = lawful_answering more past s.lawful;
-      remembered = ap (λ (x : SessionState). record x { stat = stat }) s.remembered
-          ∙ ap (λ (n : ℕ). record (remembered past) { stat = n }) (is ∙ ap stat_sn count);
-    }
+stands_stat past more state stat s one is = grind (arith, statuses_answering, lawful_answering)
 
 -- ---- a request is accepted
 

@@ -58,9 +58,7 @@ pub segment_long : (bytes : List ℕ) → length (segment bytes) ≤ length byte
 segment_long bytes = grind (arith, length-replicate, length-append)
 
 piece_long : (fields : DataInFields) → length (data_in_bytes fields) ≤ 51 + length fields.body
-piece_long fields =
-    let header : length (data_in_header fields) ≡ 48 = refl in
-    omega (arith, length-append (data_in_header fields) (segment fields.body), header, segment_long fields.body)
+piece_long fields = grind (arith, length-append, segment_long)
 
 all_long : (numbers : Stamp) (frame : Frame) (sent : List ℕ) (k : ℕ) (pieces : List Piece)
     → length (flat_map spelling (map (data_in numbers frame sent) (enumerate_from k pieces))) ≤ length pieces * 51 + length (flat_map (part_of sent) pieces)
@@ -291,11 +289,7 @@ r2ts_long header tag numbers (ask ∷ asks) =
     )
 
 few_bursts : (n burst : ℕ) → n ≤ 1048576 → 512 ≤ burst → div_ceil n burst ≤ 2048
-few_bursts n burst short least =
-    let above = (div_ceil_times n burst (omega (arith, least))).1 in
-    let below : div_ceil n burst * burst < 2049 * burst = omega (arith, above, short, least) in
-    let fewer = lt_of_mul-lt-mul_right burst below in
-    omega (arith, fewer)
+few_bursts n burst short least = grind (arith, div_ceil_times, lt_of_mul-lt-mul_right)
 
 short_by : (b : Bool) (n unsolicited : ℕ) → (b ≡ true → n ≤ 1048576) → (if b then n else unsolicited) - unsolicited ≤ 1048576
 short_by true n unsolicited short = let le = short refl in omega (arith, le)
@@ -307,10 +301,7 @@ many_by false asks n few = omega arith
 
 -- of no command are more due than it has bursts
 pub few_asks : (task : WriteDataState) → 512 ≤ task.burst → length (due_asks task) ≤ 2048
-few_asks task least =
-    let short = short_by (nat_le task.expected most_wanted) task.expected task.unsolicited (leb-true task.expected most_wanted) in
-    many_by (lacks_data task) (map (ask task) (range_with_len task.sent (allowed task - task.sent))) 2048
-    (omega (arith, length-map-range_with_len (ask task) task.sent (allowed task - task.sent), few_bursts _ task.burst short least))
+few_asks task least = grind (arith, short_by, leb-true, many_by, length-map-range_with_len, few_bursts)
 
 -- ---- a header that is written into the room in front of data, and the answers that come of it
 
@@ -372,9 +363,7 @@ one_answer numbers values frame sent piece fields items range is one made writte
 -- in so many pieces its data is sent
 pub count_is : (values : Values) (frame : Frame) (done : Outcome) (sent count : ℕ) → AreInRange values → sent ≡ length (data_sent frame done)
     → count ≡ piece_count sent values.max_burst_length values.max_recv_data_segment_length → count ≡ length (sent_pieces values (data_sent frame done))
-count_is values frame done sent count range is counted =
-    counted ∙ ap (λ (n : ℕ). piece_count n values.max_burst_length values.max_recv_data_segment_length) is
-    ∙ sym (pieces_counted values (data_sent frame done) range)
+count_is values frame done sent count range is counted = grind (arith, pieces_counted)
 
 -- its data in pieces, and how it ended after them
 pub all_spelled : (numbers : Stamp) (values : Values) (frame : Frame) (done : Outcome) (count : ℕ) (response : Answer)
@@ -394,11 +383,7 @@ pub cut_as_sent : (numbers : Stamp) (values : Values) (frame : Frame) (sent byte
     → shared ≡ shared_fields numbers frame → limits ≡ outbox.limits_of values → bytes ≡ sent
     → outbox.answered shared limits bytes last ≡ flat_map spelling (data_answers numbers values frame sent) ++ last
 unfolding data_answers
-cut_as_sent numbers values frame sent bytes last shared limits shares cuts is =
-    ap (λ (s : SharedFields). outbox.answered s limits bytes last) shares
-    ∙ ap (λ (l : Limits). outbox.answered (shared_fields numbers frame) l bytes last) cuts
-    ∙ ap (λ (xs : List ℕ). outbox.answered (shared_fields numbers frame) (outbox.limits_of values) xs last) is
-    ∙ ap (λ (answers : List Answer). flat_map spelling answers ++ last) (same_data_ins numbers frame sent 0 (sent_pieces values sent))
+cut_as_sent numbers values frame sent bytes last shared limits shares cuts is = grind (arith, same_data_ins)
 
 -- after the room stands what is sent
 pub sent_behind : (items given : List ℕ) (sent : ℕ) → drop 48 items ≡ given → drop 48 (take (48 + sent) items) ≡ take sent given

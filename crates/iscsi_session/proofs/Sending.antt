@@ -45,11 +45,7 @@ none_sent : (transfer : Transfer) → sent_to [] transfer ≡ transfer
 none_sent transfer = ap (λ (t : WriteDataState). record transfer { task = t }) (sent_none transfer.task)
 
 pub sent_nothing : (i : ℕ) (transfers : TransferList) → transfers.next_tag < 0xFFFFFFFF → sent_at i [] transfers ≡ transfers
-sent_nothing i transfers below =
-    let tag : (transfers.next_tag + 0) % 0xFFFFFFFF ≡ transfers.next_tag = omega (arith, below) in
-    let list : set transfers.list i (sent_to [] (transfer_at transfers.list i)) ≡ transfers.list =
-    ap (set transfers.list i) (none_sent (transfer_at transfers.list i)) ∙ same_there transfers.list i in
-    rw (tag, list) refl
+sent_nothing i transfers below = grind (arith, none_sent, same_there)
 
 both_sent : (r2t : R2t) (r2ts : List R2t) (transfer : Transfer) → sent_to r2ts (sent_to (r2t ∷ []) transfer) ≡ sent_to (r2t ∷ r2ts) transfer
 both_sent r2t r2ts transfer =
@@ -57,14 +53,7 @@ both_sent r2t r2ts transfer =
 
 pub sent_behind : (i : ℕ) (r2t : R2t) (r2ts : List R2t) (transfers : TransferList) → i < length transfers.list
     → sent_at i r2ts (sent_at i (r2t ∷ []) transfers) ≡ sent_at i (r2t ∷ r2ts) transfers
-sent_behind i r2t r2ts transfers lt =
-    let l = transfers.list in
-    let one = sent_to (r2t ∷ []) (transfer_at l i) in
-    let tag : ((transfers.next_tag + 1) % 0xFFFFFFFF + length r2ts) % 0xFFFFFFFF ≡ (transfers.next_tag + length (r2t ∷ r2ts)) % 0xFFFFFFFF = omega arith in
-    let list : set (set l i one) i (sent_to r2ts (transfer_at (set l i one) i)) ≡ set l i (sent_to (r2t ∷ r2ts) (transfer_at l i)) =
-    ap (λ (t : Transfer). set (set l i one) i (sent_to r2ts t)) (there_now l i one lt)
-    ∙ twice l i one (sent_to r2ts one) ∙ ap (set l i) (both_sent r2t r2ts (transfer_at l i)) in
-    rw (tag, list) refl
+sent_behind i r2t r2ts transfers lt = grind (arith, there_now, twice, both_sent)
 
 -- ---- the first that is due
 
@@ -108,14 +97,7 @@ pub record IsSent (i : ℕ) (numbers : Stamp) (old now : TransferList) (before i
 
 pub sending_begins : (i : ℕ) (numbers : Stamp) (old : TransferList) (before : List ℕ) (spare : ℕ) → i < length old.list
     → length (due_asks (transfer_at old.list i).task) ≤ 4 → 192 ≤ spare → IsSent i numbers old old before before spare
-sending_begins i numbers old before spare lt few room =
-    let transfer = transfer_at old.list i in
-    record {
-      there = lt;
-      rest = refl;
-      written = refl;
-      room = omega (arith, few, room, length-r2ts transfer.header old.next_tag numbers (due_asks transfer.task));
-    }
+sending_begins i numbers old before spare lt few room = grind (arith, length-r2ts)
 
 pub sending_more : {i : ℕ} {numbers : Stamp} {old now next : TransferList} {before items more : List ℕ} {spare less : ℕ} (r2t : R2t)
     → IsSent i numbers old now before items spare → r2ts_at now numbers i ≡ r2t ∷ r2ts_at next numbers i → next ≡ sent_at i (r2t ∷ []) now

@@ -248,14 +248,7 @@ judge_leaves : (v : Verdict) (frame : Frame) (work : Work) (old new : SessionSta
     → Judges v frame old new before waiting → Starts work old units
     → Leaves work (judge frame work) new before waiting units × ((judge frame work).goes_on ≡ not (violates v))
 unfolding judge
-judge_leaves v frame work old new before waiting units judges s =
-    let st = stands_of work old units s in
-    let is = verdict work.past frame in
-    let kept = judged_same is frame work.past in (
-      leaves_answering work (judge frame work) new before waiting units (judged_answers is work.past frame) (judges.stands work.past st) kept.0 kept.1
-          (judges.out work.past st) judges.orders refl s.units,
-      ap (λ (x : Verdict). not (violates x)) (sym (judges.judged_is work.past st)),
-    )
+judge_leaves v frame work old new before waiting units judges s = grind (arith, stands_of, judged_same, leaves_answering)
 
 judged_runs : {v : Verdict} (frame : Frame) {old new : SessionState} {before waiting : Output} {units : TargetUnits} → Judges v frame old new before waiting
     → Runs (λ fails place. take_step fails (Judging place) (judge frame)) None (not (violates v)) old new before waiting units units
