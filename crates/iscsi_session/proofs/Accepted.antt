@@ -104,9 +104,7 @@ takes_one past h line few beyond =
 pub takes_many : (past : Past) (d h : ℕ) (line : List Frame) → counted past.came (over past) ≤ h
     → ((k : ℕ) → h ≤ k → order.has_come (numbered past.came) (k + window) ≡ false)
     → takes d (tasks_with past h line) ≡ tasks_with past (h + d) (line ++ filter_map (λ o. o) (map (frame_numbered (standing past)) (range_with_len h d)))
-takes_many past zero h line few beyond =
-    let same : h ≡ h + 0 = omega arith in
-    ap (λ (l : List Frame). tasks_with past h l) (sym (append-nil line)) ∙ ap (λ (n : ℕ). tasks_with past n (line ++ [])) same
+takes_many past zero h line few beyond = grind (arith, append-nil)
 takes_many past (suc d) h line few beyond =
     let more = line ++ filter_map (λ o. o) (frame_numbered (standing past) h ∷ []) in
     let at : suc h + d ≡ h + suc d = omega arith in

@@ -16,10 +16,10 @@ use Rattle.iscsi_order.specs.Window.{taken as taken_numbers}
 use Rattle.scsi_unit.specs.Units.{numbers_of}
 use Rattle.iscsi_session.specs.declared.verdict.Verdict.{Verdict}
 use Rattle.iscsi_session.specs.declared.verdict.Verdict.TheVariants.{Ignored, Dropped, Rejected, Violating, Accepted, Feeding}
-use Rattle.iscsi_session.specs.Requests.{Request, Past, Drain, drain_for, frame_of, is_command, is_function, is_in, left, numbers, held, due, queue, unfinished, pending as awaiting, functions, moved, removing, draining, answering, stamp, number_for, DataOut, SentR2t}
+use Rattle.iscsi_session.specs.Requests.{Request, Past, drain_for, frame_of, is_command, is_function, is_in, left, numbers, held, due, queue, unfinished, pending as awaiting, functions, moved, removing, draining, answering, stamp, number_for, DataOut, SentR2t}
 use Rattle.iscsi_session.specs.Functions.{plug, plugged, reached, plugs, awaited, drained_functions, told, told_answers, function_result}
 use Rattle.iscsi_session.specs.Judging.{verdict, judged, reject}
-use Rattle.iscsi_session.specs.Transfers.{command_with, fed, task_at, asks_of, asking, next_transfer_tag, r2ts_of, r2t_answers, sent_for}
+use Rattle.iscsi_session.specs.Transfers.{command_with, fed, task_at, asking, r2ts_of, r2t_answers, sent_for}
 use Rattle.iscsi_session.specs.Texts.{exchange_of}
 use Rattle.iscsi_session.specs.Acts.{reach_of, act_answers, ended, behind, acted}
 use Rattle.iscsi_session.specs.State.{IsLawful, tasks_of, holding, takes_all}

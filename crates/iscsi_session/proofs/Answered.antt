@@ -281,9 +281,7 @@ module _ (past : Past) (state : SessionState) (k : ℕ) (rest : List ℕ) (s : S
   -- a request of a kind that acts stands as it came
   pub came_as : {o : Opcode} → is_command (frame_of (standing past) k) ≡ false → kind_of (frame_of (standing past) k) ≡ o
       → (opcodes.Other 0x3F ≡ o → ⊥) → frame_of (standing past) k ≡ frame_of past.came k
-  came_as no_command e other =
-      let as_kept = stands_as past k came (λ h. other (sym (ap opcode_of h) ∙ e)) in
-      as_kept ∙ bare_other (frame_of past.came k) (ap is_command (sym as_kept) ∙ no_command)
+  came_as no_command e other = grind (arith, stands_as, came, bare_other)
 
   -- and one of another kind is one, or was removed
   pub other_came : IsOther (kind_of (frame_of (standing past) k)) → IsOther (kind_of (frame_of past.came k))

@@ -11,10 +11,9 @@ use Rattle.iscsi_transfer.specs.declared.progress.Ask.{Ask}
 use Rattle.iscsi_transfer.proofs.Standing.{remembered-asked}
 use Rattle.iscsi_transfer.proofs.Due.{sent_is_due_no_more}
 use Rattle.iscsi_session.specs.declared.transfers.Transfer.{Transfer}
-use Rattle.iscsi_session.specs.Drained.{Drained}
 use Rattle.iscsi_session.specs.Requests.{Past, SentR2t, frame_of, is_in, due, queue, unfinished, stamp, statuses, bearing, functions}
 use Rattle.iscsi_session.specs.Transfers.{outs_of, tags_of, data_past, task_at, asks_of, is_due_of, asking, next_transfer_tag, drains_of, r2t_for, r2ts_for, r2ts_of, r2t_answers, sent_for, asked, asked_by, r2ts_by}
-use Rattle.iscsi_session.specs.State.{SessionState, TransferList, AreDrained, drained_of, IsLawful, Stands, tasks_of, transfers_of, transfer_of, transfer_at, no_transfer, asking_place, r2ts_at, sent_at, sent_to, functions_of, standing, remembered}
+use Rattle.iscsi_session.specs.State.{SessionState, AreDrained, drained_of, IsLawful, Stands, tasks_of, transfers_of, transfer_of, transfer_at, no_transfer, asking_place, r2ts_at, sent_at, sent_to, functions_of, standing}
 use Rattle.iscsi_session.specs.Steps.{ready, ready_in}
 use Rattle.iscsi_session.specs.Laws.{R2tsAreSentAtOnce}
 use Rattle.iscsi_order.specs.Stat.{stat_sn}

@@ -252,13 +252,7 @@ waits_draining k names past = refl
 
 ended_fewer : (luns : List ℕ) (b : Bool) (past : Past) (k : ℕ) (rest : List ℕ) → is_function (frame_of past.came k) ≡ b → IsLawful past → due past ≡ k ∷ rest
     → waiting (tasks_of (ended luns k past)) + cond b 2 1 ≤ waiting (tasks_of past)
-ended_fewer luns false past k rest f lawful is =
-    omega (
-      arith,
-      ap (λ (p : Past). waiting (tasks_of p)) (ended_plain luns k past f),
-      moved_fewer past k rest lawful is,
-      weight_some (frame_of (standing past) k),
-    )
+ended_fewer luns false past k rest f lawful is = grind (arith, ended_plain, moved_fewer, weight_some)
 ended_fewer luns true past k rest f lawful is =
     let reach = reach_of luns k past in
     let p = moved k past in

@@ -134,11 +134,7 @@ filter_either p q [] = omega arith
 filter_either p q (k ∷ l) = grind (arith, filter_either p q l)
 
 at_most_one : (k : ℕ) (names : List ℕ) → AreDistinct names → length (filter (λ j. j == k) names) ≤ 1
-at_most_one k names distinct = by_bool (is_in k names) refl
-  where
-    by_bool : (b : Bool) → is_in k names ≡ b → length (filter (λ j. j == k) names) ≤ 1
-    by_bool true e = omega (arith, ap (λ (l : List ℕ). length l) (once_in k names distinct e))
-    by_bool false e = omega (arith, ap (λ (l : List ℕ). length l) (none_of k names e))
+at_most_one k names distinct = grind (arith, once_in, none_of)
 
 pub waiting_more : (past after : Past) (gone : List ℕ) (k : ℕ) → functions after ≡ left gone (functions past)
     → ((j : ℕ) → waits_in after j ≡ true → (waits_in past j || j == k) ≡ true) → waiting_of after ≤ waiting_of past + 1
@@ -182,10 +178,7 @@ waiting_joined past lawful x =
     none false = refl
 
 pub waiting_told : (past : Past) (k : ℕ) → IsLawful past → is_in k (awaiting past) ≡ true → waiting_of (told k past) ≤ waiting_of past
-waiting_told past k lawful waits = waiting_less past (told k past) (k ∷ []) (functions_told past lawful k waits) fewer
-  where
-    fewer : (j : ℕ) → waits_in (told k past) j ≡ true → waits_in past j ≡ true
-    fewer j h = in_left j (k ∷ []) (awaiting past) (ap (is_in j) (sym (left_more past.answered (k ∷ []) (map (λ d. d.function) past.drains))) ∙ h)
+waiting_told past k lawful waits = grind (arith, waiting_less, functions_told, in_left, left_more)
 
 -- ---- all of them
 

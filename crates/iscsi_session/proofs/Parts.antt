@@ -30,7 +30,7 @@ use Rattle.iscsi_session.specs.Judging.{is_fresh}
 use Rattle.iscsi_session.specs.declared.transfers.Transfer.{Transfer}
 use Rattle.iscsi_transfer.specs.WriteData.{WriteDataState, remembered as task_of}
 use Rattle.iscsi_transfer.specs.Payload.{begun as begun_data}
-use Rattle.iscsi_session.specs.State.{SessionState, TaskLists, TransferList, no_tasks, transfers_of, functions_of, begun_transfer, bare, bare_command, bare_frames, kept, frame_numbered, standing, tasks_of, window_of, IsLawful, Stands, is_vacant, is_vacant_for, holding, takes_all, remembered}
+use Rattle.iscsi_session.specs.State.{SessionState, TaskLists, TransferList, no_tasks, transfers_of, functions_of, begun_transfer, bare, bare_command, bare_frames, kept, frame_numbered, standing, tasks_of, window_of, IsLawful, Stands, is_vacant, is_vacant_for, holding, takes_all}
 use Rattle.iscsi_session.proofs.Standing.{bare_other, bare_is, numbered_standing}
 use Rattle.iscsi_session.proofs.Taken.{frame_marked}
 use Rattle.iscsi_session.proofs.Left.{both_true}

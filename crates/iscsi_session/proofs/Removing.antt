@@ -215,9 +215,7 @@ module _ (reach : FunctionReach) (past : Past) (lawful : IsLawful past) where
       here after (length_standing after) (place_standing after n)
       ∙ ap (λ (f : Frame). Some f) (voids_here p lt (held_open n le lt))
       ∙ ap (option_map (void_if reach)) (sym (here past (length_standing past) (place_standing past n)))
-  held_by false n h le =
-      frame_missing (standing after) n (ap (λ (l : List ℕ). order.has_come l n) (numbered_standing after) ∙ h)
-      ∙ ap (option_map (void_if reach)) (sym (frame_missing (standing past) n (ap (λ (l : List ℕ). order.has_come l n) (numbered_standing past) ∙ h)))
+  held_by false n h le = grind (arith, frame_missing, numbered_standing)
 
   held_range : (a n : ℕ) → (numbers past).handed ≤ a
       → map (frame_numbered (standing after)) (range_with_len a n) ≡ map (option_map (void_if reach))

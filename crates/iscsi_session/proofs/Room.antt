@@ -1,8 +1,8 @@
 -- How many bytes the answers of a session take at most, that those of a command fit into the room that is made for them, and how they are
 -- written around the data where it lies.
 use Rattle.std.proofs.Common.{◌≡◌, ℕ, ◌+◌, ◌*◌, ◌<◌, ◌≤◌, List, [], ◌∷◌, ◌++◌, length, map, take, get_or, Some, refl, ap, subst, ◌∙◌, arith, zero, suc, ◌/◌, ◌%◌, ◌==◌, min, Bool, true, false, Option, None, append-nil, ◌-◌, drop, replicate, sym, length-drop}
-use Rattle.std.specs.Prelude.{flat_map, nat_le, if◌then◌else◌}
-use Rattle.std.specs.List.{enumerate_from, slice_get, range_with_len}
+use Rattle.std.specs.Prelude.{flat_map, if◌then◌else◌}
+use Rattle.std.specs.List.{enumerate_from, slice_get}
 use Rattle.std.proofs.lemmas.Bool.{leb-true}
 use Rattle.std.proofs.lemmas.Option.{slice_get-get_or, slice_get_within}
 use Rattle.std.proofs.lemmas.List.{length-append, length-map, length-take, length-replicate, get_or-map, take_more, append_assoc, take_all, drop_all, drop-take, take-replicate}
@@ -19,7 +19,7 @@ use Rattle.iscsi_pdu.specs.declared.stamp.Stamp.{Stamp}
 use Rattle.iscsi_transfer.specs.declared.data_in.Piece.{Piece}
 use Rattle.iscsi_transfer.specs.DataIn.{piece_count, part_of}
 use Rattle.iscsi_transfer.specs.Laws.{Lies}
-use Rattle.iscsi_transfer.specs.WriteData.{WriteDataState, most_wanted, ask, lacks_data, allowed, due_asks}
+use Rattle.iscsi_transfer.specs.WriteData.{WriteDataState, ask, due_asks}
 use Rattle.iscsi_transfer.specs.declared.progress.Ask.{Ask}
 use Rattle.iscsi_transfer.proofs.Pieces.{pieces_are_joined}
 use Rattle.iscsi_transfer.proofs.Counts.{pieces_are_counted, less_has_fewer, count_fits}

@@ -1,5 +1,5 @@
 -- The stages of a frame: each is a run, and so are they one after the other.
-use Rattle.std.proofs.Common.{◌≡◌, ◌≢◌, ℕ, List, [], ◌∷◌, ◌++◌, Bool, true, false, not, Option, Some, None, refl, sym, ap, ◌∙◌, subst, append-nil, zero, suc, ◌+◌, ◌-◌, ◌<◌, ◌≤◌, arith}
+use Rattle.std.proofs.Common.{◌≡◌, ◌≢◌, ℕ, List, [], ◌∷◌, ◌++◌, Bool, true, false, not, Option, Some, None, refl, sym, ap, ◌∙◌, append-nil, zero, suc, ◌+◌, ◌-◌, ◌<◌, ◌≤◌, arith}
 use Rattle.std.specs.Prelude.{flat_map}
 use Rattle.std.proofs.lemmas.Bool.{eq-eqb}
 use Rattle.scsi_unit.specs.Units.{numbers_of}
@@ -33,20 +33,8 @@ module _ (kind : ℕ → Step) (of : (place : ℕ) → is_of place (kind place) 
   first_leads : (goes_on : Bool) (l : List ℕ) (old new : SessionState) (before waiting : Output) (units after : TargetUnits) (place : ℕ)
       (fails : Step → Bool) (work : Work) → line work.past ≡ l → fails (kind place) ≡ false → Starts work old units
       → LeavesFirst goes_on l (reaches (kind place) work) new before waiting after → LeadsTo first_of None goes_on new before waiting after place fails work
-  first_leads goes_on [] old new before waiting units after place fails work e un s left = record {
-    to = work;
-    is = ap (λ (x : List ℕ). first_steps fails (kind place) does x work) e;
-    on = s.goes_on ∙ sym left.0;
-    leaves = leaves_as (reaches (kind place) work) (reaches (kind place) work) work work new before waiting after refl refl refl refl refl left.1;
-    reached = tt;
-  }
-  first_leads goes_on (k ∷ others) old new before waiting units after place fails work e un s left = record {
-    to = does k (reaches (kind place) work);
-    is = ap (λ (x : List ℕ). first_steps fails (kind place) does x work) e ∙ step_done fails (kind place) (does k) work s.goes_on un;
-    on = left.0;
-    leaves = leaves_reaching (kind place) work (does k (reaches (kind place) work)) new before waiting after left.1;
-    reached = tt;
-  }
+  first_leads goes_on [] old new before waiting units after place fails work e un s left = grind (arith, leaves_as)
+  first_leads goes_on (k ∷ others) old new before waiting units after place fails work e un s left = grind (arith, step_done, leaves_reaching)
 
   pub first_runs : {goes_on : Bool} {old new : SessionState} {before waiting : Output} {units after : TargetUnits}
       → ((work : Work) → Starts work old units → LeavesFirst goes_on (line work.past) work new before waiting after)
@@ -58,9 +46,7 @@ module _ (kind : ℕ → Step) (of : (place : ℕ) → is_of place (kind place) 
   -- there is none
   pub none_runs : {state : SessionState} {before : Output} {units : TargetUnits} → ((past : Past) → Stands past state → line past ≡ [])
       → Runs first_of None true state state before before units units
-  none_runs {state} {before} {units} none = first_runs (λ work s.
-      subst (λ (l : List ℕ). LeavesFirst true l work state before before units) (sym (none work.past (stands_of work state units s)))
-      (refl, leaves_nothing work state before units s))
+  none_runs {state} {before} {units} none = grind (arith, first_runs, stands_of, leaves_nothing)
 
   -- an allocation fails before it
   pub first_stops : {state : SessionState} {bytes items : List ℕ} → items ≡ bytes → ((place : ℕ) → is_step (kind place) (kind place) ≡ true)
@@ -87,28 +73,14 @@ module _ (kind : ℕ → Step) (of : (place : ℕ) → is_of place (kind place) 
       (new : SessionState) (bytes items : List ℕ) (orders : List (List ℕ)) (units : TargetUnits) → work.units ≡ units → work.goes_on ≡ true
       → Stands (by l work.past) new → items ≡ bytes ++ flat_map spelling (answers l work.past)
       → LeavesFirst true l work new (output bytes orders) (output items orders) units
-  sends_first by answers sends [] work new bytes items orders units same on s out = (
-    refl,
-    leaves_answering work work new (output bytes orders) (output items orders) units (answers [] work.past)
-        (subst (λ (p : Past). Stands p new) (sends.none work.past) s) refl
-        (ap (λ (p : Past). p.answers) (sym (sends.none work.past)) ∙ (sends.kept [] work.past).1) out refl refl same,
-  )
-  sends_first by answers sends (k ∷ others) work new bytes items orders units same on s out =
-      let kept = sends.kept (k ∷ others) work.past in
-      subst (λ (v : Work). (v.goes_on ≡ true) × Leaves work v new (output bytes orders) (output items orders) units)
-      (sym (sends.does_so k others work)) (
-        on,
-        leaves_answering work (record work { past = by (k ∷ others) work.past }) new (output bytes orders) (output items orders) units
-            (answers (k ∷ others) work.past) s kept.0 kept.1 out refl refl same,
-      )
+  sends_first by answers sends [] work new bytes items orders units same on s out = grind (arith, leaves_answering)
+  sends_first by answers sends (k ∷ others) work new bytes items orders units same on s out = grind (arith, leaves_answering)
 
   pub sent_runs : (by : List ℕ → Past → Past) (answers : List ℕ → Past → List Answer) → Sends by answers → (old new : SessionState) (bytes items : List ℕ)
       (orders : List (List ℕ)) (units : TargetUnits)
       → ((past : Past) → Stands past old → Stands (by (line past) past) new × (items ≡ bytes ++ flat_map spelling (answers (line past) past)))
       → Runs first_of None true old new (output bytes orders) (output items orders) units units
-  sent_runs by answers sends old new bytes items orders units sent = first_runs (λ work s.
-      (let now = sent work.past (stands_of work old units s) in
-      sends_first by answers sends (line work.past) work new bytes items orders units s.units s.goes_on now.0 now.1))
+  sent_runs by answers sends old new bytes items orders units sent = grind (arith, first_runs, stands_of, sends_first)
 
 pub asks : Sends Asking (λ place. eq-eqb place place refl) asking ask asked_by r2ts_by
 unfolding ask
@@ -154,16 +126,7 @@ module _ (kind : ℕ → ℕ → Step) (facts : IsKind kind) (line : Past → Li
     pub fewer : turns + count now ≤ count old
 
   pub none_ran : (old : SessionState) (before : Output) (units : TargetUnits) → Ran 0 old old before before units units
-  none_ran old before units = record {
-    runs = runs_by (λ place fails work told s. record {
-      to = work;
-      is = refl;
-      on = s.goes_on;
-      leaves = leaves_nothing work old before units s;
-      reached = tt;
-    });
-    fewer = omega arith;
-  }
+  none_ran old before units = grind (arith, runs_by, leaves_nothing)
 
   turn_behind : (n : ℕ) {failed : Option (ℕ → Step)} {goes_on : Bool} {old now next : SessionState} {before waiting items : Output}
       {units middle after : TargetUnits} → ((place k : ℕ) → k < n → is_failed failed place (kind place k) ≡ false)
@@ -177,10 +140,7 @@ module _ (kind : ℕ → ℕ → Step) (facts : IsKind kind) (line : Past → Li
   pub ran_more : {turns : ℕ} {old now next : SessionState} {before waiting items : Output} {units middle after : TargetUnits}
       → Ran turns old now before waiting units middle → Runs (turn_of turns) None true now next waiting items middle after → count next < count now
       → Ran (suc turns) old next before items units after
-  ran_more {turns} ran turn less = record {
-    runs = turn_behind turns (λ place k lt. refl) ran.runs turn;
-    fewer = (let few = ran.fewer in omega arith);
-  }
+  ran_more {turns} ran turn less = grind (arith, turn_behind)
 
   -- no more than there are turns
   begins : (work : Work) (old : SessionState) (units : TargetUnits) → Starts work old units → count old ≤ size work.past
