@@ -1,11 +1,12 @@
 -- A whole event of bytes keeps the code where the World is.
-use Rattle.std.proofs.Common.{◌≡◌, ◌≢◌, ℕ, ◌+◌, ◌<◌, List, [], ◌∷◌, ◌++◌, length, drop, Bool, true, false, eqb, Option, Some, None, refl, sym, ap, ◌∙◌, subst, arith, inl, inr}
+use Rattle.std.proofs.Common.{◌≡◌, ◌≢◌, ℕ, ◌+◌, ◌<◌, ◌≤◌, ◌⊎◌, List, [], ◌∷◌, ◌++◌, length, drop, Bool, true, false, Option, Some, None, refl, sym, ap, ◌∙◌, subst, arith, inl, inr}
 use Rattle.std.specs.Prelude.{All, Result, Ok, Err, OnOk, IfErr}
 use Rattle.std.specs.List.{fold, enumerate_from}
+use Rattle.std.proofs.lemmas.Bool.{false≢true}
 use Rattle.std.proofs.lemmas.Bool.Decides.{eqb_tells}
-use Rattle.std.proofs.lemmas.List.{append-nil, get_or-set_same, drop_all}
+use Rattle.std.proofs.lemmas.List.{append-nil, get_or-set_same, set-set, drop_all}
 use Rattle.std.proofs.lemmas.List.FromFn.{length-enumerate_from}
-use Rattle.iscsi_pdu.specs.Frames.{rest, is_long}
+use Rattle.iscsi_pdu.specs.Frames.{Frame, rest, is_long}
 use Rattle.iscsi_pdu.proofs.Cuts.{rest_in_pieces}
 use Rattle.scsi_unit.specs.Units.{UnitStates, AreSound}
 use Rattle.iscsi_login.specs.Directory.{KnownTargets}
@@ -14,21 +15,24 @@ use Rattle.iscsi_session.proofs.Came.{plain_ahead, ahead_self}
 use Rattle.iscsi_target.specs.History.{Bytes, Arriving, AtEnd, Point, Mark, History, Arrival, arrivals, new_arrivals, happening, plain, marked, connection_limit}
 use Rattle.iscsi_target.specs.Life.{Life, Phase, LoggingIn, reads}
 use Rattle.iscsi_target.specs.World.{Setting, World, present, changed, reads_life, is_marked, close, reaching, take_step, arrive, brought, longer, bring, begun_event, world}
-use Rattle.iscsi_target.specs.Machine.{LinkState, Machine, IsSound, IsSoundAt, WhereSound, Feeds, link_at, with_link, closed, is_reading, is_open_at, free_link}
-use Rattle.iscsi_target.specs.Stands.{phase_for, link_of, half_of, IsShort, IsStarved, StandsAt, Stands, StandsAfter, stand_in, are_reached, Begins}
+use Rattle.iscsi_target.specs.Machine.{LinkState, Machine, IsSound, IsSoundAt, WhereSound, Feeds, link_at, with_link, closed, is_reading, is_open_at, free_link, shut_link}
+use Rattle.iscsi_target.specs.HalfRead.{out_in, IsCounted, CountsPiece, KeepsPiece, KeepsPieceAt}
+use Rattle.iscsi_target.specs.Stands.{phase_for, link_of, needs_in, needs, IsHalf, IsQuiet, IsQuietIn, IsShort, IsStarved, StandsAt, Stands, StandsAfter, stand_in, are_reached, Begins}
 use Rattle.iscsi_target.specs.Serving.{Serves, first_starved, with_half, is_among, reached_since, TakesAll}
 use Rattle.iscsi_target.specs.declared.fault.Starved.{Starved}
 use Rattle.iscsi_target.proofs.Arrivals.{new_is}
 use Rattle.iscsi_target.proofs.Moving.{own_self, changes_feeds}
 use Rattle.iscsi_target.proofs.Reflected.{sound_back}
-use Rattle.iscsi_target.proofs.Choices.{eqb_self, cond_true, cond_false}
+use Rattle.iscsi_target.proofs.Choices.{cond_true}
 use Rattle.iscsi_target.proofs.Lives.{present-changed, present-changed_other, present_is}
 use Rattle.iscsi_target.proofs.Marks.{mark_at, marked_one, marked_none, unmarked}
 use Rattle.iscsi_target.proofs.Walks.{any_arrivals, on-arrivals}
 use Rattle.iscsi_target.proofs.Keeping.{Prolongs, Stays, goes, on-close, on-reaching, on-then, on-same, out-longer}
 use Rattle.iscsi_target.proofs.Linked.{reads_there, some_reads, closes, present-close, serves_as, serves_reaching, present-reaching}
 use Rattle.iscsi_target.proofs.Comings.{comings_changed}
-use Rattle.iscsi_target.proofs.Standing.{fresh, present-begun, present-fresh, stands_as, machine_same, serving, link_stands, is_open_there, count_stands}
+use Rattle.iscsi_target.proofs.HalfRead.{like, alike_long, rest_none_whole, IsUnneeded, arrivals_same, IsLeft, left_same, counted_none, counted_fed}
+use Rattle.iscsi_target.proofs.Easing.{Eases, arrivals_ease, closing_eases}
+use Rattle.iscsi_target.proofs.Standing.{half_here, half_other, fresh, present-begun, present-fresh, stands_as, machine_same, serving, link_stands, is_open_there}
 use Rattle.iscsi_target.proofs.Frames.{idle_step, unmarked_step, marked_step, reached_first}
 use Rattle.iscsi_target.proofs.Doing.{reached_both}
 use Rattle.iscsi_target.proofs.Taking.{halving, rehalved, halves_idle, half_twice, idle_all, serves_halves}
@@ -86,13 +90,23 @@ longer_serves s sent half w machine comings c piece life lt at h =
 
 -- ---- between two events again
 
--- what is kept of a present life that stayed
-half_kept : (directory : KnownTargets) (sent : ℕ) (before after : Option Life) → Stays before after
-    → link_of directory sent (half_of before) after ≡ link_of directory sent (half_of after) after
-half_kept directory sent None None s = refl
-half_kept directory sent None (Some y) s = absurd s
-half_kept directory sent (Some x) None s = refl
-half_kept directory sent (Some x) (Some y) s = ap (λ (bytes : List ℕ). link_of directory sent (rest bytes) (Some y)) (sym s.0)
+still_none : (a b : Bool) → (a ≡ true → b ≡ true) → b ≡ false → a ≡ false
+still_none true b eases none = absurd (false≢true (sym none ∙ eases refl))
+still_none false b eases none = refl
+
+-- what is kept of a present life that stayed, and whose needs did not grow
+kept_on : (before after : Option Life) (half : List ℕ) → Stays before after → ((out : Frame) → needs after out ≡ true → needs before out ≡ true)
+    → IsHalf before half → IsHalf after half
+kept_on None None half s eases kept = tt
+kept_on None (Some y) half s eases kept = absurd s
+kept_on (Some x) None half s eases kept = tt
+kept_on (Some x) (Some y) half s eases (inl all) = inl (all ∙ ap rest (sym s.0))
+kept_on (Some x) (Some y) half s eases (inr counted) =
+    let same : rest y.bytes ≡ rest x.bytes = ap rest s.0 in
+    inr (
+      ap (λ (b : List ℕ). needs_in y.phase (out_in b)) same ∙ still_none _ _ (eases (out_in (rest x.bytes))) counted.0,
+      subst (IsCounted half) (sym same) counted.1,
+    )
 
 short_kept : (before after : Option Life) → Stays before after → IsShort before → IsShort after
 short_kept None None s h = tt
@@ -100,43 +114,47 @@ short_kept None (Some y) s h = absurd s
 short_kept (Some x) None s h = tt
 short_kept (Some x) (Some y) s h = λ e. ap (λ (bytes : List ℕ). is_long (rest bytes)) s.0 ∙ h (s.1 e)
 
--- the bytes that came on the connection, after which these are left
-here_kept : (directory : KnownTargets) (sent : ℕ) (bytes left_ : List ℕ) (x : Life) (after : Option Life) → x.bytes ≡ bytes → rest bytes ≡ left_
-    → Stays (Some x) after → link_of directory sent left_ after ≡ link_of directory sent (half_of after) after
-here_kept directory sent bytes left_ x None e r s = absurd s
-here_kept directory sent bytes left_ x (Some y) e r s = ap (λ (half : List ℕ). link_of directory sent half (Some y)) (sym (ap rest (s.0 ∙ e) ∙ r))
-
-here_short : (bytes left_ : List ℕ) (x : Life) (after : Option Life) → x.bytes ≡ bytes → rest bytes ≡ left_ → Stays (Some x) after
-    → (reads_life after ≡ true → is_long left_ ≡ false) → IsShort after
-here_short bytes left_ x None e r s short = tt
-here_short bytes left_ x (Some y) e r s short = λ reads_y. ap is_long (ap rest (s.0 ∙ e) ∙ r) ∙ short reads_y
+here_short : (bytes : List ℕ) (x : Life) (after : Option Life) → x.bytes ≡ bytes → Stays (Some x) after
+    → (reads_life after ≡ true → is_long (rest bytes) ≡ false) → IsShort after
+here_short bytes x None e s short = tt
+here_short bytes x (Some y) e s short = λ reads_y. ap is_long (ap rest (s.0 ∙ e)) ∙ short reads_y
 
 -- where the World that the arrivals made of the longer one is served, it is stood at
 pub stands_again : (s : Setting) (sent : ℕ → ℕ) (w v : World) (machine now : Machine) (comings : List Coming) (c : ℕ) (piece left_ : List ℕ) (life : Life)
-    → c < connection_limit → StandsAt s sent w machine → present c w ≡ Some life
-    → Prolongs (piece_came comings c piece w) v → rest (life.bytes ++ piece) ≡ left_ → (reads_life (present c v) ≡ true → is_long left_ ≡ false)
-    → Serves s sent (with_half c left_ (λ d. half_of (present d w))) v now → StandsAt s sent v now
-stands_again s sent w v machine now comings c piece left_ life lt h at goes r short serves =
+    → c < connection_limit → (h : StandsAt s sent w machine) → present c w ≡ Some life
+    → Prolongs (piece_came comings c piece w) v → Eases c (piece_came comings c piece w) v → IsHalf (present c v) left_
+    → (reads_life (present c v) ≡ true → is_long (rest (life.bytes ++ piece)) ≡ false)
+    → Serves s sent (with_half c left_ h.half) v now → StandsAt s sent v now
+stands_again s sent w v machine now comings c piece left_ life lt h at goes eases keeps short serves =
     let here : Stays (Some (longer piece life)) (present c v) = subst (λ (o : Option Life). Stays o (present c v)) (came_here comings c piece w life at)
     (goes.stays c) in
     let other : (d : ℕ) → d ≢ c → Stays (present d w) (present d v) = λ d differ. subst (λ (o : Option Life). Stays o (present d v))
     (came_other comings c d piece w differ) (goes.stays d) in
     record {
-      is = serves.is ∙ sym (machine_same s sent sent (with_half c left_ (λ d. half_of (present d w))) (λ d. half_of (present d v)) v v refl
-          (λ d below. elim (eqb_tells d c) [
-            | inl same ↦ rw same.1 (sym (ap (λ (b : List ℕ). link_of s.directory (sent c) b (present c v))
-                (cond_true (eqb c c) left_ (half_of (present c w)) (eqb_self c))
-                ∙ here_kept s.directory (sent c) (life.bytes ++ piece) left_ (longer piece life) (present c v) refl r here))
-            | inr differ ↦ sym (ap (λ (b : List ℕ). link_of s.directory (sent d) b (present d v))
-                (cond_false (eqb d c) left_ (half_of (present d w)) differ.0) ∙ half_kept s.directory (sent d) (present d w) (present d v) (other d differ.1))
-          ]));
+      half = with_half c left_ h.half;
+      is = serves.is;
+      kept = λ d below. elim (eqb_tells d c) [
+        | inl same ↦ rw (same.1, half_here c left_ h.half) keeps
+        | inr differ ↦ rw (half_other c d left_ h.half differ.1) (kept_on (present d w) (present d v) (h.half d) (other d differ.1)
+            (λ out some. ap (λ (o : Option Life). needs o out) (sym (came_other comings c d piece w differ.1)) ∙ eases d out differ.1 some) (h.kept d below))
+      ];
       answered = serves.answered;
       quiet = serves.quiet;
       short = λ d below. elim (eqb_tells d c) [
-        | inl same ↦ rw same.1 (here_short (life.bytes ++ piece) left_ (longer piece life) (present c v) refl r here short)
+        | inl same ↦ rw same.1 (here_short (life.bytes ++ piece) (longer piece life) (present c v) refl here short)
         | inr differ ↦ short_kept (present d w) (present d v) (other d differ.1) (h.short d below)
       ];
     }
+
+-- all bytes are kept of what came
+all_kept : (bytes : List ℕ) (x : Life) (after : Option Life) → x.bytes ≡ bytes → Stays (Some x) after → IsHalf after (rest bytes)
+all_kept bytes x None e s = tt
+all_kept bytes x (Some y) e s = inl (sym (ap rest (s.0 ∙ e)))
+
+pub all_here : (comings : List Coming) (c : ℕ) (piece : List ℕ) (w v : World) (life : Life) → present c w ≡ Some life
+    → Prolongs (piece_came comings c piece w) v → IsHalf (present c v) (rest (life.bytes ++ piece))
+all_here comings c piece w v life at goes = all_kept (life.bytes ++ piece) (longer piece life) (present c v) refl
+    (subst (λ (o : Option Life). Stays o (present c v)) (came_here comings c piece w life at) (goes.stays c))
 
 -- ---- the event's end
 
@@ -147,6 +165,7 @@ record Ended (s : Setting) (sent : ℕ → ℕ) (half : ℕ → List ℕ) (marks
   serves : Serves s sent half last machine
   goes : Prolongs v last
   reads_same : reads_life (present c last) ≡ reads_life (present c v)
+  same : (d : ℕ) → present d last ≡ present d v
 
 ended_by : (b : Bool) (s : Setting) (sent : ℕ → ℕ) (half : ℕ → List ℕ) (marks : List Mark) (c : ℕ) (v : World) (machine : Machine)
     → reads_life (present c v) ≡ b → is_marked marks c AtEnd ≡ false → Serves s sent half v machine
@@ -157,6 +176,7 @@ ended_by true s sent half marks c v machine r free h = record {
   serves = serves_reaching s sent half v machine c (AtEnd ∷ []) h;
   goes = on-reaching c (AtEnd ∷ []) v;
   reads_same = ap reads_life (present-reaching c c (AtEnd ∷ []) v);
+  same = λ d. present-reaching d c (AtEnd ∷ []) v;
 }
 ended_by false s sent half marks c v machine r free h = record {
   last = v;
@@ -164,6 +184,7 @@ ended_by false s sent half marks c v machine r free h = record {
   serves = h;
   goes = on-same v;
   reads_same = refl;
+  same = λ d. refl;
 }
 
 -- ---- the event
@@ -173,7 +194,8 @@ pub record Fed (s : Setting) (sent : ℕ → ℕ) (w : World) (machine first : M
   pub in_range : c < connection_limit
   pub stands : StandsAt s sent w machine
   pub reads_so : is_reading (link_at machine c).phase ≡ true
-  pub is : first ≡ with_link machine c (record (link_at machine c) { half = (link_at machine c).half ++ piece })
+  pub is : first ≡ with_link machine c (record (link_at machine c) { half = (link_at first c).half })
+  pub keeps : KeepsPiece piece (link_at machine c) (link_at first c)
 
 -- what the event makes of both
 pub record Came (s : Setting) (sent : ℕ → ℕ) (w : World) (comings : List Coming) (c : ℕ) (piece : List ℕ) (starved : Option ℕ) (now : Machine) : Type 0 where
@@ -200,49 +222,129 @@ reached_event : (marks : List Mark) (comings : List Coming) (c : ℕ) (piece : L
 unfolding changed
 reached_event marks comings c piece w v h = h
 
+unneeded_longer : (piece : List ℕ) (life : Life) (half : List ℕ) → IsUnneeded life half (rest life.bytes) → IsUnneeded (longer piece life) half (rest life.bytes)
+unneeded_longer piece life half u = record { alike = u.alike; none = u.none; short = u.short; unneeded = u.unneeded }
+
+-- what is kept of the first bytes decides as they do
+kept_unneeded : (life : Life) (half : List ℕ) → is_long (rest life.bytes) ≡ false
+    → (needs_in life.phase (out_in (rest life.bytes)) ≡ false) × IsCounted half (rest life.bytes) → IsUnneeded life half (rest life.bytes)
+kept_unneeded life half short k = record {
+  alike = like half (rest life.bytes) k.1;
+  none = rest_none_whole life.bytes;
+  short = short;
+  unneeded = k.0;
+}
+
+same_arrivals : (s : Setting) (marks : List Mark) (comings : List Coming) (c n : ℕ) (piece half : List ℕ) (w : World) (life : Life) → present c w ≡ Some life
+    → is_long (rest life.bytes) ≡ false → IsHalf (Some life) half
+    → (let v0 = piece_came comings c piece w in
+    fold (arrive s marks c) v0 (enumerate_from n (arrivals (half ++ piece))) ≡ fold (arrive s marks c) v0 (enumerate_from n (arrivals (rest life.bytes ++ piece))))
+same_arrivals s marks comings c n piece half w life at short (inl all) =
+    ap (λ (b : List ℕ). fold (arrive s marks c) (piece_came comings c piece w) (enumerate_from n (arrivals (b ++ piece)))) all
+same_arrivals s marks comings c n piece half w life at short (inr k) =
+    arrivals_same s marks c n (longer piece life) half (rest life.bytes) piece (piece_came comings c piece w) (came_here comings c piece w life at)
+    (unneeded_longer piece life half (kept_unneeded life half short k))
+
+left_of : (life : Life) (half piece : List ℕ) → is_long (rest life.bytes) ≡ false → IsHalf (Some life) half
+    → IsLeft (longer piece life) (half ++ piece) (rest life.bytes ++ piece) (rest (half ++ piece))
+left_of life half piece short (inl all) = inl (ap (λ (b : List ℕ). rest (b ++ piece)) all)
+left_of life half piece short (inr k) = left_same (longer piece life) half (rest life.bytes) piece (unneeded_longer piece life half (kept_unneeded life half short k))
+
+-- what a connection has of the piece: all of it after what it had, or its number of bytes
+abbrev IsFed : Life → List ℕ → List ℕ → List ℕ → Type 0
+IsFed life half piece now = (now ≡ half ++ piece) ⊎ IsUnneeded (longer piece life) now (rest life.bytes ++ piece)
+
+fed_of : (directory : KnownTargets) (life : Life) (piece half : List ℕ) (old new : LinkState) → old.phase ≡ phase_for directory life life.phase
+    → IsQuietIn life.phase → old.half ≡ half → IsHalf (Some life) half → KeepsPiece piece old new → IsFed life half piece new.half
+fed_of directory life piece half old new phase quiet same kept k = by_kind k.half
+  where
+    by_kind : (new.half ≡ old.half ++ piece) ⊎ CountsPiece piece old new → IsFed life half piece new.half
+    by_kind (inl all) = inl (all ∙ ap (λ (b : List ℕ). b ++ piece) same)
+    by_kind (inr counts) = inr (counted_fed directory life piece old new phase quiet (subst (IsHalf (Some life)) (sym same) kept) counts)
+
+fed_arrivals : (s : Setting) (marks : List Mark) (comings : List Coming) (c n : ℕ) (piece half now : List ℕ) (w : World) (life : Life) → present c w ≡ Some life
+    → is_long (rest life.bytes) ≡ false → IsHalf (Some life) half → IsFed life half piece now
+    → (let v0 = piece_came comings c piece w in
+    fold (arrive s marks c) v0 (enumerate_from n (arrivals now)) ≡ fold (arrive s marks c) v0 (enumerate_from n (arrivals (rest life.bytes ++ piece))))
+fed_arrivals s marks comings c n piece half now w life at short kept (inl all) =
+    ap (λ (b : List ℕ). fold (arrive s marks c) (piece_came comings c piece w) (enumerate_from n (arrivals b))) all
+    ∙ same_arrivals s marks comings c n piece half w life at short kept
+fed_arrivals s marks comings c n piece half now w life at short kept (inr u) =
+    let same = arrivals_same s marks c n (longer piece life) now (rest life.bytes ++ piece) [] (piece_came comings c piece w)
+    (came_here comings c piece w life at) u in
+    rw (append-nil now, append-nil (rest life.bytes ++ piece)) at same
+
+fed_left : (life : Life) (half piece now : List ℕ) → is_long (rest life.bytes) ≡ false → IsHalf (Some life) half → IsFed life half piece now
+    → IsLeft (longer piece life) now (rest life.bytes ++ piece) (rest now)
+fed_left life half piece now short kept (inl all) =
+    subst (λ (b : List ℕ). IsLeft (longer piece life) b (rest life.bytes ++ piece) (rest b)) (sym all) (left_of life half piece short kept)
+fed_left life half piece now short kept (inr u) =
+    let left = left_same (longer piece life) now (rest life.bytes ++ piece) [] u in
+    rw (append-nil now, append-nil (rest life.bytes ++ piece)) at left
+
+short_of : (life : Life) (all bytes left_ : List ℕ) → IsLeft life all bytes left_ → is_long left_ ≡ false → is_long (rest bytes) ≡ false
+short_of life all bytes left_ (inl is) short = ap is_long (sym is) ∙ short
+short_of life all bytes left_ (inr k) short = sym (alike_long left_ (rest bytes) (like left_ (rest bytes) k.2)) ∙ short
+
+half_after : (life : Life) (all bytes left_ : List ℕ) (after : Option Life) → IsLeft life all bytes left_ → rest life.bytes ≡ rest bytes
+    → Stays (Some life) after → (arrivals all ≡ [] → after ≡ Some life) → IsHalf after left_
+half_after life all bytes left_ None left same stays still = tt
+half_after life all bytes left_ (Some y) (inl is) same stays still = inl (is ∙ sym same ∙ sym (ap rest stays.0))
+half_after life all bytes left_ (Some y) (inr k) same stays still =
+    subst (λ (o : Option Life). IsHalf o left_) (sym (still k.0)) (rw same (inr (k.1, k.2)))
+
 pub comes : (s : Setting) (sent : ℕ → ℕ) (w : World) (machine first now : Machine) (comings : List Coming) (c : ℕ) (piece : List ℕ) (starved : Option ℕ)
     → Fed s sent w machine first c piece → (takes : TakesAll c starved first now) → AreAhead takes.takes.came comings
     → Came s sent w comings c piece starved now
 comes s sent w machine first now comings c piece starved f takes ahead =
-    let half : ℕ → List ℕ = λ d. half_of (present d w) in
+    let half = f.stands.half in
     let serves = serving s sent w machine f.stands in
     let there = some_reads (present c w) (sym (reads_there s sent half w machine c f.in_range serves) ∙ f.reads_so) in
     let life = there.0 in
     let short = short_there (present c w) life there.1 (f.stands.short c f.in_range) there.2 in
-    let link = link_stands s sent w machine c f.in_range f.stands ∙ ap (λ (o : Option Life). link_of s.directory (sent c) (half_of o) o) there.1 in
-    let old_half : (link_at machine c).half ≡ rest life.bytes = ap (λ (l : LinkState). l.half) link
-    ∙ cond_true (reads life.phase) (rest life.bytes) [] there.2 in
-    let count = count_stands s sent w machine f.stands in
-    let new_half : (link_at first c).half ≡ rest life.bytes ++ piece =
-    ap (λ (m : Machine). (link_at m c).half) f.is ∙ ap (λ (l : LinkState). l.half)
-    (get_or-set_same machine.links c _ free_link (let lt = f.in_range in omega (arith, count))) ∙ ap (λ (b : List ℕ). b ++ piece) old_half in
+    let kept : IsHalf (Some life) (half c) = subst (λ (o : Option Life). IsHalf o (half c)) there.1 (f.stands.kept c f.in_range) in
+    let link = link_stands s sent w machine c f.in_range f.stands ∙ ap (λ (o : Option Life). link_of s.directory (sent c) (half c) o) there.1 in
+    let old_half : (link_at machine c).half ≡ half c = ap (λ (l : LinkState). l.half) link
+    ∙ cond_true (reads life.phase) (half c) [] there.2 in
+    let now_half = (link_at first c).half in
+    let fed = fed_of s.directory life piece (half c) (link_at machine c) (link_at first c) (ap (λ (l : LinkState). l.phase) link)
+    (subst IsQuiet there.1 (f.stands.quiet c f.in_range)) old_half kept f.keeps in
     let n = length (arrivals life.bytes) in
     let marks = takes.takes.failed n in
-    let bytes = (link_at machine c).half ++ piece in
+    let bytes = now_half in
     let serves_first = serves_as s sent (with_half c bytes half) w _ first f.is (rehalved s sent half w machine c bytes f.in_range f.reads_so serves) in
     let v0 = piece_came comings c piece w in
     let serves_came = longer_serves s sent (with_half c bytes half) w first comings c piece life f.in_range there.1 serves_first in
     let at = takes.takes.stands s sent (with_half c bytes half) v0 n marks (λ mark is. refl)
     (subst (AreAhead takes.takes.came) (sym (comings_changed (longer piece) c (begun_event comings w))) ahead) serves_came in
     let left_ = rest (link_at first c).half in
-    let v = fold (arrive s marks c) v0 (enumerate_from n (arrivals (link_at first c).half)) in
+    let all = enumerate_from n (arrivals (link_at first c).half) in
+    let v = fold (arrive s marks c) v0 all in
     let serves_v = serves_halves s sent (with_half c left_ (with_half c bytes half)) (with_half c left_ half) v now (half_twice c bytes left_ half) at.0 in
     let free : is_marked marks c AtEnd ≡ false = unmarked (is_among (length (arrivals (link_at first c).half)) n) marks (mark_at c AtEnd)
     (takes.takes.of_kind n) refl in
     let e = ended_by (reads_life (present c v)) s sent (with_half c left_ half) marks c v now refl free serves_v in
     let whole : bring s marks c piece (begun_event comings w) ≡ e.last =
-    brings s marks comings c piece w life there.1 short ∙ ap (λ (b : List ℕ). take_step marks c AtEnd (λ u. u)
-    (fold (arrive s marks c) v0 (enumerate_from n (arrivals b)))) (sym new_half) ∙ e.is in
-    let all = enumerate_from n (arrivals (link_at first c).half) in
+    brings s marks comings c piece w life there.1 short ∙ ap (take_step marks c AtEnd (λ u. u))
+    (sym (fed_arrivals s marks comings c n piece (half c) now_half w life there.1 short kept fed)) ∙ e.is in
     let followed = on-then v0 v e.last (on-arrivals (goes s marks c) v0 all (any_arrivals c all)) e.goes in
-    let behind : rest (life.bytes ++ piece) ≡ left_ = rest_in_pieces life.bytes piece ∙ ap rest (sym new_half) in
+    let eased : Eases c v0 e.last = subst (Eases c v0) e.is (arrivals_ease s marks c v0 all) in
+    let stays : Stays (Some (longer piece life)) (present c e.last) = subst (λ (o : Option Life). Stays o (present c e.last))
+    (came_here comings c piece w life there.1) (followed.stays c) in
+    let none_came : arrivals now_half ≡ [] → present c e.last ≡ Some (longer piece life) = λ none. e.same c
+    ∙ ap (λ (l : List Arrival). present c (fold (arrive s marks c) v0 (enumerate_from n l))) none
+    ∙ came_here comings c piece w life there.1 in
+    let left = fed_left life (half c) piece now_half short kept fed in
+    let keeps : IsHalf (present c e.last) left_ = half_after (longer piece life) now_half (rest life.bytes ++ piece) left_ (present c e.last)
+    left (rest_in_pieces life.bytes piece) stays none_came in
     record {
       marks = marks;
       first = takes.takes.first n;
       reached = ap (are_reached marks) whole ∙ reached_event marks comings c piece w e.last
           (let more = reached_both marks [] v0 v e.last (on-arrivals (goes s marks c) v0 all (any_arrivals c all)) e.goes at.1 refl in rw append-nil at more);
-      stands = rw whole (stands_again s sent w e.last machine now comings c piece left_ life f.in_range f.stands there.1 followed behind
-          (λ r. takes.short (reads_there s sent (with_half c left_ half) v now c f.in_range serves_v ∙ sym e.reads_same ∙ r)) e.serves);
+      stands = rw whole (stands_again s sent w e.last machine now comings c piece left_ life f.in_range f.stands there.1 followed eased keeps
+          (λ r. ap is_long (rest_in_pieces life.bytes piece) ∙ short_of (longer piece life) now_half (rest life.bytes ++ piece) left_ left
+          (takes.short (reads_there s sent (with_half c left_ half) v now c f.in_range serves_v ∙ sym e.reads_same ∙ r))) e.serves);
     }
 
 -- ---- the piece could not be kept
@@ -270,7 +372,7 @@ pub comes_starved : (s : Setting) (sent : ℕ → ℕ) (w : World) (machine now 
     → StandsAt s sent w machine → is_reading (link_at machine c).phase ≡ true → now ≡ closed machine c
     → Came s sent w [] c piece (Some c) now
 comes_starved s sent w machine now c piece lt stands r is =
-    let half : ℕ → List ℕ = λ d. half_of (present d w) in
+    let half = stands.half in
     let serves = serving s sent w machine stands in
     let there = some_reads (present c w) (sym (reads_there s sent half w machine c lt serves) ∙ r) in
     let life = there.0 in
@@ -284,6 +386,7 @@ comes_starved s sent w machine now c piece lt stands r is =
     let at_v : present c v ≡ Some (longer piece life) = present-reaching c c (point ∷ []) v0 ∙ came_here [] c piece w life there.1 in
     let serves_v = serves_reaching s sent half v0 machine c (point ∷ []) (longer_serves s sent half w machine [] c piece life lt there.1 serves) in
     let shut_ : reads_life (present c (close c v)) ≡ false = ap reads_life (present-close c v (longer piece life) at_v) in
+    let goes_on = on-then v0 v (close c v) (on-reaching c (point ∷ []) v0) (on-close c v) in
     let left_ = rest (life.bytes ++ piece) in
     let last = halves_idle s sent half (close c v) now c left_ shut_ (serves_as s sent half (close c v) (closed machine c) now is
     (closes s sent half v machine c (longer piece life) lt serves_v at_v)) in
@@ -293,9 +396,8 @@ comes_starved s sent w machine now c piece lt stands r is =
       marks = marks;
       first = refl;
       reached = ap (are_reached marks) whole ∙ reached_event marks [] c piece w (close c v) (reached_first c point v0);
-      stands = rw whole (stands_again s sent w (close c v) machine now [] c piece left_ life lt stands there.1
-          (on-then v0 v (close c v) (on-reaching c (point ∷ []) v0) (on-close c v)) refl
-          (λ e. absurd (cc (e, shut_))) last);
+      stands = rw whole (stands_again s sent w (close c v) machine now [] c piece left_ life lt stands there.1 goes_on (closing_eases s marks c (point ∷ []) v0)
+          (all_here [] c piece w (close c v) life there.1 goes_on) (λ e. absurd (cc (e, shut_))) last);
     }
 
 -- ---- bytes for a connection that does not read, and an empty piece
@@ -305,7 +407,7 @@ pub comes_idle : (s : Setting) (sent : ℕ → ℕ) (w : World) (machine : Machi
     → StandsAt s sent (bring s [] c piece (fresh w)) machine
 unfolding bring
 comes_idle s sent w machine c piece lt stands open_ r =
-    let half : ℕ → List ℕ = λ d. half_of (present d w) in
+    let half = stands.half in
     let there = is_open_there s sent w machine c lt stands open_ in
     let life = there.0 in
     let v0 = piece_came [] c piece w in
@@ -316,7 +418,8 @@ comes_idle s sent w machine c piece lt stands open_ r =
     let left_ = rest (life.bytes ++ piece) in
     let whole : take_step [] c AtEnd (λ u. u) (fold (arrive s [] c) v0 (brought (present c (fresh w)) piece)) ≡ v0 =
     ap (take_step [] c AtEnd (λ u. u)) (idle_all s [] c v0 (brought (present c (fresh w)) piece) idle0) ∙ idle_step [] c AtEnd (λ u. u) v0 idle0 in
-    rw whole (stands_again s sent w v0 machine machine [] c piece left_ life lt stands there.1 (on-same v0) refl (λ e. absurd (cc (e, idle0)))
+    rw whole (stands_again s sent w v0 machine machine [] c piece left_ life lt stands there.1 (on-same v0) (λ d out differ some. some)
+    (all_here [] c piece w v0 life there.1 (on-same v0)) (λ e. absurd (cc (e, idle0)))
     (halves_idle s sent half v0 machine c left_ idle0 (longer_serves s sent half w machine [] c piece life lt there.1 serves)))
 
 nothing_new : (bytes : List ℕ) → new_arrivals bytes [] ≡ []
@@ -329,7 +432,7 @@ pub comes_empty : (s : Setting) (sent : ℕ → ℕ) (w : World) (machine : Mach
     → is_open_at machine c ≡ true → StandsAt s sent (bring s [] c [] (fresh w)) machine
 unfolding bring
 comes_empty s sent w machine c lt stands open_ =
-    let half : ℕ → List ℕ = λ d. half_of (present d w) in
+    let half = stands.half in
     let there = is_open_there s sent w machine c lt stands open_ in
     let life = there.0 in
     let v0 = piece_came [] c [] w in
@@ -338,32 +441,56 @@ comes_empty s sent w machine c lt stands open_ =
     let e = ended_by (reads_life (present c v0)) s sent half [] c v0 machine refl (marked_none c AtEnd) serves in
     let whole : take_step [] c AtEnd (λ u. u) (fold (arrive s [] c) v0 (brought (present c (fresh w)) [])) ≡ e.last =
     ap (λ (l : List (ℕ × Arrival)). take_step [] c AtEnd (λ u. u) (fold (arrive s [] c) v0 l)) none ∙ e.is in
-    let left_ = rest life.bytes in
+    let left_ = half c in
     let own : (d : ℕ) → half d ≡ with_half c left_ half d = λ d. elim (eqb_tells d c) [
-      | inl same ↦ ap half same.1 ∙ ap half_of there.1 ∙ sym (ap (with_half c left_ half) same.1 ∙ cond_true (eqb c c) left_ (half c) (eqb_self c))
-      | inr differ ↦ sym (cond_false (eqb d c) left_ (half d) differ.0)
+      | inl same ↦ rw same.1 (sym (half_here c left_ half))
+      | inr differ ↦ sym (half_other c d left_ half differ.1)
     ] in
-    let same_reads : reads_life (present c v0) ≡ reads life.phase = ap reads_life (came_here [] c [] w life there.1) in
-    rw whole (stands_again s sent w e.last machine machine [] c [] left_ life lt stands there.1 e.goes (ap rest (append-nil life.bytes))
-    (λ r. (subst IsShort there.1 (stands.short c lt)) (sym same_reads ∙ sym e.reads_same ∙ r))
+    let here = came_here [] c [] w life there.1 in
+    let same_reads : reads_life (present c v0) ≡ reads life.phase = ap reads_life here in
+    let kept : IsHalf (Some life) left_ = subst (λ (o : Option Life). IsHalf o left_) there.1 (stands.kept c lt) in
+    let keeps : IsHalf (present c e.last) left_ = subst (λ (o : Option Life). IsHalf o left_) (sym (e.same c ∙ here)) (rw (append-nil life.bytes) kept) in
+    rw whole (stands_again s sent w e.last machine machine [] c [] left_ life lt stands there.1 e.goes
+    (λ d out differ some. ap (λ (o : Option Life). needs o out) (sym (e.same d)) ∙ some) keeps
+    (λ r. rw (append-nil life.bytes) ((subst IsShort there.1 (stands.short c lt)) (sym same_reads ∙ sym e.reads_same ∙ r)))
     (serves_halves s sent half (with_half c left_ half) e.last machine own e.serves))
 
 -- ---- as the code has it
 
-abbrev kept_as : Machine → ℕ → List ℕ → Machine
-kept_as machine c piece = with_link machine c (record (link_at machine c) { half = (link_at machine c).half ++ piece })
+abbrev pub kept_as : Machine → ℕ → List ℕ → Machine
+kept_as machine c half = with_link machine c (record (link_at machine c) { half = half })
 
-pub kept_feeds : (machine first : Machine) (c : ℕ) (piece : List ℕ) → c < length machine.links → is_reading (link_at machine c).phase ≡ true
-    → first ≡ kept_as machine c piece → Feeds c machine first
-kept_feeds machine first c piece lt r is =
+pub kept_is : (machine first : Machine) (c : ℕ) (piece : List ℕ) → KeepsPieceAt c piece machine first → first ≡ kept_as machine c (link_at first c).half
+kept_is machine first c piece k = k.is ∙ ap (with_link machine c) k.keeps.same
+
+-- it closes as it would have before
+pub closed_kept : (machine : Machine) (c : ℕ) (half : List ℕ) → c < length machine.links → closed (kept_as machine c half) c ≡ closed machine c
+unfolding closed
+closed_kept machine c half lt =
+    let link = record (link_at machine c) { half = half } in
+    rw (get_or-set_same machine.links c link free_link lt, set-set machine.links c link (shut_link (link_at machine c))) refl
+
+-- no more is whole than if all of it had been kept
+pub fed_few : (machine first : Machine) (c : ℕ) (piece : List ℕ) → KeepsPieceAt c piece machine first
+    → length (arrivals (link_at first c).half) ≤ length (arrivals ((link_at machine c).half ++ piece))
+fed_few machine first c piece k = by_kind k.keeps.half
+  where
+    by_kind : ((link_at first c).half ≡ (link_at machine c).half ++ piece) ⊎ CountsPiece piece (link_at machine c) (link_at first c)
+        → length (arrivals (link_at first c).half) ≤ length (arrivals ((link_at machine c).half ++ piece))
+    by_kind (inl all) = omega (arith, ap (λ (b : List ℕ). length (arrivals b)) all)
+    by_kind (inr counts) = omega (arith, ap (λ (l : List Arrival). length l) (counted_none piece (link_at machine c) (link_at first c) counts))
+
+pub kept_feeds : (machine first : Machine) (c : ℕ) (half : List ℕ) → c < length machine.links → is_reading (link_at machine c).phase ≡ true
+    → first ≡ kept_as machine c half → Feeds c machine first
+kept_feeds machine first c half lt r is =
     let P : Machine → Type 0 = λ m. Feeds c machine m in
-    subst P (sym is) (changes_feeds c machine machine.units c (record (link_at machine c) { half = (link_at machine c).half ++ piece }) lt
-    (halving (link_at machine c) ((link_at machine c).half ++ piece) r) (own_self c machine))
+    subst P (sym is) (changes_feeds c machine machine.units c (record (link_at machine c) { half = half }) lt
+    (halving (link_at machine c) half r) (own_self c machine))
 
-pub kept_reads : (machine first : Machine) (c : ℕ) (piece : List ℕ) → c < length machine.links → is_reading (link_at machine c).phase ≡ true
-    → first ≡ kept_as machine c piece → is_reading (link_at first c).phase ≡ true
-kept_reads machine first c piece lt r is =
-    let link = record (link_at machine c) { half = (link_at machine c).half ++ piece } in
+pub kept_reads : (machine first : Machine) (c : ℕ) (half : List ℕ) → c < length machine.links → is_reading (link_at machine c).phase ≡ true
+    → first ≡ kept_as machine c half → is_reading (link_at first c).phase ≡ true
+kept_reads machine first c half lt r is =
+    let link = record (link_at machine c) { half = half } in
     ap (λ (m : Machine). is_reading (link_at m c).phase) is ∙ ap (λ (l : LinkState). is_reading l.phase) (get_or-set_same machine.links c link free_link lt) ∙ r
 
 stands_after : (s : Setting) (sent : ℕ → ℕ) (h : History) (now : Machine) (comings : List Coming) (c : ℕ) (piece : List ℕ) (starved : Option ℕ)
@@ -393,7 +520,10 @@ starved_marks s sent h now c d piece k = (
 )
 
 module _ (machine first now : Machine) (c : ℕ) (piece : List ℕ) (lt : c < connection_limit)
-    (reads_so : is_reading (link_at machine c).phase ≡ true) (is : first ≡ kept_as machine c piece) where
+    (reads_so : is_reading (link_at machine c).phase ≡ true) (keeps : KeepsPieceAt c piece machine first) where
+  is : first ≡ kept_as machine c (link_at first c).half
+  is = kept_is machine first c piece keeps
+
   first_sound : (starved : Option ℕ) → TakesAll c starved first now → IsSound now → IsSound machine
   first_sound starved takes sound = subst (λ (us : List UnitStates). All AreSound us) (ap (λ (m : Machine). m.units) is)
       (sound_back first now takes.leaves.back sound)
@@ -402,7 +532,7 @@ module _ (machine first now : Machine) (c : ℕ) (piece : List ℕ) (lt : c < co
   came_any : (s : Setting) (sent : ℕ → ℕ) (h : History) (comings : List Coming) (starved : Option ℕ) (takes : TakesAll c starved first now)
       → AreAhead takes.takes.came comings → Stands s sent machine h → Came s sent (world s h) comings c piece starved now
   came_any s sent h comings starved takes ahead at =
-      comes s sent (world s h) machine first now comings c piece starved (record { in_range = lt; stands = at; reads_so = reads_so; is = is }) takes ahead
+      comes s sent (world s h) machine first now comings c piece starved (record { in_range = lt; stands = at; reads_so = reads_so; is = is; keeps = keeps.keeps }) takes ahead
 
   -- where all units are sound after it, no store failed
   came : (s : Setting) (sent : ℕ → ℕ) (h : History) (starved : Option ℕ) → TakesAll c starved first now

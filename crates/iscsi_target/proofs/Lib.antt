@@ -46,6 +46,8 @@ mod Heavier
 mod Carrying
 pub mod Standing
 mod Taking
+mod HalfRead
+mod Easing
 mod Wanting
 mod Feeding
 mod Tables

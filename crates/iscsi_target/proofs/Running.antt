@@ -12,7 +12,7 @@ use Rattle.iscsi_target.specs.Life.{Life, Over, is_over, born, out_of, ended_in}
 use Rattle.iscsi_target.specs.World.{Setting, World, is_present, present, over, end, begun_event, world}
 use Rattle.iscsi_target.specs.Output.{out_now, outputs}
 use Rattle.iscsi_target.specs.Machine.{LinkState, Machine, link_at, is_free, is_open_at}
-use Rattle.iscsi_target.specs.Stands.{link_of, half_of, Stands, with_sent}
+use Rattle.iscsi_target.specs.Stands.{link_of, Stands, with_sent}
 use Rattle.iscsi_target.specs.Runs.{MayCome, RowState, open_row, row_of, finished, is_on, ended, has, IsFree, AreDistinct, Runs}
 use Rattle.iscsi_target.proofs.Choices.{eqb_self}
 use Rattle.iscsi_target.proofs.Standing.{present_open, stands_sent, link_stands, waits_there}
@@ -125,7 +125,7 @@ is_open : (s : Setting) (machine : Machine) (rows : List RowState) (before : Lis
     → Runs s machine rows before history → c < connection_limit → is_open_at machine c ≡ is_among c before
 is_open s machine rows before history c r lt =
     ap (λ (l : LinkState). not (is_free l.phase)) (link_stands s (λ k. 0) (world s history) machine c lt r.stands)
-    ∙ open_in s.directory 0 (half_of (present c (world s history))) c (world s history) (present c (world s history)) refl
+    ∙ open_in s.directory 0 (r.stands.half c) c (world s history) (present c (world s history)) refl
     ∙ sym (has_row s machine rows before history r c) ∙ r.tracks c
 
 -- ---- the beginning

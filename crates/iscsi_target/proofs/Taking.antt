@@ -1,9 +1,8 @@
 -- The whole frames of a piece are taken, one after the other.
-use Rattle.std.proofs.Common.{◌≡◌, ◌≢◌, ℕ, ◌+◌, ◌<◌, ◌≤◌, List, [], ◌∷◌, ◌++◌, length, map, drop, Bool, true, false, not, ◌&&◌, eqb, Option, Some, None, refl, sym, ap, ◌∙◌, subst, arith, inl, inr, append_assoc}
+use Rattle.std.proofs.Common.{◌≡◌, ℕ, ◌+◌, ◌<◌, ◌≤◌, List, [], ◌∷◌, ◌++◌, length, map, drop, Bool, true, false, not, ◌&&◌, eqb, Option, Some, None, refl, sym, ap, ◌∙◌, subst, arith, inl, inr, append_assoc}
 use Rattle.std.specs.Prelude.{All, nat_lt, slice_index_or}
 use Rattle.scsi_unit.specs.Units.{UnitStates, AreSound, AreSure}
 use Rattle.std.specs.List.{fold, enumerate_from}
-use Rattle.std.proofs.lemmas.Bool.{ne_eqb}
 use Rattle.std.proofs.lemmas.Bool.Decides.{eqb_tells, nat_tests}
 use Rattle.std.proofs.lemmas.List.{append-nil, length-append, set-get_or, get_or-set_same}
 use Rattle.iscsi_pdu.specs.Frames.{Frame, frames, rest, is_long, has_frame, first_frame, frame_length}
@@ -19,9 +18,9 @@ use Rattle.iscsi_target.specs.Bounded.{AddsAtMost}
 use Rattle.iscsi_target.specs.Stands.{link_of}
 use Rattle.iscsi_target.specs.Serving.{Serves, ActsAs, is_of_frame, has_place, place_of, is_among, first_of, with_half, KeepsHalf, Preserves, TakesFrame, Leaves, TakesOne, TakesSome, TakesAll}
 use Rattle.iscsi_target.proofs.Arrivals.{long_end, fold-places}
-use Rattle.iscsi_target.proofs.Choices.{eqb_self, cond_true, cond_false}
+use Rattle.iscsi_target.proofs.Choices.{cond_true, cond_false}
 use Rattle.iscsi_target.proofs.Linked.{link_is, reads_there, some_reads, serves_one, serves_as, serves_world, serves_reaching, closes, present-close, present-reaching, units_with}
-use Rattle.iscsi_target.proofs.Standing.{nothing_long, machine_same}
+use Rattle.iscsi_target.proofs.Standing.{nothing_long, machine_same, half_here, half_other}
 use Rattle.iscsi_target.proofs.Marks.{Apart, Wider, all_wider}
 use Rattle.iscsi_target.proofs.Walks.{any_arrival, any_arrivals, on-arrive, on-arrivals}
 use Rattle.iscsi_target.proofs.Keeping.{goes}
@@ -34,12 +33,6 @@ use Rattle.iscsi_target.proofs.Heavier.{closed_loads, halved_adds, header_whole}
 use Rattle.iscsi_target.proofs.Moving.{keeps_same, keeps_by, link_other, Changes, reading_open, own_self, feeds_then, closed_then, changes_feeds, closed_moves, starved_moves, moves_as, moves_none}
 
 -- ---- the bytes that are kept
-
-half_here : (c : ℕ) (bytes : List ℕ) (half : ℕ → List ℕ) → with_half c bytes half c ≡ bytes
-half_here c bytes half = cond_true (eqb c c) bytes (half c) (eqb_self c)
-
-half_other : (c d : ℕ) (bytes : List ℕ) (half : ℕ → List ℕ) → d ≢ c → with_half c bytes half d ≡ half d
-half_other c d bytes half differ = cond_false (eqb d c) bytes (half d) (ne_eqb d c differ)
 
 -- of a connection that reads fewer bytes are kept
 pub rehalved : (s : Setting) (sent : ℕ → ℕ) (half : ℕ → List ℕ) (w : World) (machine : Machine) (c : ℕ) (bytes : List ℕ) → c < connection_limit

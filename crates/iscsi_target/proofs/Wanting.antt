@@ -20,7 +20,7 @@ use Rattle.iscsi_target.specs.declared.phase.Phase.TheVariants as phases
 use Rattle.iscsi_target.proofs.Lending.{none_linked}
 use Rattle.iscsi_target.proofs.Moving.{link_set, link_other, closed_count}
 use Rattle.iscsi_target.proofs.Taking.{none_whole, some_whole, long_whole, no_bytes, nothing_by, short_by}
-use Rattle.iscsi_target.proofs.Bounding.{adds_shut}
+use Rattle.iscsi_target.proofs.Bounding.{adds_shut, adds_more}
 
 -- ---- frames
 
@@ -144,25 +144,27 @@ other_partial true old new reads_ keeps still none = kept_partial (is_reading ne
 other_partial false old new reads_ keeps still none = ap (λ (l : LinkState). arrivals l.half) (still reads_) ∙ none
 
 -- a piece that is no longer than what is wanted, and what is whole is taken
-pub fed_bounded : (old kept new : Machine) (c : ℕ) (piece : List ℕ) (starved : Option ℕ) → c < length old.links
+pub fed_bounded : (old kept new : Machine) (c : ℕ) (piece half : List ℕ) (starved : Option ℕ) → c < length old.links
     → is_reading (link_at old c).phase ≡ true
-    → kept ≡ with_link old c (record (link_at old c) { half = (link_at old c).half ++ piece }) → TakesAll c starved kept new
-    → length piece ≤ want_of (link_at old c) → Bounded old → Bounded new
-fed_bounded old kept new c piece starved lt reads_ is takes le bounded d = elim (eqb_tells d c) [
+    → kept ≡ with_link old c (record (link_at old c) { half = half }) → length (arrivals half) ≤ length (arrivals ((link_at old c).half ++ piece))
+    → TakesAll c starved kept new → length piece ≤ want_of (link_at old c) → Bounded old → Bounded new
+fed_bounded old kept new c piece half starved lt reads_ is few takes le bounded d = elim (eqb_tells d c) [
   | inl same ↦
       let bytes = (link_at kept c).half in
-      let link = record (link_at old c) { half = (link_at old c).half ++ piece } in
+      let link = record (link_at old c) { half = half } in
       let there : link_at kept c ≡ link = ap (λ (m : Machine). link_at m c) is ∙ link_set old old.units c link lt in
       let P : LinkState → Type 0 = λ l. AddsAtMost (length (arrivals l.half)) l (link_at new c) in
       subst (λ (k : ℕ). IsBounded (link_at new k)) (sym same.1) (record {
         weighs = weighs_by (ltb most_waiting (length (link_at old c).waiting)) (link_at old c) (link_at new c) piece refl
             (partial_of (link_at old c).half (bounded c).partial)
-            (reading_no_closing (link_at old c).phase reads_) le (subst P there takes.leaves.loads) (bounded c).weighs;
+            (reading_no_closing (link_at old c).phase reads_) le
+            (adds_more (length (arrivals half)) (length (arrivals ((link_at old c).half ++ piece))) (link_at old c) (link_at new c) few
+            (subst P there takes.leaves.loads)) (bounded c).weighs;
         partial = kept_partial (is_reading (link_at new c).phase) (rest bytes) (link_at new c) refl takes.kept
             (λ on. none_whole (rest bytes) (rest_no_frame bytes) (takes.short on));
       })
   | inr differ ↦
-      let link = record (link_at old c) { half = (link_at old c).half ++ piece } in
+      let link = record (link_at old c) { half = half } in
       let there : link_at kept d ≡ link_at old d = ap (λ (m : Machine). link_at m d) is ∙ link_other old old.units c d link differ.1 in
       record {
         weighs = eased (link_at old d) (link_at new d) (subst (λ (l : LinkState). AddsAtMost 0 l (link_at new d)) there (takes.leaves.eases d differ.1))

@@ -36,6 +36,7 @@ pub mod Connections
 pub mod Lending
 pub mod SessionCalls
 pub mod Bounded
+pub mod HalfRead
 pub mod Stands
 pub mod Serving
 pub mod Isolation

@@ -1,8 +1,12 @@
 //! One connection: its bytes, its phase and its output that is still to be sent.
 
-ghost use Rattle.std.specs.Prelude.{◌≡◌, ◌<◌, ◌≤◌, ◌++◌, [], None, true, length, take, nat_lt, IfOk, IfSome, IfNone, OnOk, OnErr};
+ghost use Rattle.std.specs.Prelude.{◌≡◌, ◌+◌, ◌<◌, ◌≤◌, ◌++◌, [], None, true, false, length, take, nat_lt, IfOk, IfSome, IfNone, OnOk, OnErr};
 ghost use Rattle.std.specs.Result.{IsErrOf};
-ghost use Rattle.iscsi_pdu.specs.Frames.{has_frame, is_long, wanted};
+ghost use Rattle.iscsi_pdu.specs.Frames.{has_frame, is_long, frame_length, wanted};
+ghost use Rattle.iscsi_pdu.specs.Header.{data_length};
+ghost use Rattle.iscsi_pdu.specs.Parts.{is_data_out};
+ghost use Rattle.iscsi_pdu.specs.Segment.{most_data};
+ghost use Rattle.iscsi_transfer.specs.Counted.{brought};
 ghost use Rattle.iscsi_pdu.specs.Answer.{spelling};
 ghost use Rattle.iscsi_outbox.specs.Offered.{EndsPdu};
 ghost use Rattle.scsi_unit.specs.Units.{join as join_units};
@@ -10,6 +14,7 @@ ghost use Rattle.iscsi_login.specs.Values.{AreInRange};
 ghost use Rattle.iscsi_login.specs.Lookup.{lookup_in};
 ghost use Rattle.iscsi_login.specs.LoginState.{LoginState, IsTargetBelow};
 ghost use Rattle.iscsi_login.specs.Login.{advanced, reply_of};
+ghost use Rattle.iscsi_target.specs.HalfRead.{IsCounted, CanCount, NeedsNot, KeepsPiece};
 ghost use Rattle.iscsi_target.specs.History.{arrivals};
 ghost use Rattle.iscsi_target.specs.Machine.{LinkState, is_reading, is_logging_in, session_in_phase, free_link, opened_link, shut_link, begun_link, GivesFrame, IsAnswered, IsWithin, sent_link, is_settled, is_silent, most_waiting};
 ghost use Rattle.iscsi_target.specs.declared.phase.Phase.TheVariants.{Login as UnderWay};
@@ -19,7 +24,7 @@ use bytes::BytesMut;
 use data_parts::SpareBuffers;
 use iscsi_login::{Directory, Login, Reply, SessionParams};
 use iscsi_outbox::Outbox;
-use iscsi_pdu::{Answer, Frame, Framer, LoginResponse, PduFault};
+use iscsi_pdu::{Answer, Frame, Framer, Header, LoginResponse, MOST_DATA, Opcode, PduFault};
 use iscsi_session::Session;
 use media_store::Store;
 use scsi_unit::Units;
@@ -48,6 +53,23 @@ impl Model for Connection {
     ghost Value = { LinkState };
 
     ghost view = { λ l. record { half = if is_reading l.phase then l.framer else []; phase = l.phase; waiting = l.waiting.items } };
+}
+
+/// Counts a piece of a half-read Data-Out, and forgets the bytes before it.
+fn count(framer: &mut Framer, piece: &[u8]) -> Result<(), Memory>
+    requires out { is_data_out framer.old ≡ true }
+    requires part { length framer.old + length piece.now < frame_length framer.old }
+    ensures { OnOk result (IsCounted framer.new (framer.old ++ piece.now)) }
+{
+    let mut done = 0;
+    while done < piece.len() {
+        // The framer allocates nothing for it.
+        let Ok((used, _)) = framer.take(&piece[done..]) else {
+            return Err(Memory);
+        };
+        done += used;
+    }
+    Ok(())
 }
 
 impl Connection {
@@ -81,17 +103,52 @@ impl Connection {
         self.phase = Phase::Closing;
     }
 
-    /// Keeps a further piece of the connection's bytes. If an allocation fails, nothing changes.
+    /// Keeps a further piece of the connection's bytes. Of a half-read Data-Out whose data is not needed, only the number
+    /// of bytes is kept. If an allocation fails, other bytes may be kept than before.
     pub(crate) fn keep(&mut self, piece: &[u8], spares: &mut SpareBuffers) -> Result<(), Memory>
         requires { is_reading self.old.phase ≡ true }
-        ensures ok { OnOk result (self.new ≡ record self.old { half = self.old.half ++ piece.now }) }
-        ensures err { OnErr result (self.new ≡ self.old) }
+        ensures ok { OnOk result (KeepsPiece piece.now self.old self.new) }
+        ensures err { OnErr result (self.new ≡ record self.old { half = self.new.half }) }
     {
+        if self.can_count(piece.len()) {
+            return count(&mut self.framer, piece);
+        }
         // The framer reports no other fault here.
         if self.framer.feed_with(piece, spares).is_err() {
             return Err(Memory);
         }
         Ok(())
+    }
+
+    /// Returns whether a Data-Out is half read whose data is not needed, and is not whole with `more` bytes.
+    fn can_count(&self, more: usize) -> bool
+        requires { is_reading self.now.phase ≡ true }
+        ensures { result ≡ true → CanCount self.now more }
+    {
+        let Some(header) = self.framer.header() else {
+            return false;
+        };
+        let Opcode::DataOut = header.opcode() else {
+            return false;
+        };
+        if header.data_length() > MOST_DATA {
+            return false;
+        }
+        if more == 0 || more >= self.framer.want() {
+            return false;
+        }
+        !self.needs(&header)
+    }
+
+    /// Returns whether the data of a Data-Out with this header is needed.
+    fn needs(&self, header: &Header) -> bool
+        requires { data_length header.now ≤ most_data }
+        ensures { result ≡ false → NeedsNot self.now.phase (brought header.now (data_length header.now)) }
+    {
+        match &self.phase {
+            Phase::FullFeature(session) => session.needs(header),
+            Phase::Free | Phase::Login(_) | Phase::Closing => false,
+        }
     }
 
     /// Takes the first whole frame from the front of the bytes. Returns `None` if no frame is whole yet.

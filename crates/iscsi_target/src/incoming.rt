@@ -4,6 +4,7 @@ ghost use Rattle.std.specs.Prelude.{◌≡◌, ◌<◌, ◌++◌, [], true, fals
 ghost use Rattle.std.specs.Result.{IsErrOf};
 ghost use Rattle.iscsi_pdu.specs.Frames.{has_frame, is_long};
 ghost use Rattle.iscsi_login.specs.LoginState.{IsTargetBelow};
+ghost use Rattle.iscsi_target.specs.HalfRead.{KeepsPieceAt};
 ghost use Rattle.iscsi_target.specs.History.{arrivals};
 ghost use Rattle.iscsi_target.specs.Machine.{GivesFrame, link_at, with_link, is_logging_in, is_reading};
 ghost use Rattle.iscsi_target.specs.Serving.{TakesFrame, TakesOne, TakesAll, first_starved};
@@ -18,12 +19,13 @@ use media_store::Store;
 use target_limits::Memory;
 
 impl<S: Store> Target<S> {
-    /// Keeps a further piece of a connection's bytes. If an allocation fails, nothing changes.
+    /// Keeps a further piece of a connection's bytes, or their number. If an allocation fails, other bytes may be kept
+    /// than before.
     pub(crate) fn keep(&mut self, c: usize, piece: &[u8]) -> Result<(), Memory>
         requires in_range { c < 64 }
         requires reads { is_reading (link_at self.old c).phase ≡ true }
-        ensures ok { OnOk result (self.new ≡ with_link self.old c (record (link_at self.old c) { half = (link_at self.old c).half ++ piece.now })) }
-        ensures err { OnErr result (self.new ≡ self.old) }
+        ensures ok { OnOk result (KeepsPieceAt c piece.now self.old self.new) }
+        ensures err { OnErr result (self.new ≡ with_link self.old c (record (link_at self.old c) { half = (link_at self.new c).half })) }
     {
         let target = self.home(c);
         let mut spares = self.lend_buffers(target);
@@ -32,12 +34,12 @@ impl<S: Store> Target<S> {
         kept
     }
 
-    /// Keeps a further piece of a connection's bytes, using spare buffers. If an allocation fails, nothing changes.
+    /// Keeps a further piece of a connection's bytes as [`Target::keep`] does, using spare buffers.
     fn keep_with(&mut self, c: usize, piece: &[u8], spares: &mut SpareBuffers) -> Result<(), Memory>
         requires in_range { c < 64 }
         requires reads { is_reading (link_at self.old c).phase ≡ true }
-        ensures ok { OnOk result (self.new ≡ with_link self.old c (record (link_at self.old c) { half = (link_at self.old c).half ++ piece.now })) }
-        ensures err { OnErr result (self.new ≡ self.old) }
+        ensures ok { OnOk result (KeepsPieceAt c piece.now self.old self.new) }
+        ensures err { OnErr result (self.new ≡ with_link self.old c (record (link_at self.old c) { half = (link_at self.new c).half })) }
         ensures count { length self.old.links ≡ 64 }
     {
         let connection = self.connections.at_mut(c);

@@ -4,7 +4,7 @@ use Rattle.std.proofs.lemmas.List.{nil_from_length}
 use Rattle.iscsi_target.specs.Machine.{Machine, ReflectsSoundness, link_at, closed, is_closing, is_reading}
 use Rattle.iscsi_target.specs.World.{world}
 use Rattle.iscsi_target.proofs.Apart.{part_none, part_as, part_closed, part_halved, part_then}
-use Rattle.iscsi_target.proofs.Feeding.{comes_idle, comes_empty, all_came, ok_came, err_came, none_after, starved_after, starved_came, kept_feeds, kept_reads}
+use Rattle.iscsi_target.proofs.Feeding.{comes_idle, comes_empty, all_came, ok_came, err_came, none_after, starved_after, starved_came, kept_is, closed_kept, fed_few, kept_feeds, kept_reads}
 use Rattle.iscsi_target.proofs.Moving.{own_self, closed_closing, closing_if, closed_moves, feeds_then, moves_as}
 use Rattle.iscsi_target.proofs.Reflected.{sound_back}
 use Rattle.iscsi_target.proofs.Sound.{closed_back, at_as, at_units, closed_sure, sure_as}
@@ -49,9 +49,10 @@ returns-in-Err g c =
     let machine = c.args.self.now in
     let at = c.args.c in
     let new = c.starve.new.self in
-    let same : new ≡ closed machine at = c.starve.ensures.closed ∙ ap (λ (m : Machine). closed m at) c.in-Err.ensures.err in
-    let back : ReflectsSoundness machine new = λ target sound. closed_back machine at target (at_as new _ target same sound) in
     let lt : at < length machine.links = (let below = c.requires.in_range in omega (arith, c.reads.ensures.count)) in
+    let same : new ≡ closed machine at = c.starve.ensures.closed ∙ ap (λ (m : Machine). closed m at) c.in-Err.ensures.err
+    ∙ closed_kept machine at (link_at c.keep.new.self at).half lt in
+    let back : ReflectsSoundness machine new = λ target sound. closed_back machine at target (at_as new _ target same sound) in
     let reads_so : is_reading (link_at machine at).phase ≡ true = sym c.reads.ensures.value ∙ c.if-not-reads.false in
     let feeds = (moves_as at None machine _ new same (closed_moves at machine at lt reads_so (own_self at machine))).alters.feeds in
     record {
@@ -90,15 +91,15 @@ returns-clause-starved g c =
 
 pub returns-clause-each : goal.returns-clause-each
 returns-clause-each g c = λ target sound.
-    at_units c.keep.new.self.units c.args.self.now target (ap (λ (m : Machine). m.units) c.in_default.ensures.ok)
+    at_units c.keep.new.self.units c.args.self.now target (ap (λ (m : Machine). m.units) c.in_default.ensures.ok.is)
     (c.take_frames.ensures.takes.leaves.back target sound)
 
 pub returns-clause-feeds : goal.returns-clause-feeds
 returns-clause-feeds g c =
     let lt : c.args.c < length c.args.self.now.links = (let below = c.requires.in_range in omega (arith, c.reads.ensures.count)) in
     feeds_then c.args.c c.args.self.now c.keep.new.self c.take_frames.new.self
-    (kept_feeds c.args.self.now c.keep.new.self c.args.c c.args.piece.now lt (sym c.reads.ensures.value ∙ c.if-not-reads.false)
-    c.in_default.ensures.ok) c.take_frames.ensures.takes.leaves.feeds
+    (kept_feeds c.args.self.now c.keep.new.self c.args.c _ lt (sym c.reads.ensures.value ∙ c.if-not-reads.false)
+    (kept_is c.args.self.now c.keep.new.self c.args.c c.args.piece.now c.in_default.ensures.ok)) c.take_frames.ensures.takes.leaves.feeds
 
 pub returns-clause-closing : goal.returns-clause-closing
 returns-clause-closing g c = closing_if c.take_frames.result c.take_frames.new.self c.take_frames.ensures.takes.leaves.closing
@@ -107,8 +108,10 @@ pub returns-clause-part : goal.returns-clause-part
 returns-clause-part g c =
     let lt : c.args.c < length c.args.self.now.links = (let below = c.requires.in_range in omega (arith, c.reads.ensures.count)) in
     part_then c.args.c c.args.self.now c.keep.new.self c.take_frames.new.self
-    (kept_reads c.args.self.now c.keep.new.self c.args.c c.args.piece.now lt (sym c.reads.ensures.value ∙ c.if-not-reads.false) c.in_default.ensures.ok)
-    (part_as c.args.c c.args.self.now _ c.keep.new.self c.in_default.ensures.ok (part_halved c.args.self.now c.args.c _ lt))
+    (kept_reads c.args.self.now c.keep.new.self c.args.c _ lt (sym c.reads.ensures.value ∙ c.if-not-reads.false)
+    (kept_is c.args.self.now c.keep.new.self c.args.c c.args.piece.now c.in_default.ensures.ok))
+    (part_as c.args.c c.args.self.now _ c.keep.new.self
+    (kept_is c.args.self.now c.keep.new.self c.args.c c.args.piece.now c.in_default.ensures.ok) (part_halved c.args.self.now c.args.c _ lt))
     c.take_frames.ensures.takes.leaves.part
 
 pub returns-then-is_empty-clause-part : goal.returns-then-is_empty-clause-part
@@ -122,5 +125,6 @@ returns-then-not-reads-clause-part g c = part_none c.args.c c.args.self.now
 pub returns-clause-bounded : goal.returns-clause-bounded
 returns-clause-bounded g c = λ le bounded.
     (let lt : c.args.c < length c.args.self.now.links = (let below = c.requires.in_range in omega (arith, c.reads.ensures.count)) in
-    fed_bounded c.args.self.now c.keep.new.self c.take_frames.new.self c.args.c c.args.piece.now _ lt (sym c.reads.ensures.value ∙ c.if-not-reads.false)
-    c.in_default.ensures.ok c.take_frames.ensures.takes le bounded)
+    fed_bounded c.args.self.now c.keep.new.self c.take_frames.new.self c.args.c c.args.piece.now _ _ lt (sym c.reads.ensures.value ∙ c.if-not-reads.false)
+    (kept_is c.args.self.now c.keep.new.self c.args.c c.args.piece.now c.in_default.ensures.ok)
+    (fed_few c.args.self.now c.keep.new.self c.args.c c.args.piece.now c.in_default.ensures.ok) c.take_frames.ensures.takes le bounded)
