@@ -142,7 +142,8 @@ module _ (s : Setting) (marks : List Mark) (c : ℕ) where
       ended_needs e w out (Some life) at = ap (λ (o : Option Life). needs o out) (present-placed (ended_in Closing) ended_placed e w life at)
 
   replied_eases : (reply : Reply) (w : World) → Eases c w (replied reply c w)
-  replied_eases (GoOn response) w = same_others c w _ (λ d differ. present-changed_other (answered (answers.LoginResponse response)) c d w (λ life. refl) differ)
+  replied_eases (GoOn response) w = same_others c w _
+      (λ d differ. present-changed_other (answered (answers.LoginResponse response)) c d w (λ life. refl) differ)
   replied_eases (Refused response) w =
       let v = changed (answered (answers.LoginResponse response)) c w in
       same_others c w (close c v) (λ d differ. present-close_other c d v differ
@@ -180,4 +181,6 @@ module _ (s : Setting) (marks : List Mark) (c : ℕ) where
   arrivals_ease w all = on-brought eases_walk w all (all_here all)
 
   pub closing_eases : (points : List Point) (w : World) → Eases c w (close c (reaching c points w))
-  closing_eases points w = then_eases w (reaching c points w) (close c (reaching c points w)) (eases_walk.reaches points w) (eases_walk.closes (reaching c points w))
+  closing_eases points w =
+      let v = reaching c points w in
+      then_eases w v (close c v) (eases_walk.reaches points w) (eases_walk.closes v)

@@ -47,8 +47,10 @@ mod Carrying
 pub mod Standing
 mod Taking
 mod HalfRead
+mod Counting
 mod Easing
 mod Wanting
+mod Fed
 mod Feeding
 mod Tables
 mod Rows

@@ -231,7 +231,8 @@ open_stands s sent machine history c lt free h =
     let units : v.units ≡ machine.units = sym (ap (λ (m : Machine). m.units) h.is ∙ units_with s sent h.half w) in
     stands_as s (with_sent sent c 0) (with_link machine c (opened_link c)) history (plain (Open c)) v refl
     (stands_one s sent w v machine c 0 machine.units (opened_link c) [] lt h units (λ d differ. present-born_other c d (fresh w) differ ∙ present-fresh d w)
-    (rw born_ (born_link s.directory c)) (omega arith) (rw born_ tt) (rw born_ (λ e. ap is_long (rest_none [] no_frame) ∙ nothing_long)) (rw born_ (inl (sym (rest_none [] no_frame)))))
+    (rw born_ (born_link s.directory c)) (omega arith) (rw born_ tt) (rw born_ (λ e. ap is_long (rest_none [] no_frame) ∙ nothing_long))
+    (rw born_ (inl (sym (rest_none [] no_frame)))))
 
 -- ---- Gone
 

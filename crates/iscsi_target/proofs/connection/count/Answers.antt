@@ -1,5 +1,5 @@
 use Rattle.std.proofs.Common.{arith}
-use Rattle.iscsi_target.proofs.HalfRead.{counts_one, counts_on}
+use Rattle.iscsi_target.proofs.Counting.{counts_one, counts_on}
 use Rattle.iscsi_target.proofs.connection.count.Goals as goal
 
 pub take-requires : goal.take-requires
