@@ -22,6 +22,7 @@ SLACK = 32 * MEBIBYTE  # what the C library may keep for itself
 GREEDY = notation.data("[Login-Request T CSG=1 NSG=3 ISID=0x400000000099 CmdSN=123 | "
                        '"InitiatorName=greedy" 00 "TargetName=t1" 00 "MaxRecvDataSegmentLength=16777215" 00]', {})
 PINGS = notation.data(f"[NOP-Out I ITT=7 CmdSN=123 DataSegmentLength={PING}]", {}) + bytes(PING)
+RESET_0 = notation.data("[Task-Management-Request I Function=5 LUN=0 ITT=1000 CmdSN=125 ReferencedTaskTag=0xffffffff]", {})
 FLOOD = 64 * MEBIBYTE  # bytes that a client sends at most who sends without end
 
 
@@ -177,6 +178,66 @@ def holds_no_more_than_a_frame_of_those_who_send_half_a_pdu():
         clients[0].close()
 
 
+def write_command(number):
+    """A WRITE of a long PDU's data at the front of a disk, none of which comes with it."""
+    return notation.data(f"[SCSI-Command F W ITT={number} CmdSN={number} ExpectedDataTransferLength={PING} "
+                         f"CDB=2a000000000000{PING // 512:04x}00]", {})
+
+
+def all_is_read(client):
+    """The program has read all that this client sent (within the limit)."""
+    here, there = client.getsockname()[1], client.getpeername()[1]
+    until = time.monotonic() + LIMIT
+    while (queued(here, there)[0] or queued(there, here)[1]) and time.monotonic() < until:
+        time.sleep(0.01)
+    return not (queued(here, there)[0] or queued(there, here)[1])
+
+
+def counts_data_that_no_command_takes():
+    lost = notation.data(f"[Data-Out ITT=9 TTT=0xFFFFFFFF DataSegmentLength={PING}]", {}) + bytes(PING)
+    wrong = notation.data(f"[Data-Out F ITT=125 TTT=0 BufferOffset=512 DataSegmentLength={PING}]", {}) + bytes(PING)
+    with serving(units=UNITS.replace("blocks = 8", "blocks = 2048")) as (process, address):
+        clients = held_clients(address, 64)
+        for n, client in enumerate(clients):
+            assert is_answered(client, n, n), n
+        for client in clients[1::2]:
+            client.sendall(write_command(125))
+            assert read(client, pdu.HEADER)[:1] == b"\x31"
+        before = resident(process)
+        for client, data in zip(clients, [lost, wrong] * 32):
+            client.sendall(data[:-1])
+        for client in clients:
+            assert all_is_read(client)
+        assert resident(process) < before + 2 * MEBIBYTE, resident(process) - before
+        # A Data-Out of no command is dropped, and one with a fault is a violation, once it is whole.
+        for client in clients[::2]:
+            client.sendall(lost[-1:])
+            goes_on(client, 125)
+        for client in clients[1::2]:
+            client.sendall(wrong[-1:])
+            assert client.recv(1) == b""
+        for client in clients:
+            client.close()
+
+
+def drops_counted_data_of_a_command_that_another_session_removed():
+    wrong = notation.data(f"[Data-Out F ITT=125 TTT=0 BufferOffset=512 DataSegmentLength={PING}]", {}) + bytes(PING)
+    right = notation.data(f"[Data-Out F ITT=125 TTT=0 BufferOffset=0 DataSegmentLength={PING}]", {}) + bytes(PING)
+    for data in (wrong, right):
+        for count in (pdu.HEADER, pdu.HEADER + 100, len(data) // 2, len(data) - 1):
+            with serving(units=UNITS.replace("blocks = 8", "blocks = 2048")) as (_, address):
+                with connect(address) as other, connect(address) as client:
+                    assert is_answered(other, 1, 0) and is_answered(client, 2, 1)
+                    client.sendall(write_command(125))
+                    assert read(client, pdu.HEADER)[:1] == b"\x31"
+                    client.sendall(data[:count])
+                    assert all_is_read(client)
+                    other.sendall(RESET_0)
+                    assert read(other, pdu.HEADER)[:3] == b"\x22\x80\0"
+                    client.sendall(data[count:])
+                    goes_on_behind_resets(client, 126)
+
+
 def answers_the_others_beside_floods_of_headers():
     unknown, snack, late = bytes([0x1C, 0x80]) + bytes(46), bytes([0x10, 0x80]) + bytes(46), ready(5000)
     with serving() as (process, address), connect(address) as other:
@@ -286,6 +347,8 @@ CHECKS = [
     answers_one_beside_63_who_ping_and_read_nothing,
     keeps_no_room_of_large_answers_for_those_who_are_idle,
     holds_no_more_than_a_frame_of_those_who_send_half_a_pdu,
+    counts_data_that_no_command_takes,
+    drops_counted_data_of_a_command_that_another_session_removed,
     answers_the_others_beside_floods_of_headers,
     ends_no_other_session_by_random_pdus,
     answers_the_others_while_one_connects_without_end,
