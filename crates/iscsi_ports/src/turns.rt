@@ -148,14 +148,15 @@ impl Turns {
         ensures count { result ≡ due_count named.old self.now }
         ensures named { (c : ℕ) → c < 64 → flag_of c named.new ≡ (flag_of c named.old && not (flag_of c self.now.long)) }
     {
-        let mut count = 0;
+        // A byte, so that the compiler counts 16 at a time: there is a poll for each PDU.
+        let mut count: u8 = 0;
         for c in 0..CONNECTIONS {
             if named[c] & self.long[c] {
                 count += 1;
             }
             named[c] &= !self.long[c];
         }
-        count
+        usize::from(count)
     }
 
     /// Returns the number from which on a poll names short connections.
@@ -173,13 +174,14 @@ impl Turns {
     fn count_short(&self, ready: &[bool; CONNECTIONS]) -> usize
         ensures { result ≡ short_from ready.now self.now 0 }
     {
-        let mut count = 0;
+        // A byte, so that the compiler counts 16 at a time: there is a poll for each PDU.
+        let mut count: u8 = 0;
         for c in 0..CONNECTIONS {
             if ready[c] & !self.long[c] {
                 count += 1;
             }
         }
-        count
+        usize::from(count)
     }
 
     /// Chooses the short connections that are ready from the start on, as many as a poll may name.

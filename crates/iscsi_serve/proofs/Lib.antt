@@ -6,4 +6,5 @@ pub mod Goings
 pub mod Keeping
 pub mod Turning
 pub mod Closing
+pub mod Flags
 pub mod Passing

@@ -8,6 +8,7 @@ pub use Rattle.iscsi_ports.specs.Log
 pub mod Fault
 pub mod Events
 pub mod Served
+pub mod Named
 pub mod Turn
 pub mod Progress
 pub mod ExamplesLog

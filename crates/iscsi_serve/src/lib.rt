@@ -20,6 +20,7 @@
 mod ending;
 mod fault;
 pub mod laws;
+mod named;
 mod serving;
 
 pub use fault::ServeFault;

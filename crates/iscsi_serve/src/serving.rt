@@ -12,6 +12,7 @@ ghost use Rattle.iscsi_ports.specs.declared.results.Named.{Named};
 
 use crate::ending::{any_ended, either, has_ended, is_done};
 use crate::fault::ServeFault;
+use crate::named::count_named;
 use iscsi_ports::{Accepted, IoResult, Named, PortFault, Ports};
 use iscsi_target::{Starved, Target};
 use media_store::Store;
@@ -216,8 +217,15 @@ fn read_all<P: Ports, S: Store>(
     ensures { StepsBy (InOrder (Reads named.now) connections) (P.tells ports.old) (P.tells ports.new)
         (P.log ports.old) (P.log ports.new) target.old target.new ended.old ended.new }
 {
+    let mut unread = count_named(named);
     for c in 0..CONNECTIONS {
+        if unread == 0 {
+            return;
+        }
         read_one(ports, target, named, buffer, ended, c);
+        if named.connections[c] {
+            unread -= 1;
+        }
     }
 }
 
