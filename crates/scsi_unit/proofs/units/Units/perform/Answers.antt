@@ -112,3 +112,17 @@ returns-in_default-clause-came g c =
     IfOk-weaker c.without_unit.result _ _
     (λ done answer. none_came c.args.nexus.now c.args.lun c.args.cdb c.args.«data».now c.args.self.now done
     (sym c.position.ensures.value ∙ c.in_default.is) answer) c.without_unit.ensures.done
+
+-- ---- no unit changes
+
+pub returns-then-is_for_target-clause-back : goal.returns-then-is_for_target-clause-back
+returns-then-is_for_target-clause-back g c = λ sound. sound
+
+pub returns-then-is_for_target-clause-sure : goal.returns-then-is_for_target-clause-sure
+returns-then-is_for_target-clause-sure g c = λ sure. sure
+
+pub returns-in_default-clause-back : goal.returns-in_default-clause-back
+returns-in_default-clause-back g c = λ sound. sound
+
+pub returns-in_default-clause-sure : goal.returns-in_default-clause-sure
+returns-in_default-clause-sure g c = λ sure. sure
