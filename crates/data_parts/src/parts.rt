@@ -19,7 +19,7 @@ const MOVED: usize = 4_096;
 pub struct Parts {
     /// None of them is empty.
     buffers: Vec<Vec<u8>>,
-    /// The bytes after them, which came in small pieces.
+    /// The bytes after them: the first piece alone, or what came in small pieces.
     tail: Vec<u8>,
     len: usize,
     alloc: Global,
@@ -48,7 +48,7 @@ fn push_few(tail: &mut Vec<u8>, bytes: Vec<u8>) -> Result<(), AllocError>
     tail.extend_from_slice(bytes.as_slice())
 }
 
-/// Appends a piece, in the buffer in which it came.
+/// Appends a piece after others, in the buffer in which it came.
 fn push_many(
     buffers: &mut Vec<Vec<u8>>,
     tail: &mut Vec<u8>,
@@ -69,19 +69,23 @@ fn push_many(
     Ok(())
 }
 
-/// Appends a piece, by its length either joined to those before it or in its own buffer.
+/// Appends a piece, by its length either joined to those before it or in its own buffer. The first needs no list of
+/// buffers, since it becomes the tail.
 fn push_piece(
     buffers: &mut Vec<Vec<u8>>,
     tail: &mut Vec<u8>,
     alloc: Global,
     bytes: Vec<u8>,
 ) -> Result<(), AllocError>
+    requires some { 0 < length bytes.items }
     requires all { AreSome buffers.old.items }
     ensures ok { OnOk result (joined buffers.new.items ++ tail.new.items ≡ joined buffers.old.items ++ tail.old.items ++ bytes.items) }
     ensures err { OnErr result (joined buffers.new.items ++ tail.new.items ≡ joined buffers.old.items ++ tail.old.items) }
     ensures all { AreSome buffers.new.items }
 {
-    if bytes.len() < MOVED {
+    let is_first = buffers.is_empty() && tail.is_empty();
+    let is_after_long = buffers.is_empty() && tail.len() >= MOVED;
+    if is_first || (bytes.len() < MOVED && !is_after_long) {
         return push_few(tail, bytes);
     }
     push_many(buffers, tail, alloc, bytes)
