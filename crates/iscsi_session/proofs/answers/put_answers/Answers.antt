@@ -1,17 +1,25 @@
-use Rattle.std.proofs.Common.{◌≡◌, ◌++◌, ℕ, List, take, drop, ap, ◌∙◌, arith, append_assoc}
+use Rattle.std.proofs.Common.{◌≡◌, ◌++◌, ℕ, List, length, take, drop, ap, ◌∙◌, arith, append_assoc}
 use Rattle.std.specs.Prelude.{flat_map}
 use Rattle.std.proofs.lemmas.Bool.{eqb-true}
-use Rattle.std.proofs.lemmas.List.{nil_from_length}
+use Rattle.std.proofs.lemmas.List.{length-append, nil_from_length}
 use Rattle.iscsi_pdu.specs.Answer.{spelling}
 use Rattle.scsi_sense.specs.Done.{Outcome}
+use Rattle.iscsi_transfer.proofs.Counts.{count_fits}
 use Rattle.iscsi_session.specs.Answers.{data_sent, data_answers}
-use Rattle.iscsi_session.proofs.Room.{pieces_few, data_fits, count_is, all_spelled, cut_as_sent}
+use Rattle.iscsi_session.proofs.Room.{sent_short, pieces_few, data_fits, count_is, all_spelled, cut_as_sent}
 use Rattle.iscsi_session.proofs.answers.put_answers.Goals as goal
 
 pub overflow_cast-count : goal.overflow_cast-count
 overflow_cast-count c = grind (arith, pieces_few, count_is)
 
+pub limits_for-requires-clause-sent : goal.limits_for-requires-clause-sent
+limits_for-requires-clause-sent c = omega (arith, c.sent_length-sent.ensures.value, sent_short c.args.frame.now c.args.done c.requires.given)
+
 -- ---- from where the data lies
+
+pub put_data-requires-clause-some : goal.put_data-requires-clause-some
+put_data-requires-clause-some c =
+    omega (arith, simp length-append at (ap (λ (bytes : List ℕ). length bytes) c.new.ensures), c.response-response.ensures.some)
 
 pub returns-in-Some : goal.returns-in-Some
 returns-in-Some c =
@@ -29,6 +37,13 @@ returns-in-Some c =
     ∙ all_spelled c.args.numbers values frame done c.count_of-count.result c.response-response.result c.response-response.ensures.value counted)
 
 -- ---- one piece, where nothing waits
+
+pub sent_buffer-buffer-requires-then-is_empty-clause-some : goal.sent_buffer-buffer-requires-then-is_empty-clause-some
+sent_buffer-buffer-requires-then-is_empty-clause-some c =
+    let values = c.args.values.now in
+    let fits = count_fits c.sent_length-sent.result values.max_burst_length values.max_recv_data_segment_length
+    (omega (arith, c.requires.values.burst)) (omega (arith, c.requires.values.segment)) in
+    omega (arith, fits, c.count_of-count.ensures, c.if-count-eq1.true)
 
 pub put_alone-requires-clause-one : goal.put_alone-requires-clause-one
 put_alone-requires-clause-one c = grind (arith, count_is)

@@ -2,6 +2,7 @@ use Rattle.std.proofs.Common.{refl}
 use Rattle.std.proofs.lemmas.Bool.{eq-eqb}
 use Rattle.iscsi_session.specs.Steps.{Asking, Answering}
 use Rattle.iscsi_session.proofs.Parts.{on_err_known}
+use Rattle.iscsi_session.proofs.Runs.{grows_then}
 use Rattle.iscsi_session.proofs.Stages.{judging_stops, judging_ends, taken_on, taken_fails, taken_ended, asked_then, asked_ended, told_then, served_stops, taken_stops}
 use Rattle.iscsi_session.proofs.session.Session.serve.Goals as goal
 
@@ -52,3 +53,25 @@ returns-clause-ok c units numbers =
     (taken_on _ c.args.frame (record { judged_is = taken.verdict; stands = taken.stands; out = taken.out; orders = refl })
     c.in_default.not-Violating (λ place. refl) (rw c.if-not-branch.false at (c.in_ok-act_all.ensures.ok units numbers)))
     (c.in_ok-ask_due.ensures.ok _ units)) (c.in_ok-answer_drained.ensures.ok _ units)
+
+pub returns-in_err-act_all-clause-grows : goal.returns-in_err-act_all-clause-grows
+returns-in_err-act_all-clause-grows c =
+    grows_then _ _ _ c.receive.ensures.grows c.act_all.ensures.grows
+
+pub returns-then-not-branch-clause-grows : goal.returns-then-not-branch-clause-grows
+returns-then-not-branch-clause-grows c =
+    grows_then _ _ _ c.receive.ensures.grows c.act_all.ensures.grows
+
+pub returns-in_err-ask_due-clause-grows : goal.returns-in_err-ask_due-clause-grows
+returns-in_err-ask_due-clause-grows c =
+    grows_then _ _ _ (grows_then _ _ _ c.receive.ensures.grows c.act_all.ensures.grows) c.ask_due.ensures.grows
+
+pub returns-in_err-answer_drained-clause-grows : goal.returns-in_err-answer_drained-clause-grows
+returns-in_err-answer_drained-clause-grows c =
+    grows_then _ _ _ (grows_then _ _ _ (grows_then _ _ _ c.receive.ensures.grows c.act_all.ensures.grows) c.ask_due.ensures.grows)
+    c.answer_drained.ensures.grows
+
+pub returns-clause-grows : goal.returns-clause-grows
+returns-clause-grows c =
+    grows_then _ _ _ (grows_then _ _ _ (grows_then _ _ _ c.receive.ensures.grows c.act_all.ensures.grows) c.ask_due.ensures.grows)
+    c.answer_drained.ensures.grows

@@ -47,3 +47,22 @@ returns-clause-ok g c = came_then _ _ _ _ _ _ _ c.loop.invariant.ran
 
 pub returns-clause-sure : goal.returns-clause-sure
 returns-clause-sure g c = λ sure. c.in_ok-finish.ensures.sure (c.loop.invariant.sure sure)
+
+pub returns-clause-back : goal.returns-clause-back
+returns-clause-back g c = λ sound. c.loop.invariant.back (c.in_ok-finish.ensures.back sound)
+
+pub returns-clause-grows : goal.returns-clause-grows
+returns-clause-grows g c = grows_then _ _ _ c.loop.invariant.grows c.in_ok-finish.ensures.grows
+
+pub returns-clause-eases : goal.returns-clause-eases
+returns-clause-eases g c = λ r. (let first = c.loop.invariant.eases r in eases_then _ _ _ _ _ _ first (c.in_ok-finish.ensures.eases first.rests))
+
+pub returns-clause-params : goal.returns-clause-params
+returns-clause-params g c = c.in_ok-finish.ensures.params ∙ c.loop.invariant.params
+
+pub returns-in_err-finish-clause-grows : goal.returns-in_err-finish-clause-grows
+returns-in_err-finish-clause-grows g c = grows_then _ _ _ c.loop.invariant.grows c.in_err-finish.ensures.grows
+
+pub returns-in_err-finish-clause-eases : goal.returns-in_err-finish-clause-eases
+returns-in_err-finish-clause-eases g c = λ r.
+    (let first = c.loop.invariant.eases r in eases_then _ _ _ _ _ _ first (c.in_err-finish.ensures.eases first.rests))
