@@ -43,7 +43,8 @@ use Rattle.target_units.specs.Refusal.{Refusal}
 use Rattle.targetd.specs.Help.{RefusesWords}
 use Rattle.targetd.specs.Logging.{OpensLog}
 use Rattle.targetd.specs.Serve.{listening_line, HasServed, Serves}
-use Rattle.targetd.specs.Run.{FailsEarly, LeftState, ServedState, listening, known_of, setting_of, IsReplay, IsServing, ServesAt, Runs}
+use Rattle.targetd.specs.Unopened.{IsUnopened}
+use Rattle.targetd.specs.Run.{FailsEarly, LeftState, ServedState, listening, known_of, setting_of, IsReplay, IsServing, Replays, ServesAt, Runs}
 
 -- ---- before a target is made
 
@@ -65,6 +66,11 @@ early_fault held refused configured why.Field e = early_by held refused configur
 early_fault held refused configured why.Limit e = early_by held refused configured why.Limit (e (λ x. cc))
 early_fault held refused configured why.Twice e = early_by held refused configured why.Twice (e (λ x. cc))
 early_fault held refused configured why.NoLunZero e = early_by held refused configured why.NoLunZero (e (λ x. cc))
+
+-- the file of a unit was refused, or an allocation failed
+pub early_unopened : (held : Held) (refused : Refusal) (configured : Result Document ConfigFault) (document : Document) (fault : Fault)
+    → configured ≡ Ok document → IsUnopened held document.targets refused fault → FailsEarly held refused configured fault
+early_unopened held refused configured document fault read is = rw read is
 
 -- ---- units in memory cannot fail
 
@@ -155,7 +161,23 @@ replay_fails held left r0 r1 w0 w1 document units first last target (Err seen) f
       );
     }
 
+-- it ended before its first line
+pub replay_early : (held : Held) (left : LeftState) (r w : Option (List ℕ)) (configured : Result Document ConfigFault)
+    (result : Result (Unit {0}) Fault) (fault : Fault) → IsErrAnd result (λ seen. seen ≡ fault) → FailsEarly held left.refused configured fault
+    → Replays held left r r w w configured result
+replay_early held left r w configured (Ok end) fault is early = absurd is
+replay_early held left r w configured (Err seen) fault is early =
+    inl ((Keeps-refl r, Keeps-refl w), subst (FailsEarly held left.refused configured) (sym is) early)
+
 -- ---- serving
+
+-- it ended before it had made a target
+pub serving_early : (held : Held) (left : LeftState) (w : Option (List ℕ)) (count : ℕ) (configured : Result Document ConfigFault)
+    (result : Result (Unit {0}) Fault) (fault : Fault) → IsErrAnd result (λ seen. seen ≡ fault) → FailsEarly held left.refused configured fault
+    → ServesAt held left w w count configured result
+serving_early held left w count configured (Ok end) fault is early = absurd is
+serving_early held left w count configured (Err seen) fault is early =
+    inl (Keeps-refl w, inr (subst (FailsEarly held left.refused configured) (sym is) early))
 
 -- an allocation failed before the address was listened on
 pub serving_starves : (held : Held) (left : LeftState) (w : Option (List ℕ)) (count : ℕ) (configured : Result Document ConfigFault)
@@ -290,6 +312,17 @@ run_lacks_streams held left r w told help (Serve path turns) (Err seen) fault is
     inr (inl (ap (λ (f : Fault). Err f) (is ∙ e), lacking, (Keeps-refl r, Keeps-refl w)))
 
 -- the configuration's file could not be read
+pub replay_unread : (held : Held) (left : LeftState) (r w : Option (List ℕ)) (told earlier : List Noted) (help : Bool) (path : List ℕ)
+    (result : Result (Unit {0}) Fault) (fault : ConfigFault)
+    → IsErrAnd result (λ seen. seen ≡ config_fault fault) → earlier ≡ told → Loads path earlier left.told (Err fault) → AreTaken left.streams
+    → Runs held left r r w w told help (Some (Replay path)) result
+replay_unread held left r w told earlier help path (Ok end) fault is same loads taken = absurd is
+replay_unread held left r w told earlier help path (Err seen) why.OutOfMemory is same loads taken =
+    inl (ap (λ (f : Fault). Err f) is, (Keeps-refl r, Keeps-refl w))
+replay_unread held left r w told earlier help path (Err seen) why.Unreadable is same loads taken =
+    inr (inr (taken, (None, loads ∙ ap (λ (notes : List Noted). told_of path None notes) same, inl ((Keeps-refl r, Keeps-refl w), inr is))))
+replay_unread held left r w told earlier help path (Err seen) _ is same loads taken = absurd loads
+
 pub serve_unread : (held : Held) (left : LeftState) (r w : Option (List ℕ)) (told earlier : List Noted) (help : Bool) (path : List ℕ) (turns : ℕ)
     (result : Result (Unit {0}) Fault) (fault : ConfigFault)
     → IsErrAnd result (λ seen. seen ≡ config_fault fault) → earlier ≡ told → Loads path earlier left.told (Err fault) → AreTaken left.streams

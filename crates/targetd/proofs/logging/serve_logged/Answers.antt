@@ -15,3 +15,6 @@ returns-in-Err-clause-logged g c = log_unopened _ _ _ _ _ c.in-Err.ensures.unope
 
 pub returns-clause-logged : goal.returns-clause-logged
 returns-clause-logged g c = log_opened _ _ _ _ _ _ _ c.in-Ok.ensures.opened
+
+pub returns-clause-serves : goal.returns-clause-serves
+returns-clause-serves g c = c.serve-ended.ensures

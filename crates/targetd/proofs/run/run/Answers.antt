@@ -2,7 +2,7 @@ use Rattle.std.proofs.Common.{inr, refl, true, Some, ap, sym, subst, ◌∙◌, 
 use Rattle.std.proofs.KnownBytes.{Keeps-refl}
 use Rattle.target_config.specs.Loading.{told_of}
 use Rattle.standard_streams.specs.Streams.{AreTaken}
-use Rattle.targetd.proofs.Ending.{run_starves, run_lacks_streams, run_refused, none_named, serve_unread}
+use Rattle.targetd.proofs.Ending.{run_starves, run_lacks_streams, run_refused, none_named, replay_unread, serve_unread}
 use Rattle.targetd.proofs.run.run.Goals as goal
 
 pub returns-in_err-texts : goal.returns-in_err-texts
@@ -31,6 +31,13 @@ returns-in-Replay g c =
     let taken = subst AreTaken (sym c.replay_at.ensures.streams) c.in_ok-take_streams.ensures.taken in
     rw (← c.in_ok-texts.ensures, ← c.as_slice-texts.ensures.value, c.in-Ok.ensures, c.in-Replay.is)
     (inr (inr (taken, (Some c.as_slice.result.now, told, c.replay_at.ensures.ends))))
+
+pub returns-in_err-contents-in-Replay : goal.returns-in_err-contents-in-Replay
+returns-in_err-contents-in-Replay g c =
+    rw (← c.in_ok-texts.ensures, ← c.as_slice-texts.ensures.value, c.in-Ok.ensures, c.in-Replay.is)
+    (replay_unread _ _ _ _ _ _ true c.in-Replay.config.now c.from_residual-in_err-contents-in-Replay.result
+    c.in_err-contents-in-Replay.field-0.0 c.from_residual-in_err-contents-in-Replay.ensures.1 c.take_streams.ensures.told
+    c.in_err-contents-in-Replay.ensures c.in_ok-take_streams.ensures.taken)
 
 pub returns-in_err-contents-in-Serve : goal.returns-in_err-contents-in-Serve
 returns-in_err-contents-in-Serve g c =

@@ -6,13 +6,23 @@ use Rattle.iscsi_ports.specs.Log.{Entry, Listened, Located}
 use Rattle.iscsi_ports.specs.Calls.{ip_octets}
 use Rattle.target_config.specs.Configuration.{configuration_view, targets_view}
 use Rattle.targetd.proofs.Made.{as_many, known_is}
-use Rattle.targetd.proofs.Ending.{serving, serving_starves, serving_unbound, serving_unlocated}
+use Rattle.targetd.proofs.Ending.{early_fault, early_unopened, serving, serving_early, serving_starves, serving_unbound, serving_unlocated}
 use Rattle.targetd.proofs.run.serve_at.Goals as goal
 
 pub new-requires : goal.new-requires
 new-requires g c =
     as_many g.S.Start.held (targets_view c.in_ok-configuration.configuration.targets.items) c.in_ok-config.field-0.units.items
     c.in_ok-config.field-0.config.targets.items c.in_ok-config.ensures.units c.in_ok-config.ensures.names
+
+pub returns-in_err-configuration-clause-ends : goal.returns-in_err-configuration-clause-ends
+returns-in_err-configuration-clause-ends g c =
+    serving_early _ _ _ _ _ c.from_residual.result _ c.from_residual.ensures.1
+    (early_fault _ _ _ c.in_err-configuration.field-0.0 c.in_err-configuration.ensures.refused)
+
+pub returns-in_err-config-clause-ends : goal.returns-in_err-config-clause-ends
+returns-in_err-config-clause-ends g c =
+    serving_early _ _ _ _ _ c.from_residual-in_err-config.result c.in_err-config.field-0.0 c.from_residual-in_err-config.ensures.1
+    (early_unopened _ _ _ (configuration_view c.in_ok-configuration.configuration) _ c.in_ok-configuration.ensures.read c.in_err-config.ensures.fault)
 
 pub returns-in_default-clause-ends : goal.returns-in_default-clause-ends
 returns-in_default-clause-ends g c = serving_unlocated _ _ _ _ _ _ _ c.in_ok-configuration.ensures.read c.in_default.ensures.unknown
