@@ -1,4 +1,4 @@
-use Rattle.std.proofs.Common.{List, rules, length, refl, subst, sym, ap, ◌∙◌, arith}
+use Rattle.std.proofs.Common.{List, length, refl, subst, sym, ap, ◌∙◌, arith}
 use Rattle.iscsi_target.specs.Machine.{LinkState, Machine, IsWithin, with_link, closed, free_link}
 use Rattle.iscsi_target.proofs.Lending.{Holds, lent_holds}
 use Rattle.iscsi_target.proofs.Moving.{closed_count}
@@ -22,14 +22,18 @@ pub returns-clause-sure : goal.returns-clause-sure
 returns-clause-sure g c = λ sure. sure_as c.close.new.self _ (sym c.self.view_is)
     (sure_as _ c.close.new.self (sym c.close.ensures.closed) (closed_sure c.args.self.now c.args.c sure))
 
+pub returns-clause-now : goal.returns-clause-now
+returns-clause-now g c = rw (c.put.ensures, c.free.ensures, ← c.close.ensures.closed, ← c.self.view_is) refl
+
 pub returns-clause-always : goal.returns-clause-always
 returns-clause-always g c = λ s sent h at.
-    stands_machine _ _ _ _ _ (search rules) (gone_stands s sent c.args.self.now h c.args.c c.requires.in_range at)
+    stands_machine _ _ _ _ _ (sym (returns-clause-now g c)) (gone_stands s sent c.args.self.now h c.args.c c.requires.in_range at)
 
 pub returns-clause-count : goal.returns-clause-count
 returns-clause-count g c =
     sym (closed_count c.args.self.now c.args.c) ∙ ap (λ (m : Machine). length m.links) (sym c.close.ensures.closed ∙ sym c.self.view_is) ∙ c.self.invariant.0
 
 pub returns-clause-bounded : goal.returns-clause-bounded
-returns-clause-bounded g c = λ bounded. bounded_links (with_link (closed c.args.self.now c.args.c) c.args.c free_link) _ (search rules)
+returns-clause-bounded g c = λ bounded. bounded_links (with_link (closed c.args.self.now c.args.c) c.args.c free_link) _
+    (ap (λ (m : Machine). m.links) (sym (returns-clause-now g c)))
     (gone_bounded c.args.self.now c.args.c (let below = c.requires.in_range in omega (arith, returns-clause-count g c, below)) bounded)

@@ -1,4 +1,4 @@
-use Rattle.std.proofs.Common.{◌≡◌, ◌<◌, List, [], length, take, sym, ap, ◌∙◌, subst, arith}
+use Rattle.std.proofs.Common.{◌≡◌, ◌<◌, List, [], length, take, sym, ap, ◌∙◌, subst}
 use Rattle.std.proofs.lemmas.List.{take_all}
 use Rattle.iscsi_target.specs.Known.{known_in}
 use Rattle.iscsi_target.specs.History.{open_after}
@@ -31,7 +31,7 @@ loop-event-init g c = (
 
 pub take_event-requires : goal.take_event-requires
 take_event-requires g c =
-    let lt : c.loop-event.event-index < length c.args.events.now = omega arith in
+    let lt : c.loop-event.event-index < length c.args.events.now = c.loop-event-test.true in
     let i = c.loop-event.invariant in
     let both = and_true _ _ (sym (follows c.args.events.now c.loop-event.event-index c.event-item.result i.0 lt c.event-item.is) ∙ i.4) in
     comes c.loop-event.target i.0 (event_view c.event-item.result) i.3 both.0
@@ -41,7 +41,7 @@ loop-event-preserved g c =
     let es = c.args.events.now in
     let at = c.loop-event.event-index in
     let e = c.event-item.result in
-    let lt : at < length es = omega arith in
+    let lt : at < length es = c.loop-event-test.true in
     let i = c.loop-event.invariant in
     let both = and_true _ _ (sym (follows es at e i.0 lt c.event-item.is) ∙ i.4) in
     let r = c.in_ok-take_event.ensures.runs _ i.0 (plain_history (take at es)) i.1 in (
@@ -53,10 +53,13 @@ loop-event-preserved g c =
       λ sure. c.in_ok-take_event.ensures.sure (i.5 sure),
     )
 
+pub returns-clause-sure : goal.returns-clause-sure
+returns-clause-sure g c = c.loop-event.invariant.5
+
 pub returns-clause-stands : goal.returns-clause-stands
 returns-clause-stands g c = λ sound.
     (let es = c.args.events.now in
-    let all : take c.loop-event.event-index es ≡ es = take_all c.loop-event.event-index es (omega arith) in
+    let all : take c.loop-event.event-index es ≡ es = take_all c.loop-event.event-index es c.loop-event-test.false in
     let P : List Event → Type 0 = λ l. Stands (record { directory = known_in c.args.config; units = c.args.units.items }) (λ k. 0)
     c.loop-event.target (plain_history l) in
     subst P all (c.loop-event.invariant.1 sound).stands)
@@ -65,14 +68,14 @@ pub returns-clause-outputs : goal.returns-clause-outputs
 returns-clause-outputs g c = λ sound.
     (let es = c.args.events.now in
     let i = c.loop-event.invariant in
-    let all : take c.loop-event.event-index es ≡ es = take_all c.loop-event.event-index es (omega arith) in
+    let all : take c.loop-event.event-index es ≡ es = take_all c.loop-event.event-index es c.loop-event-test.false in
     c.in_ok-outputs.ensures ∙ finished_outputs _ c.loop-event.target _ i.0 _ (i.1 sound)
     ∙ ap (λ (l : List Event). outputs (record { directory = known_in c.args.config; units = c.args.units.items }) (plain_history l)) all)
 
 pub returns-clause-media : goal.returns-clause-media
 returns-clause-media g c = λ sound number.
     (let es = c.args.events.now in
-    let all : take c.loop-event.event-index es ≡ es = take_all c.loop-event.event-index es (omega arith) in
+    let all : take c.loop-event.event-index es ≡ es = take_all c.loop-event.event-index es c.loop-event-test.false in
     let P : List Event → Type 0 = λ l. media_in c.loop-event.target.units number
     ≡ media (record { directory = known_in c.args.config; units = c.args.units.items }) (plain_history l) number in
     subst P all (ap (λ (units : List UnitStates). media_in units number) (units_stand _ (λ k. 0) _ _ (c.loop-event.invariant.1 sound).stands)))
@@ -82,7 +85,7 @@ returns-clause-isolated g c = λ number sound.
     (let es = c.args.events.now in
     let setting : Setting = record { directory = known_in c.args.config; units = c.args.units.items } in
     let i = c.loop-event.invariant in
-    let all : take c.loop-event.event-index es ≡ es = take_all c.loop-event.event-index es (omega arith) in
+    let all : take c.loop-event.event-index es ≡ es = take_all c.loop-event.event-index es c.loop-event-test.false in
     let r = i.2 in
     gives_its_own setting number (events_view es) _ c.loop-event.target r.history (r.of ∙ ap events_view all) c.requires.well_formed r.unmarked
     (r.calm number sound) r.runs.stands
