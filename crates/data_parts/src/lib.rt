@@ -14,8 +14,8 @@
 //! - If an allocation fails, nothing changes.
 //! - [`Data::split_front`] returns the bytes slice by slice, none of them empty before the end.
 //!
-//! [`Parts::push`] moves the first piece, and each of 4,096 bytes or more, in its buffer. For smaller pieces the room is
-//! at most doubled, so that many small pieces take no more than twice their bytes.
+//! [`Parts::push`] moves a piece of 4,096 bytes or more in its buffer. For smaller pieces the room is at most doubled,
+//! so that many small pieces take no more than twice their bytes.
 #![tactic(auto)]
 
 mod data;

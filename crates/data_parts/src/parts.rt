@@ -19,8 +19,10 @@ const MOVED: usize = 4_096;
 pub struct Parts {
     /// None of them is empty.
     buffers: Vec<Vec<u8>>,
-    /// The bytes after them: the first piece alone, or what came in small pieces.
+    /// The bytes after them: the last piece, or the last small ones, joined.
     tail: Vec<u8>,
+    /// The last piece was small.
+    is_small: bool,
     len: usize,
     alloc: Global,
 }
@@ -36,59 +38,44 @@ impl Model for Parts {
     ghost invariant = { λ p. (p.len ≡ length (joined p.buffers.items ++ p.tail.items)) × (p.len < 2 ^ 63) × AreSome p.buffers.items };
 }
 
-/// Appends a small piece, joined to those before it.
-fn push_few(tail: &mut Vec<u8>, bytes: Vec<u8>) -> Result<(), AllocError>
-    ensures ok { OnOk result (tail.new.items ≡ tail.old.items ++ bytes.items) }
-    ensures err { OnErr result (tail.new.items ≡ tail.old.items) }
+/// Appends a piece after the tail, and makes it the tail, in the buffer in which it came.
+fn push_after(
+    buffers: &mut Vec<Vec<u8>>,
+    tail: &mut Vec<u8>,
+    bytes: Vec<u8>,
+) -> Result<(), AllocError>
+    requires some { 0 < length tail.old.items }
+    requires all { AreSome buffers.old.items }
+    ensures ok { OnOk result (joined buffers.new.items ++ tail.new.items ≡ joined buffers.old.items ++ tail.old.items ++ bytes.items) }
+    ensures err { OnErr result (joined buffers.new.items ++ tail.new.items ≡ joined buffers.old.items ++ tail.old.items) }
+    ensures all { AreSome buffers.new.items }
+{
+    buffers.reserve(1)?;
+    buffers.push_reserved(mem::replace(tail, bytes));
+    Ok(())
+}
+
+/// Appends a piece. It is joined to the tail if `joins`, and else lies in its own buffer. The first needs no list of
+/// buffers, since it becomes the tail.
+fn push_piece(
+    buffers: &mut Vec<Vec<u8>>,
+    tail: &mut Vec<u8>,
+    bytes: Vec<u8>,
+    joins: bool,
+) -> Result<(), AllocError>
+    requires all { AreSome buffers.old.items }
+    ensures ok { OnOk result (joined buffers.new.items ++ tail.new.items ≡ joined buffers.old.items ++ tail.old.items ++ bytes.items) }
+    ensures err { OnErr result (joined buffers.new.items ++ tail.new.items ≡ joined buffers.old.items ++ tail.old.items) }
+    ensures all { AreSome buffers.new.items }
 {
     if tail.is_empty() {
         *tail = bytes;
         return Ok(());
     }
-    tail.extend_from_slice(bytes.as_slice())
-}
-
-/// Appends a piece after others, in the buffer in which it came.
-fn push_many(
-    buffers: &mut Vec<Vec<u8>>,
-    tail: &mut Vec<u8>,
-    alloc: Global,
-    bytes: Vec<u8>,
-) -> Result<(), AllocError>
-    requires some { 0 < length bytes.items }
-    requires all { AreSome buffers.old.items }
-    ensures ok { OnOk result (joined buffers.new.items ++ tail.new.items ≡ joined buffers.old.items ++ tail.old.items ++ bytes.items) }
-    ensures err { OnErr result (joined buffers.new.items ++ tail.new.items ≡ joined buffers.old.items ++ tail.old.items) }
-    ensures all { AreSome buffers.new.items }
-{
-    buffers.reserve(2)?;
-    if !tail.is_empty() {
-        buffers.push_reserved(mem::replace(tail, Vec::new(alloc)));
+    if joins {
+        return tail.extend_from_slice(bytes.as_slice());
     }
-    buffers.push_reserved(bytes);
-    Ok(())
-}
-
-/// Appends a piece, by its length either joined to those before it or in its own buffer. The first needs no list of
-/// buffers, since it becomes the tail.
-fn push_piece(
-    buffers: &mut Vec<Vec<u8>>,
-    tail: &mut Vec<u8>,
-    alloc: Global,
-    bytes: Vec<u8>,
-) -> Result<(), AllocError>
-    requires some { 0 < length bytes.items }
-    requires all { AreSome buffers.old.items }
-    ensures ok { OnOk result (joined buffers.new.items ++ tail.new.items ≡ joined buffers.old.items ++ tail.old.items ++ bytes.items) }
-    ensures err { OnErr result (joined buffers.new.items ++ tail.new.items ≡ joined buffers.old.items ++ tail.old.items) }
-    ensures all { AreSome buffers.new.items }
-{
-    let is_first = buffers.is_empty() && tail.is_empty();
-    let is_after_long = buffers.is_empty() && tail.len() >= MOVED;
-    if is_first || (bytes.len() < MOVED && !is_after_long) {
-        return push_few(tail, bytes);
-    }
-    push_many(buffers, tail, alloc, bytes)
+    push_after(buffers, tail, bytes)
 }
 
 impl Parts {
@@ -99,6 +86,7 @@ impl Parts {
         Parts {
             buffers: Vec::new(alloc),
             tail: Vec::new(alloc),
+            is_small: false,
             len: 0,
             alloc,
         }
@@ -125,7 +113,14 @@ impl Parts {
         if len > MOST - self.len {
             return Err(AllocError);
         }
-        push_piece(&mut self.buffers, &mut self.tail, self.alloc, bytes)?;
+        let is_small = len < MOVED;
+        push_piece(
+            &mut self.buffers,
+            &mut self.tail,
+            bytes,
+            is_small && self.is_small,
+        )?;
+        self.is_small = is_small;
         self.len += len;
         Ok(())
     }
