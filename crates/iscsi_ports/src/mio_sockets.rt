@@ -37,6 +37,7 @@ use crate::watching::{watch, watched};
 use call_record::Record;
 use mio::net::{TcpListener, TcpStream};
 use mio::{Events, Poll};
+use reads::{HEADER, LARGE};
 use std::alloc::Global;
 use std::io;
 use std::net::{Net, SocketAddr};
@@ -70,6 +71,8 @@ pub struct MioSockets {
     ahead: Vec<Option<ReadBuffer>>,
     /// Buffers for the next reads.
     spares: Spares,
+    /// Who is within a large PDU, or had one last. After it comes another, as a rule.
+    bulk: [bool; CONNECTIONS],
     /// Those that were closed, and whose peers may still send.
     lingering: LingeringSockets,
     notes: CallNotes,
@@ -111,6 +114,7 @@ impl MioSockets {
             streams: free_places(alloc)?,
             ahead: free_places(alloc)?,
             spares: Spares::new(alloc)?,
+            bulk: [false; CONNECTIONS],
             lingering: LingeringSockets::new(alloc)?,
             notes,
         })
@@ -148,6 +152,12 @@ impl MioSockets {
         self.notes.closed(c, dropped);
         self.ahead[c] = None;
     }
+}
+
+/// Returns whether a connection is within a large PDU, or had one last, after a read with this room. `was_bulk`: whether
+/// that was so before it.
+fn is_bulk(room: usize, was_bulk: bool) -> bool {
+    room >= LARGE || room > HEADER && was_bulk
 }
 
 impl SocketCalls for MioSockets {
@@ -241,6 +251,9 @@ impl SocketCalls for MioSockets {
         buffer: &mut [u8],
     ) -> Result<usize, SocketFailure> {
         let answer = self.read_some(readiness, c, buffer);
+        if answer.is_ok() {
+            self.bulk[c] = is_bulk(buffer.len(), self.bulk[c]);
+        }
         readiness.ready_again(c, self.count_ahead(c) > 0);
         answer
     }

@@ -1,7 +1,7 @@
 //! Reads of a connection: what is ahead is handed on first, and then the system is asked.
 //!
 //! A read fills a whole buffer where it can. What the reader has no room for is handed on at the next reads,
-//! which are noted without a call.
+//! which are noted without a call. Among large PDUs a header is read alone, so that the data after it is not copied.
 
 ghost use Rattle.std.specs.Prelude.{◌≡◌, ◌<◌, ◌≤◌, ◌++◌, ◌∷◌, [], ℕ, length};
 ghost use Rattle.std.specs.Io.{WritesAtMost};
@@ -20,7 +20,10 @@ use crate::spares::give_back;
 use crate::stream_calls::{fill_from, read_from};
 
 /// From this room on a reader is given what the system has with no copy.
-const LARGE: usize = 65_536;
+pub(super) const LARGE: usize = 65_536;
+
+/// The length of a PDU's header in bytes (RFC 7143 §11.2.1): a reader has more room only within the data of a PDU.
+pub(super) const HEADER: usize = 48;
 
 impl MioSockets {
     /// Hands on what is ahead, with no call. Where nothing is, or there is no room for it, the read would wait.
@@ -119,6 +122,9 @@ impl MioSockets {
             return self.hand_on(c, buffer);
         }
         if buffer.len() >= LARGE {
+            return self.read_at_once(readiness, c, buffer);
+        }
+        if self.bulk[c] {
             return self.read_at_once(readiness, c, buffer);
         }
         match self.spares.take() {

@@ -24,3 +24,13 @@ returns-in-None-clause-readiness c =
       omega arith,
       rw (room, none, left, given-none c.read_at_once-in-None.result) c.read_at_once-in-None.ensures.readiness,
     )
+
+pub returns-then-self-c-clause-readiness : goal.returns-then-self-c-clause-readiness
+returns-then-self-c-clause-readiness c =
+    let room : nat_lt 0 (length c.read_at_once-then-self-c.new.buffer) ≡ true = search rules in
+    let none : nat_lt 0 (length (ahead_on c.args.c c.args.self.now.ahead.items)) ≡ false = search rules in
+    let left : length (ahead_on c.args.c c.read_at_once-then-self-c.new.self.ahead.items) ≡ 0 = search rules in (
+      length c.read_at_once-then-self-c.new.buffer,
+      omega arith,
+      rw (room, none, left, given-none c.read_at_once-then-self-c.result) c.read_at_once-then-self-c.ensures.readiness,
+    )
