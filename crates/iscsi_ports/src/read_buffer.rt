@@ -1,6 +1,6 @@
 //! Bytes of a connection that the system gave and that were not handed on yet.
 
-ghost use Rattle.std.specs.Prelude.{◌≡◌, [], min, length, take, drop, IfOk};
+ghost use Rattle.std.specs.Prelude.{◌≡◌, ◌≤◌, min, length, take, drop, IfOk};
 ghost use Rattle.iscsi_ports.specs.ReadBuffer.{bytes_in};
 
 use std::alloc::{AllocError, Global};
@@ -10,7 +10,31 @@ use std::marker::Model;
 /// How many bytes may be ahead of a connection: a PDU with 65,536 bytes of data and its header (RFC 7143 §11.2.1).
 pub(crate) const MOST_AHEAD: usize = 65_584;
 
-/// A buffer with bytes that are ahead. It is seen as the list of these.
+/// A buffer into which the system reads.
+#[derive(Drop)]
+pub(crate) struct WholeBuffer {
+    bytes: Vec<u8>,
+    ghost whole: { length bytes.items ≡ 65584 },
+}
+
+impl WholeBuffer {
+    /// Makes a buffer.
+    pub(crate) fn new(alloc: Global) -> Result<WholeBuffer, AllocError> {
+        Ok(WholeBuffer {
+            bytes: vec![in alloc; 0; MOST_AHEAD]?,
+        })
+    }
+
+    /// Reads once into the whole buffer. Returns how many bytes came, which are its first.
+    pub(crate) fn fill(&mut self, reader: &mut impl Read) -> io::Result<usize>
+        ensures { IfOk result (λ count. count ≤ 65584) }
+    {
+        reader.read(self.bytes.as_mut_slice())
+    }
+}
+
+/// A buffer with bytes that are ahead: the whole one into which they were read, or one of their own length. It is seen
+/// as the list of these.
 #[derive(Drop)]
 pub(crate) struct ReadBuffer {
     buffer: Vec<u8>,
@@ -29,15 +53,35 @@ impl Model for ReadBuffer {
 }
 
 impl ReadBuffer {
-    /// Makes a buffer with nothing in it.
-    pub(crate) fn new(alloc: Global) -> Result<ReadBuffer, AllocError>
-        ensures { IfOk result (λ ahead. ahead ≡ []) }
+    /// Makes the first `count` bytes of a buffer those that are ahead.
+    pub(crate) fn of(whole: WholeBuffer, count: usize) -> ReadBuffer
+        requires { count ≤ 65584 }
+        ensures count { length result ≡ count }
+    {
+        ReadBuffer {
+            buffer: whole.bytes,
+            from: 0,
+            to: count,
+        }
+    }
+
+    /// Makes a buffer of their own length for bytes that are ahead.
+    pub(crate) fn copied(alloc: Global, bytes: &[u8]) -> Result<ReadBuffer, AllocError>
+        ensures { IfOk result (λ ahead. ahead ≡ bytes.now) }
     {
         Ok(ReadBuffer {
-            buffer: vec![in alloc; 0; MOST_AHEAD]?,
+            buffer: Vec::from_slice(alloc, bytes)?,
             from: 0,
-            to: 0,
+            to: bytes.len(),
         })
+    }
+
+    /// Returns the buffer for a later read, if it is a whole one.
+    pub(crate) fn into_whole(self) -> Option<WholeBuffer> {
+        if self.buffer.len() != MOST_AHEAD {
+            return None;
+        }
+        Some(WholeBuffer { bytes: self.buffer })
     }
 
     /// Returns what is ahead.
@@ -52,18 +96,6 @@ impl ReadBuffer {
         ensures { result ≡ length self.now }
     {
         self.to - self.from
-    }
-
-    /// Reads once into the whole buffer, in the place of what was ahead. Returns how many bytes
-    /// came.
-    pub(crate) fn fill(&mut self, reader: &mut impl Read) -> io::Result<usize>
-        ensures { IfOk result (λ count. count ≡ length self.new) }
-    {
-        self.from = 0;
-        self.to = 0;
-        let count = reader.read(self.buffer.as_mut_slice())?;
-        self.to = count;
-        Ok(count)
     }
 
     /// Hands on as many bytes as the buffer of the reader has room for.

@@ -9,7 +9,7 @@ ghost use Rattle.iscsi_ports.specs.ReadBuffer.{bytes_in};
 ghost use Rattle.iscsi_ports.specs.Spares as spares;
 
 use crate::asking::shortly;
-use crate::read_buffer::{ReadBuffer, count_ahead};
+use crate::read_buffer::{ReadBuffer, WholeBuffer, count_ahead};
 use std::alloc::{AllocError, Global};
 use std::time::Duration;
 
@@ -19,10 +19,13 @@ const MOST_KEPT: usize = 16;
 /// The number of reads after which those buffers are dropped that none of these reads needed.
 const PERIOD: u32 = 1_024;
 
+/// The most bytes ahead that are moved to a buffer of their own length.
+const FEW: usize = 4_096;
+
 /// As many buffers as reads needed at once of late, and 16 at most.
 #[derive(Drop)]
 pub(crate) struct Spares {
-    buffers: Vec<ReadBuffer>,
+    buffers: Vec<WholeBuffer>,
     /// The number that is kept: one more each time that none was left.
     wanted: usize,
     /// The least number that was left in this period.
@@ -67,7 +70,7 @@ impl Spares {
     }
 
     /// Returns a buffer to read into: one that is kept, or a new one. None if an allocation fails.
-    pub(crate) fn take(&mut self) -> Option<ReadBuffer>
+    pub(crate) fn take(&mut self) -> Option<WholeBuffer>
         ensures { self.old.buffers.items ≢ [] → IsSome result }
     {
         let kept = self.buffers.pop();
@@ -78,15 +81,44 @@ impl Spares {
         self.count_read();
         match kept {
             Some(buffer) => Some(buffer),
-            None => ReadBuffer::new(self.alloc).ok(),
+            None => WholeBuffer::new(self.alloc).ok(),
         }
     }
 
     /// Keeps a buffer for a later read, if it is wanted.
-    pub(crate) fn keep(&mut self, buffer: ReadBuffer) {
+    pub(crate) fn keep(&mut self, buffer: WholeBuffer) {
         let count = self.buffers.len();
         if count < self.wanted && count < self.buffers.capacity() {
             self.buffers.push_reserved(buffer);
+        }
+    }
+
+    /// Keeps the buffer of what was ahead for a later read, if it is a whole one.
+    fn keep_whole(&mut self, buffer: ReadBuffer) {
+        if let Some(whole) = buffer.into_whole() {
+            self.keep(whole);
+        }
+    }
+
+    /// Returns what is ahead in a buffer that fits: few bytes in one of their own length, so that the whole one is kept
+    /// for the next read.
+    pub(crate) fn fit(&mut self, ahead: ReadBuffer) -> Option<ReadBuffer>
+        ensures { bytes_in result ≡ ahead }
+    {
+        let count = ahead.len();
+        if count > FEW {
+            return Some(ahead);
+        }
+        if count == 0 {
+            self.keep_whole(ahead);
+            return None;
+        }
+        match ReadBuffer::copied(self.alloc, ahead.as_slice()) {
+            Ok(short) => {
+                self.keep_whole(ahead);
+                Some(short)
+            }
+            Err(AllocError) => Some(ahead),
         }
     }
 
@@ -121,7 +153,7 @@ pub(crate) fn give_back(place: &mut Option<ReadBuffer>, spares: &mut Spares)
 {
     if count_ahead(place) == 0 {
         if let Some(empty) = place.take() {
-            spares.keep(empty);
+            spares.keep_whole(empty);
         }
     }
 }

@@ -1,9 +1,9 @@
 //! The reads and writes of a connection, if it is there.
 
-ghost use Rattle.std.specs.Prelude.{◌≡◌, length, IfOk};
+ghost use Rattle.std.specs.Prelude.{◌≤◌, IfOk};
 ghost use Rattle.std.specs.Io.{WritesAtMost};
 
-use crate::read_buffer::ReadBuffer;
+use crate::read_buffer::WholeBuffer;
 use crate::socket_failure::{SocketFailure, socket_failure};
 use mio::net::TcpStream;
 use std::io::{Read, Write};
@@ -12,12 +12,12 @@ use std::io::{Read, Write};
 pub(crate) fn fill_from(
     streams: &mut [Option<TcpStream>],
     c: usize,
-    ahead: &mut ReadBuffer,
+    whole: &mut WholeBuffer,
 ) -> Result<usize, SocketFailure>
-    ensures { IfOk result (λ count. count ≡ length ahead.new) }
+    ensures { IfOk result (λ count. count ≤ 65584) }
 {
     match streams.get_mut(c) {
-        Some(Some(stream)) => match ahead.fill(stream) {
+        Some(Some(stream)) => match whole.fill(stream) {
             Ok(count) => Ok(count),
             Err(error) => Err(socket_failure(&error)),
         },

@@ -12,7 +12,7 @@ ghost use Rattle.iscsi_ports.specs.ReadBuffer.{ahead_on};
 ghost use Rattle.iscsi_ports.specs.Readiness.{after_taking, given_in_all, read_by};
 
 use super::MioSockets;
-use crate::read_buffer::{MOST_AHEAD, ReadBuffer, hand_from};
+use crate::read_buffer::{MOST_AHEAD, ReadBuffer, WholeBuffer, hand_from};
 use crate::readiness::Readiness;
 use crate::socket_calls::SocketCalls;
 use crate::socket_failure::SocketFailure;
@@ -74,7 +74,7 @@ impl MioSockets {
     fn read_ahead(
         &mut self,
         readiness: &mut Readiness,
-        mut ahead: ReadBuffer,
+        mut whole: WholeBuffer,
         c: usize,
         buffer: &mut [u8],
     ) -> Result<usize, SocketFailure>
@@ -88,19 +88,23 @@ impl MioSockets {
         ensures readiness { readiness.new
             ≡ after_taking c (given_in_all result (length (ahead_on c self.new.ahead.items))) 65584 readiness.old }
     {
-        let answer = fill_from(self.streams.as_mut_slice(), c, &mut ahead);
+        let answer = fill_from(self.streams.as_mut_slice(), c, &mut whole);
         readiness.took(c, answer, MOST_AHEAD);
-        if let Err(failure) = answer {
-            self.notes.read_failed(c, buffer.len(), failure);
-            self.spares.keep(ahead);
-            return Err(failure);
-        }
+        let count = match answer {
+            Ok(count) => count,
+            Err(failure) => {
+                self.notes.read_failed(c, buffer.len(), failure);
+                self.spares.keep(whole);
+                return Err(failure);
+            }
+        };
+        let mut ahead = ReadBuffer::of(whole, count);
         self.notes.read(c, buffer.len(), ahead.as_slice());
-        let count = ahead.hand(buffer);
+        let handed = ahead.hand(buffer);
+        let left = self.spares.fit(ahead);
         let place = &mut self.ahead[c];
-        *place = Some(ahead);
-        give_back(place, &mut self.spares);
-        Ok(count)
+        *place = left;
+        Ok(handed)
     }
 
     /// Hands on what is ahead, or reads of the system, where there is room.
@@ -128,7 +132,7 @@ impl MioSockets {
             return self.read_at_once(readiness, c, buffer);
         }
         match self.spares.take() {
-            Some(ahead) => self.read_ahead(readiness, ahead, c, buffer),
+            Some(whole) => self.read_ahead(readiness, whole, c, buffer),
             None => self.read_at_once(readiness, c, buffer),
         }
     }

@@ -9,12 +9,12 @@ invariant_of-self-2-clause-accounted c =
     let sockets = c.args.self.now in
     let lt : c.args.c < length sockets.ahead.items = omega (arith, sockets.ahead_places) in
     let bytes = c.as_slice.result.now in
-    let count : c.hand-count.result ≡ min (length c.args.buffer.now) (length bytes) = omega (arith, ap length c.as_slice.ensures) in
-    let rest : bytes_in c.give_back.new.place ≡ drop c.hand-count.result bytes =
-    c.give_back.ensures ∙ c.hand-count.ensures.rest ∙ ap (drop c.hand-count.result) (sym c.as_slice.ensures) in
+    let count : c.hand-handed.result ≡ min (length c.args.buffer.now) (length bytes) = omega (arith, ap length c.as_slice.ensures) in
+    let rest : bytes_in c.fit-left.result ≡ drop c.hand-handed.result bytes =
+    c.fit-left.ensures ∙ c.hand-handed.ensures.rest ∙ ap (drop c.hand-handed.result) (sym c.as_slice.ensures) in
     rw c.read.ensures
-    (accounted_reading sockets.notes sockets.ahead.items c.give_back.new.place c.args.c _ c.hand-count.result bytes sockets.accounted
+    (accounted_reading sockets.notes sockets.ahead.items c.fit-left.result c.args.c _ c.hand-handed.result bytes sockets.accounted
     lt c.requires.nothing_ahead count rest)
 
 pub invariant_of-self-2-clause-ahead_places : goal.invariant_of-self-2-clause-ahead_places
-invariant_of-self-2-clause-ahead_places c = length-set c.args.self.now.ahead.items c.args.c c.give_back.new.place ∙ c.args.self.now.ahead_places
+invariant_of-self-2-clause-ahead_places c = length-set c.args.self.now.ahead.items c.args.c c.fit-left.result ∙ c.args.self.now.ahead_places
