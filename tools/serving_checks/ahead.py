@@ -195,6 +195,28 @@ def answers_commands_in_pieces_of_any_length():
         assert are_good(got) == 3000
 
 
+def answers_commands_behind_large_pdus_that_are_cut_anywhere():
+    # Among large PDUs a header is read alone, and then what is behind it.
+    chance = random.Random(9)
+    content = chance.randbytes(AHEAD)
+    edges = [edge + beside for edge in (pdu.HEADER, pdu.HEADER + AHEAD, 2 * pdu.HEADER + AHEAD) for beside in (-1, 0, 1)]
+    number = 125
+    with serving(units=BIG_UNITS) as (_, address), connect(address) as client:
+        assert is_answered(client, 1, 0)
+        client.setsockopt(socket.IPPROTO_TCP, socket.TCP_NODELAY, 1)
+        for _ in range(150):
+            few = chance.randrange(5)
+            whole = write_10(number, 0, content) + commands(few, number + 1)
+            cuts = [0, *sorted([chance.choice(edges), chance.randrange(len(whole))]), len(whole)]
+            for start, end in zip(cuts, cuts[1:]):
+                client.sendall(whole[start:end])
+                time.sleep(chance.choice([0, 0.001]))
+            assert are_good(read(client, pdu.HEADER * (few + 1)), number) == few + 1, cuts
+            number += few + 1
+        client.sendall(read_10(number, 0, AHEAD // 512))
+        assert answer_of(client) == (content, 0, b"")
+
+
 def two_that_send_at_once(address, process, counts):
     """Two clients that are logged in. What they send, so many commands each, is there before the program goes on."""
     clients = held_clients(address, 2)
@@ -233,6 +255,7 @@ CHECKS = [
     serves_a_slow_client_beside_63_floods,
     goes_on_for_the_others_while_one_does_not_read,
     answers_commands_in_pieces_of_any_length,
+    answers_commands_behind_large_pdus_that_are_cut_anywhere,
     answers_another_while_one_is_busy,
     serves_two_that_are_busy_side_by_side,
 ]
