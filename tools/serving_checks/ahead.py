@@ -195,8 +195,8 @@ def answers_commands_in_pieces_of_any_length():
         assert are_good(got) == 3000
 
 
-def answers_commands_behind_large_pdus_that_are_cut_anywhere():
-    # Among large PDUs a header is read alone, and then what is behind it.
+def answers_commands_after_large_pdus_that_are_cut_anywhere():
+    # After a large PDU the next header is read alone, and then all that has come.
     chance = random.Random(9)
     content = chance.randbytes(AHEAD)
     edges = [edge + beside for edge in (pdu.HEADER, pdu.HEADER + AHEAD, 2 * pdu.HEADER + AHEAD) for beside in (-1, 0, 1)]
@@ -255,7 +255,7 @@ CHECKS = [
     serves_a_slow_client_beside_63_floods,
     goes_on_for_the_others_while_one_does_not_read,
     answers_commands_in_pieces_of_any_length,
-    answers_commands_behind_large_pdus_that_are_cut_anywhere,
+    answers_commands_after_large_pdus_that_are_cut_anywhere,
     answers_another_while_one_is_busy,
     serves_two_that_are_busy_side_by_side,
 ]

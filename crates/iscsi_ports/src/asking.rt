@@ -20,7 +20,7 @@ pub(crate) const MOST_UNASKED: u32 = 63;
 const MOST_CARRIED: usize = 262_144;
 
 /// The bytes of a header (RFC 7143 §11.2.1).
-const HEADER: usize = 48;
+pub(crate) const HEADER: usize = 48;
 
 /// A write of fewer bytes may be put off.
 const MOST_PUT_OFF: usize = 262_144;

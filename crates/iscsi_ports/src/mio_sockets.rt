@@ -21,6 +21,7 @@ ghost use Rattle.std.specs.List.{list_all};
 mod peers;
 mod reads;
 
+use crate::asking::HEADER;
 use crate::bind_fault::{BindFault, bind_fault};
 use crate::call_notes::CallNotes;
 use crate::events::name_ready;
@@ -37,7 +38,7 @@ use crate::watching::{watch, watched};
 use call_record::Record;
 use mio::net::{TcpListener, TcpStream};
 use mio::{Events, Poll};
-use reads::{HEADER, LARGE};
+use reads::LARGE;
 use std::alloc::Global;
 use std::io;
 use std::net::{Net, SocketAddr};
@@ -71,7 +72,8 @@ pub struct MioSockets {
     ahead: Vec<Option<ReadBuffer>>,
     /// Buffers for the next reads.
     spares: Spares,
-    /// Who is within a large PDU, or had one last. After it comes another, as a rule.
+    /// Who is within a large PDU, or had one last: after it comes another, as a rule. A wrong guess costs a call or a copy,
+    /// and so a connection begins with that of the one before it under its number.
     bulk: [bool; CONNECTIONS],
     /// Those that were closed, and whose peers may still send.
     lingering: LingeringSockets,
@@ -154,8 +156,8 @@ impl MioSockets {
     }
 }
 
-/// Returns whether a connection is within a large PDU, or had one last, after a read with this room. `was_bulk`: whether
-/// that was so before it.
+/// Returns whether a connection is within a large PDU, or had one last, after a read with this room: more than for a
+/// header there is only within data. `was_bulk`: whether that was so before it.
 fn is_bulk(room: usize, was_bulk: bool) -> bool {
     room >= LARGE || room > HEADER && was_bulk
 }

@@ -56,6 +56,7 @@ impl ReadBuffer {
     /// Makes the first `count` bytes of a buffer those that are ahead.
     pub(crate) fn of(whole: WholeBuffer, count: usize) -> ReadBuffer
         requires { count ≤ 65584 }
+        ensures bytes { result ≡ take count whole.bytes.items }
         ensures count { length result ≡ count }
     {
         ReadBuffer {

@@ -22,9 +22,6 @@ use crate::stream_calls::{fill_from, read_from};
 /// From this room on a reader is given what the system has with no copy.
 pub(super) const LARGE: usize = 65_536;
 
-/// The length of a PDU's header in bytes (RFC 7143 §11.2.1): a reader has more room only within the data of a PDU.
-pub(super) const HEADER: usize = 48;
-
 impl MioSockets {
     /// Hands on what is ahead, with no call. Where nothing is, or there is no room for it, the read would wait.
     fn hand_on(&mut self, c: usize, buffer: &mut [u8]) -> Result<usize, SocketFailure>
