@@ -1,7 +1,7 @@
 //! What the program is called to do.
 
 /// What the program is called to do.
-#[derive(Clone, Copy, Debug, PartialEq, Eq)]
+#[derive(Clone, Copy)]
 pub enum Mode<'a> {
     /// Make the target of a configuration file, and carry out the events on standard input.
     Replay { config: &'a str },

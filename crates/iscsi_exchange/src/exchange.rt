@@ -20,7 +20,7 @@ const LONGEST_TEXT: usize = 65536;
 
 /// The state of an exchange of texts (RFC 7143 §11.10). It has the text so far that is to be continued, and the rest of
 /// an answer that is still to be sent. A session has one exchange at a time.
-#[derive(Debug, Drop)]
+#[derive(Drop)]
 pub struct Exchange {
     alloc: Global,
     is_open: bool,

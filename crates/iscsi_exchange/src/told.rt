@@ -5,7 +5,7 @@ use iscsi_pdu::TextStep;
 use std::marker::Model;
 
 /// The text of an answer, or a piece of it, and how the exchange continues.
-#[derive(Debug, Drop)]
+#[derive(Drop)]
 pub struct Piece {
     pub step: TextStep,
     pub text: Vec<u8>,
@@ -20,7 +20,7 @@ impl Model for Piece {
 }
 
 /// The exchange after a request, and its answer.
-#[derive(Debug, Drop)]
+#[derive(Drop)]
 pub struct Told {
     pub exchange: Exchange,
     /// `None` if the request is rejected.

@@ -6,7 +6,7 @@ use std::alloc::AllocError;
 use std::marker::Model;
 
 /// Targets by name, and the address of their portal.
-#[derive(Debug, Drop)]
+#[derive(Drop)]
 pub struct Directory {
     /// The name of each target, in order (RFC 7143 §4.2.7).
     pub targets: Vec<String>,

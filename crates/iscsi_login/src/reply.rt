@@ -4,7 +4,7 @@ use crate::session_params::SessionParams;
 use iscsi_pdu::LoginResponse;
 
 /// The reply to a Login request.
-#[derive(Debug, Drop)]
+#[derive(Drop)]
 pub enum Reply {
     /// The login goes on with another request.
     GoOn(LoginResponse),

@@ -8,7 +8,7 @@ use scsi_sense::Nexus;
 
 /// The nexus of the session that is asked for, its target by position among the targets, and the targets that it may
 /// learn of. A discovery session has no target.
-#[derive(Debug, Drop)]
+#[derive(Drop)]
 pub struct RequestedSession {
     pub nexus: Nexus,
     pub target: Option<usize>,

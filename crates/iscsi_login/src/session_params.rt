@@ -8,7 +8,7 @@ use scsi_sense::Nexus;
 use std::alloc::AllocError;
 
 /// The result of a login: the nexus of the session, its target, and the values in force.
-#[derive(Debug, Drop)]
+#[derive(Drop)]
 pub struct SessionParams {
     pub nexus: Nexus,
     /// The target, by its position among the targets. A discovery session has none.

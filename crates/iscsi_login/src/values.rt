@@ -10,7 +10,7 @@ use crate::number::number_in;
 /// The values of the keys that a session uses, lengths in bytes and times in seconds. Keys that cannot differ are not
 /// here: HeaderDigest, DataDigest and AuthMethod are None, MaxConnections is 1, DataPDUInOrder and
 /// DataSequenceInOrder are Yes, ErrorRecoveryLevel is 0.
-#[derive(Clone, Copy, Debug, PartialEq, Eq)]
+#[derive(Clone, Copy)]
 pub struct Values {
     /// InitialR2T (RFC 7143 §13.10)
     pub initial_r2t: bool,

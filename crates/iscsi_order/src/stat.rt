@@ -7,7 +7,7 @@ use std::marker::Model;
 
 /// The StatSN of a connection (RFC 7143 §4.2.2.2). It counts the answers that bear status. Clauses see it as the number
 /// that [`Stat::now`] returns.
-#[derive(Debug, Drop)]
+#[derive(Drop)]
 pub struct Stat {
     next: u32,
 }

@@ -12,7 +12,7 @@ use std::marker::Model;
 const WINDOW: usize = 32;
 
 /// What becomes of a numbered request.
-#[derive(Clone, Copy, Debug, PartialEq, Eq)]
+#[derive(Clone, Copy)]
 pub enum Arrival {
     /// It is taken in its turn.
     New,
@@ -21,7 +21,7 @@ pub enum Arrival {
 }
 
 /// The two numbers of the window that an answer carries (RFC 7143 §4.2.2.1).
-#[derive(Clone, Copy, Debug, PartialEq, Eq)]
+#[derive(Clone, Copy)]
 pub struct CommandNumbers {
     /// ExpCmdSN: the number after all that are taken.
     pub exp_cmd_sn: u32,
@@ -32,7 +32,7 @@ pub struct CommandNumbers {
 /// The numbers of a session's requests (RFC 7143 §4.2.2.1). Those that came ahead of a missing one are held until it
 /// comes. At most 32 requests are unfinished. Each number that has come is held with a key that the caller chooses.
 /// Clauses see a window as what it remembers of all that came and was finished.
-#[derive(Debug, Drop)]
+#[derive(Drop)]
 pub struct Window {
     /// The next number to hand over.
     next: u32,

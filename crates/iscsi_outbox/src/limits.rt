@@ -8,7 +8,7 @@ use iscsi_login::Values;
 
 /// The multiples at which a command's data is cut (RFC 7143 §13.12, §13.13). Both are multiples of 4, so that no piece
 /// but the last has padding.
-#[derive(Clone, Copy, Debug, PartialEq, Eq)]
+#[derive(Clone, Copy)]
 pub struct Limits {
     /// MaxBurstLength.
     pub burst: usize,

@@ -17,7 +17,7 @@ use crate::text_response::TextResponse;
 use bytes::BytesMut;
 
 /// A PDU that the target sends.
-#[derive(Debug, Drop)]
+#[derive(Drop)]
 pub enum Answer<'a> {
     /// 20h NOP-In
     NopIn(NopIn<'a>),

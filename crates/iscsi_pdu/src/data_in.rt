@@ -20,7 +20,7 @@ const NO_TRANSFER_TAG: u32 = 0xffff_ffff;
 
 /// A piece of the data that a command returns (RFC 7143 §11.7). It carries no status, so its StatSN is 0, and it asks
 /// for no acknowledgement.
-#[derive(Debug, Drop)]
+#[derive(Drop)]
 pub struct DataIn<'a> {
     /// F: this piece is the last of its burst.
     pub is_final: bool,

@@ -5,7 +5,7 @@ use std::marker::Model;
 
 /// A whole PDU without its additional header segments and its padding. Clauses see it as the bytes of its header and
 /// those of its data segment.
-#[derive(Debug, Drop)]
+#[derive(Drop)]
 pub struct Frame {
     /// The 48 header bytes.
     pub header: Header,

@@ -21,7 +21,7 @@ const OPCODE: u8 = 0x3F;
 const DATA_OUT: u8 = 0x05;
 
 /// The opcode of an initiator's PDU: the request that it makes (RFC 7143 §11.2.1.2).
-#[derive(Clone, Copy, Debug, PartialEq, Eq)]
+#[derive(Clone, Copy, PartialEq, Eq)]
 pub enum Opcode {
     /// 00h NOP-Out
     NopOut,
@@ -45,7 +45,7 @@ pub enum Opcode {
 
 /// The 48 header bytes of a PDU. Each method returns a field as the bytes have it. Whether a field has a meaning
 /// depends on the opcode.
-#[derive(Clone, Copy, Debug, PartialEq, Eq)]
+#[derive(Clone, Copy)]
 pub struct Header {
     pub(crate) bytes: [u8; HEADER_LENGTH],
 }

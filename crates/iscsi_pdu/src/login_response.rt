@@ -14,7 +14,7 @@ use std::marker::Model;
 const OPCODE: u8 = 0x23;
 
 /// The answer to a Login Request. Both versions are 0.
-#[derive(Debug, Drop)]
+#[derive(Drop)]
 pub struct LoginResponse {
     /// ISID of the request.
     pub isid: [u8; 6],
@@ -27,7 +27,7 @@ pub struct LoginResponse {
 }
 
 /// Whether the login goes on.
-#[derive(Debug, Drop)]
+#[derive(Drop)]
 pub enum LoginReply {
     /// No stage and no text is sent. The connection ends.
     Refused(LoginRefusal),
@@ -35,7 +35,7 @@ pub enum LoginReply {
 }
 
 /// The reason why a login is refused: status class and detail of RFC 7143 §11.13.5.
-#[derive(Clone, Copy, Debug, PartialEq, Eq)]
+#[derive(Clone, Copy)]
 pub enum LoginRefusal {
     /// 0200h
     InitiatorError = 0x0200,
@@ -52,7 +52,7 @@ pub enum LoginRefusal {
 }
 
 /// The login goes on: status 0000h.
-#[derive(Debug, Drop)]
+#[derive(Drop)]
 pub struct LoginAccepted {
     /// CSG, the stage that the login is in.
     pub stage: Stage,
@@ -62,7 +62,7 @@ pub struct LoginAccepted {
 }
 
 /// The step of the login from its stage.
-#[derive(Clone, Copy, Debug, PartialEq, Eq)]
+#[derive(Clone, Copy)]
 pub enum LoginStep {
     /// C: the text continues in the next response.
     Continued,

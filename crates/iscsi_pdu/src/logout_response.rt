@@ -15,7 +15,7 @@ const OPCODE: u8 = 0x26;
 const FINAL: u8 = 0x80;
 
 /// The result of a logout (RFC 7143 §11.15.1).
-#[derive(Clone, Copy, Debug, PartialEq, Eq)]
+#[derive(Clone, Copy)]
 pub enum LogoutResult {
     /// 0: the connection or the session is closed.
     Closed = 0,
@@ -26,7 +26,7 @@ pub enum LogoutResult {
 }
 
 /// The answer to a Logout Request (RFC 7143 §11.15). Time2Wait and Time2Retain are 0.
-#[derive(Clone, Copy, Debug, PartialEq, Eq)]
+#[derive(Clone, Copy)]
 pub struct LogoutResponse {
     /// The Initiator Task Tag of the request.
     pub initiator_task_tag: u32,

@@ -20,7 +20,7 @@ const FINAL: u8 = 0x80;
 const NO_TRANSFER_TAG: u32 = 0xffff_ffff;
 
 /// The answer to a NOP-Out (RFC 7143 §11.19). It asks for no answer, so its LUN is 0.
-#[derive(Debug, Drop)]
+#[derive(Drop)]
 pub struct NopIn<'a> {
     /// The Initiator Task Tag of the NOP-Out.
     pub initiator_task_tag: u32,

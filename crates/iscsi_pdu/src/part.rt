@@ -4,7 +4,7 @@ use crate::frame::Frame;
 use crate::header::Header;
 
 /// What the next bytes of a piece bring, if the data of a Data-Out is lent while its PDU arrives.
-#[derive(Debug, Drop)]
+#[derive(Drop)]
 pub enum Part<'p> {
     /// All bytes of the piece are used, and no PDU is whole.
     Nothing,

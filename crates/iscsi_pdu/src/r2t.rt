@@ -15,7 +15,7 @@ const OPCODE: u8 = 0x31;
 const FINAL: u8 = 0x80;
 
 /// Ready To Transfer: the target asks for a part of a command's data (RFC 7143 §11.8).
-#[derive(Clone, Copy, Debug, PartialEq, Eq)]
+#[derive(Clone, Copy)]
 pub struct R2t {
     /// The LUN field of the command.
     pub lun: [u8; 8],

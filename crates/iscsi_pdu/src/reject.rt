@@ -19,7 +19,7 @@ const FINAL: u8 = 0x80;
 const NO_TASK_TAG: u32 = 0xffff_ffff;
 
 /// The reason why a PDU is refused (RFC 7143 §11.17.1).
-#[derive(Clone, Copy, Debug, PartialEq, Eq)]
+#[derive(Clone, Copy)]
 pub enum RejectReason {
     /// 03h: SNACK is not supported.
     Snack = 0x03,
@@ -32,7 +32,7 @@ pub enum RejectReason {
 }
 
 /// The refusal of a PDU (RFC 7143 §11.17).
-#[derive(Clone, Copy, Debug, PartialEq, Eq)]
+#[derive(Clone, Copy)]
 pub struct Reject {
     pub reason: RejectReason,
     pub stamp: Stamp,

@@ -23,7 +23,7 @@ const SENSE_LENGTH: usize = 18;
 const SENSE_SEGMENT_LENGTH: usize = 2 + SENSE_LENGTH;
 
 /// The difference between the data moved and the data that the initiator expected, in bytes (RFC 7143 §11.4.5).
-#[derive(Clone, Copy, Debug, PartialEq, Eq)]
+#[derive(Clone, Copy)]
 pub enum Residual {
     /// No difference.
     None,
@@ -34,7 +34,7 @@ pub enum Residual {
 }
 
 /// The end of a SCSI command (RFC 7143 §11.4). The response is 00h, command completed at target.
-#[derive(Clone, Copy, Debug, PartialEq, Eq)]
+#[derive(Clone, Copy)]
 pub struct ScsiResponse {
     /// The Initiator Task Tag of the command.
     pub initiator_task_tag: u32,

@@ -3,7 +3,7 @@
 ghost use Rattle.std.specs.Prelude.{◌≡◌};
 
 /// A stage of the login phase, or the full feature phase after it (RFC 7143 §6.3 and §11.12.3).
-#[derive(Clone, Copy, Debug, PartialEq, Eq)]
+#[derive(Clone, Copy)]
 pub enum Stage {
     /// 0
     SecurityNegotiation = 0,

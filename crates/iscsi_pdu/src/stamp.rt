@@ -6,7 +6,7 @@ use byteorder::{BigEndian, ByteOrder};
 
 /// The sequence numbers of an answer, bytes 24 to 35 of its header (RFC 7143 §4.2.2.1 and
 /// §4.2.2.2).
-#[derive(Clone, Copy, Debug, PartialEq, Eq)]
+#[derive(Clone, Copy)]
 pub struct Stamp {
     /// StatSN, the number of this answer.
     pub stat_sn: u32,

@@ -9,7 +9,7 @@ use byteorder::{BigEndian, ByteOrder};
 const FUNCTION: u8 = 0x7F;
 
 /// The function that a Task Management Function Request asks for (RFC 7143 §11.5.1).
-#[derive(Clone, Copy, Debug, PartialEq, Eq)]
+#[derive(Clone, Copy)]
 pub enum TaskFunction {
     /// 1 ABORT TASK: the task with the Referenced Task Tag.
     AbortTask,

@@ -15,7 +15,7 @@ const OPCODE: u8 = 0x22;
 const FINAL: u8 = 0x80;
 
 /// The result of a task management function (RFC 7143 §11.6.1).
-#[derive(Clone, Copy, Debug, PartialEq, Eq)]
+#[derive(Clone, Copy)]
 pub enum TaskResult {
     /// 0: the function is complete.
     Complete = 0,
@@ -30,7 +30,7 @@ pub enum TaskResult {
 }
 
 /// The answer to a Task Management Function Request (RFC 7143 §11.6).
-#[derive(Clone, Copy, Debug, PartialEq, Eq)]
+#[derive(Clone, Copy)]
 pub struct TaskManagementResponse {
     /// The Initiator Task Tag of the request.
     pub initiator_task_tag: u32,

@@ -26,7 +26,7 @@ pub const EXCHANGE_TAG: u32 = 0xffff_fffe;
 pub const NO_EXCHANGE_TAG: u32 = 0xffff_ffff;
 
 /// Whether the exchange of texts goes on after an answer (RFC 7143 §11.11.1, §11.11.2).
-#[derive(Clone, Copy, Debug, PartialEq, Eq)]
+#[derive(Clone, Copy)]
 pub enum TextStep {
     /// C: the answer's text continues in the next answer, which the initiator asks for by an empty request.
     Continued,
@@ -37,7 +37,7 @@ pub enum TextStep {
 }
 
 /// The answer to a Text Request (RFC 7143 §11.11). Its LUN is 0.
-#[derive(Debug, Drop)]
+#[derive(Drop)]
 pub struct TextResponse<'a> {
     /// The Initiator Task Tag of the request.
     pub initiator_task_tag: u32,

@@ -3,7 +3,7 @@
 use crate::results::Named;
 
 /// What a read gave or a write took.
-#[derive(Debug, Drop)]
+#[derive(Drop)]
 pub enum Carried {
     /// These bytes: none where the call would have waited.
     Bytes(Vec<u8>),
@@ -14,7 +14,7 @@ pub enum Carried {
 }
 
 /// A call of the ports, and what it told.
-#[derive(Debug, Drop)]
+#[derive(Drop)]
 pub enum Entry {
     /// A poll, and whom it named. `None`: it failed.
     Polled(Option<Named>),

@@ -16,7 +16,7 @@ use std::collections::VecDeque;
 use target_limits::CONNECTIONS;
 
 /// A listener with connections that follow scripts, and the log of what they told.
-#[derive(Debug, Drop)]
+#[derive(Drop)]
 pub struct MemPorts {
     alloc: Global,
     /// Those that have not been accepted yet, the next one first.

@@ -19,7 +19,7 @@ use crate::turns::Turns;
 use target_limits::CONNECTIONS;
 
 /// What the system told in an event of a connection.
-#[derive(Clone, Copy, Debug)]
+#[derive(Clone, Copy)]
 pub(crate) struct ReadyEvent {
     pub(crate) is_readable: bool,
     pub(crate) is_writable: bool,
@@ -30,7 +30,7 @@ pub(crate) struct ReadyEvent {
 }
 
 /// The ports that may be ready.
-#[derive(Clone, Copy, Debug)]
+#[derive(Clone, Copy)]
 pub struct Readiness {
     /// Those whom the last poll named.
     pub named: Named,

@@ -3,14 +3,14 @@
 use target_limits::CONNECTIONS;
 
 /// Whom a poll names: those that may have something to accept, to read, or room to write.
-#[derive(Clone, Copy, Debug)]
+#[derive(Clone, Copy)]
 pub struct Named {
     pub listener: bool,
     pub connections: [bool; CONNECTIONS],
 }
 
 /// What a read or a write told.
-#[derive(Clone, Copy, Debug, PartialEq, Eq)]
+#[derive(Clone, Copy)]
 pub enum IoResult {
     /// The number of bytes that were read or written: none if the call would have waited.
     Bytes(usize),
@@ -21,7 +21,7 @@ pub enum IoResult {
 }
 
 /// What an accept met.
-#[derive(Clone, Copy, Debug, PartialEq, Eq)]
+#[derive(Clone, Copy)]
 pub enum Accepted {
     Connection,
     /// None waits, or it was aborted before.
@@ -29,5 +29,5 @@ pub enum Accepted {
 }
 
 /// The call failed.
-#[derive(Clone, Copy, Debug, PartialEq, Eq)]
+#[derive(Clone, Copy)]
 pub struct PortFault;

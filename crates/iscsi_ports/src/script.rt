@@ -8,7 +8,7 @@ ghost use Rattle.iscsi_ports.specs.Script.{most_moved, told_at, IsBehind, read_t
 use crate::results::IoResult;
 
 /// What a read or a write tells.
-#[derive(Clone, Copy, Debug, PartialEq, Eq)]
+#[derive(Clone, Copy)]
 pub enum Step {
     /// The most bytes that it moves: 0 if the call would wait.
     Moves(usize),
@@ -17,7 +17,7 @@ pub enum Step {
 }
 
 /// How the reads of a connection go, one after the other, or its writes.
-#[derive(Clone, Copy, Debug, PartialEq, Eq)]
+#[derive(Clone, Copy)]
 pub struct Course {
     /// How many move all that they can.
     pub first: u64,
@@ -27,7 +27,7 @@ pub struct Course {
 }
 
 /// What a connection brings, and how its calls go.
-#[derive(Debug, Drop)]
+#[derive(Drop)]
 pub struct Script {
     /// The bytes that come on it.
     pub input: Vec<u8>,

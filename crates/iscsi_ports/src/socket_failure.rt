@@ -16,7 +16,7 @@ const EINVAL: i32 = 22;
 const ENOTSOCK: i32 = 88;
 
 /// Why a call of a socket did nothing.
-#[derive(Clone, Copy, Debug, PartialEq, Eq)]
+#[derive(Clone, Copy, PartialEq, Eq)]
 pub enum SocketFailure {
     /// It would have waited.
     WouldWait = 1,

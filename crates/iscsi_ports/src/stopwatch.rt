@@ -13,7 +13,7 @@ const CLOCK_MONOTONIC_COARSE: i32 = 6;
 const SHORT: u64 = 1_000;
 
 /// Tells whether a millisecond has passed since it was started, at the next tick of the clock.
-#[derive(Clone, Copy, Debug)]
+#[derive(Clone, Copy)]
 pub(crate) struct Stopwatch {
     /// When it was started, in microseconds of the clock.
     started: u64,

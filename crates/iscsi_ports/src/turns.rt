@@ -27,7 +27,7 @@ const STEP: usize = 8;
 const MOST_MORE: usize = CONNECTIONS - 1;
 
 /// Which connections are long, and which of them and of the short ones are named next.
-#[derive(Clone, Copy, Debug)]
+#[derive(Clone, Copy)]
 pub(crate) struct Turns {
     long: [bool; CONNECTIONS],
     /// The number from which on a poll looks for the next long one.
@@ -41,7 +41,7 @@ pub(crate) struct Turns {
 }
 
 /// The short connections that a poll names.
-#[derive(Clone, Copy, Debug)]
+#[derive(Clone, Copy)]
 struct Part {
     named: [bool; CONNECTIONS],
     count: usize,

@@ -1,7 +1,7 @@
 //! The configuration of a target.
 
 /// The portal's address and the targets that it serves.
-#[derive(Debug, Drop)]
+#[derive(Drop)]
 pub struct Config {
     /// The address that initiators connect to, as text.
     pub listen: String,

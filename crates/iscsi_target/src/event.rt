@@ -1,7 +1,7 @@
 //! The events of a target.
 
 /// One event. Connections are numbered from 0 to 63.
-#[derive(Debug, Drop)]
+#[derive(Drop)]
 pub enum Event {
     /// A connection opens.
     Open(usize),

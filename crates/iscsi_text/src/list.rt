@@ -10,7 +10,7 @@ use std::marker::Model;
 
 /// Keys with their values, in the order of the text. All of them are in one string; where they end takes eight more
 /// bytes for each pair. Clauses see the list of the pairs.
-#[derive(Debug, Drop)]
+#[derive(Drop)]
 pub struct Pairs {
     /// Each key, with its value after it.
     strings: StringList,

@@ -7,7 +7,7 @@ use std::alloc::{AllocError, Global};
 use std::marker::Model;
 
 /// Strings, one after the other in one text. Clauses see the list of them, as their bytes.
-#[derive(Debug, Drop)]
+#[derive(Drop)]
 pub(crate) struct StringList {
     text: String,
     /// The place in the text where each string ends.

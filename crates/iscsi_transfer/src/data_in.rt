@@ -7,7 +7,7 @@ use std::alloc::{AllocError, Global};
 
 /// The part of a command's data that one SCSI Data-In carries (RFC 7143 §11.7). Its DataSN is its place among the
 /// pieces, counted from 0 over all bursts.
-#[derive(Clone, Copy, Debug, PartialEq, Eq)]
+#[derive(Clone, Copy)]
 pub struct Piece {
     /// Where it begins in the data: the Buffer Offset.
     pub offset: usize,

@@ -23,7 +23,7 @@ pub const MOST_OPEN: usize = 4;
 pub const NO_TRANSFER_TAG: u32 = 0xffff_ffff;
 
 /// A part of a command's data for which an R2T asks (RFC 7143 §11.8).
-#[derive(Clone, Copy, Debug, PartialEq, Eq)]
+#[derive(Clone, Copy)]
 pub struct Ask {
     /// R2TSN: its place among the command's R2Ts, counted from 0.
     pub number: u32,

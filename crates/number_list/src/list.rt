@@ -9,7 +9,7 @@ use std::marker::Model;
 const SHORT_END: usize = 0x1_0000_0000;
 
 /// The numbers, stored as wide as the greatest so far needs.
-#[derive(Debug, Drop)]
+#[derive(Drop)]
 enum Numbers {
     /// Four bytes each.
     Short(Vec<u32>),
@@ -18,7 +18,6 @@ enum Numbers {
 }
 
 /// A list of numbers. Each takes four bytes as long as all are below 2^32, and eight after that. Clauses see the list.
-#[derive(Debug)]
 pub struct NumberList {
     alloc: Global,
     numbers: Numbers,

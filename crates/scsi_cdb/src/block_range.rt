@@ -16,7 +16,7 @@ pub const MOST_COMPARED: u32 = 128;
 pub const MOST_SAME: u32 = 32768;
 
 /// A number of blocks, without a limit.
-#[derive(Clone, Copy, Debug, PartialEq, Eq)]
+#[derive(Clone, Copy)]
 pub struct AnyRange {
     first: u64,
     count: u32,
@@ -59,7 +59,7 @@ impl AnyRange {
 }
 
 /// At least LEAST blocks, and at most MOST.
-#[derive(Clone, Copy, Debug, PartialEq, Eq)]
+#[derive(Clone, Copy)]
 pub struct LimitedRange<const LEAST: u32, const MOST: u32> {
     first: u64,
     count: u32,

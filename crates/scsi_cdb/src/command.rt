@@ -7,7 +7,7 @@ use crate::report_luns::ReportLunsFields;
 use crate::tape::TapeCommand;
 
 /// A command with its fields.
-#[derive(Clone, Copy, Debug, PartialEq, Eq)]
+#[derive(Clone, Copy)]
 pub enum Command {
     /// To a unit of any kind.
     Unit(UnitCommand),
@@ -18,7 +18,7 @@ pub enum Command {
 }
 
 /// A command to a unit of any kind.
-#[derive(Clone, Copy, Debug, PartialEq, Eq)]
+#[derive(Clone, Copy)]
 pub enum UnitCommand {
     /// Asks whether the unit accepts medium commands now (SPC-4 "TEST UNIT READY command").
     TestUnitReady,
@@ -44,7 +44,7 @@ pub enum UnitCommand {
 }
 
 /// A command to a disk.
-#[derive(Clone, Copy, Debug, PartialEq, Eq)]
+#[derive(Clone, Copy)]
 pub enum DiskCommand {
     /// Requests the data of blocks (SBC-3 "READ (10) command", "READ (16) command"). FUA is not kept: each read is of
     /// the medium.

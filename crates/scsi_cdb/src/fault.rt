@@ -6,7 +6,7 @@ ghost use Rattle.scsi_cdb.specs.Fault.{field_sense};
 use scsi_sense::{Condition, Sense};
 
 /// Why the fields of a command descriptor block are refused.
-#[derive(Clone, Copy, Debug, PartialEq, Eq)]
+#[derive(Clone, Copy)]
 pub enum FieldFault {
     /// A field has a value that is not accepted.
     InvalidField,

@@ -8,7 +8,7 @@ use crate::record_length::MOST_RECORD;
 use std::marker::Model;
 
 /// A number of blocks of one length, which is not 0: at most [`MOST_RECORD`] bytes in all.
-#[derive(Clone, Copy, Debug, PartialEq, Eq)]
+#[derive(Clone, Copy)]
 pub struct FixedBlocks {
     count: u32,
     block_length: u32,

@@ -1,7 +1,7 @@
 //! What MODE SENSE and MODE SELECT request.
 
 /// Which header stands before mode parameters (SPC-4 "Mode parameter header formats").
-#[derive(Clone, Copy, Debug, PartialEq, Eq)]
+#[derive(Clone, Copy)]
 pub enum ParameterHeader {
     /// The one of 4 bytes, of MODE SENSE (6) and MODE SELECT (6).
     Six,
@@ -10,7 +10,7 @@ pub enum ParameterHeader {
 }
 
 /// Which values of mode pages are requested (SPC-4 "MODE SENSE (6) command", PC). There are no saved ones.
-#[derive(Clone, Copy, Debug, PartialEq, Eq)]
+#[derive(Clone, Copy)]
 pub enum PageControl {
     /// 00b
     Current,
@@ -21,7 +21,7 @@ pub enum PageControl {
 }
 
 /// The fields of MODE SENSE (SPC-4 "MODE SENSE (6) command", "MODE SENSE (10) command").
-#[derive(Clone, Copy, Debug, PartialEq, Eq)]
+#[derive(Clone, Copy)]
 pub struct ModeSenseFields {
     pub header: ParameterHeader,
     /// Whether the block descriptor is requested too: DBD is 0.
@@ -33,7 +33,7 @@ pub struct ModeSenseFields {
 }
 
 /// The fields of MODE SELECT (SPC-4 "MODE SELECT (6) command", "MODE SELECT (10) command").
-#[derive(Clone, Copy, Debug, PartialEq, Eq)]
+#[derive(Clone, Copy)]
 pub struct ModeSelectFields {
     pub header: ParameterHeader,
     /// The number of bytes of the parameter list.

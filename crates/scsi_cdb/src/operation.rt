@@ -4,7 +4,7 @@ ghost use Rattle.std.specs.Prelude.{◌≡◌};
 ghost use Rattle.scsi_cdb.specs.Operation.{row, row_of, row_for, is_for, is_of_target, class_of};
 
 /// The kind of a logical unit (SPC-4 "Standard INQUIRY data", peripheral device type).
-#[derive(Clone, Copy, Debug, PartialEq, Eq)]
+#[derive(Clone, Copy)]
 pub enum Kind {
     /// A direct access block device (SBC-3).
     Disk,
@@ -13,7 +13,7 @@ pub enum Kind {
 }
 
 /// The operation that a code names, with no field of its command descriptor block read.
-#[derive(Clone, Copy, Debug, PartialEq, Eq)]
+#[derive(Clone, Copy)]
 pub enum Operation {
     /// Of units of every kind.
     Unit(UnitOperation),
@@ -24,7 +24,7 @@ pub enum Operation {
 }
 
 /// An operation of units of every kind (SPC-4 "Commands for all device types").
-#[derive(Clone, Copy, Debug, PartialEq, Eq)]
+#[derive(Clone, Copy)]
 pub enum UnitOperation {
     TestUnitReady,
     RequestSense,
@@ -39,7 +39,7 @@ pub enum UnitOperation {
 }
 
 /// An operation of disks (SBC-3 "Commands for direct access block devices").
-#[derive(Clone, Copy, Debug, PartialEq, Eq)]
+#[derive(Clone, Copy)]
 pub enum DiskOperation {
     Read10,
     Read16,
@@ -58,7 +58,7 @@ pub enum DiskOperation {
 }
 
 /// An operation of tapes (SSC-4 "Commands for sequential-access devices").
-#[derive(Clone, Copy, Debug, PartialEq, Eq)]
+#[derive(Clone, Copy)]
 pub enum TapeOperation {
     Rewind,
     ReadBlockLimits,
@@ -73,7 +73,7 @@ pub enum TapeOperation {
 }
 
 /// What an operation needs of a unit.
-#[derive(Clone, Copy, Debug, PartialEq, Eq)]
+#[derive(Clone, Copy)]
 pub enum Need {
     Nothing,
     /// That no write to its medium has failed.
@@ -84,7 +84,7 @@ pub enum Need {
 
 /// What a reservation of another nexus does to an operation (SPC-4 "Persistent reservations"; its tables
 /// of commands that are allowed).
-#[derive(Clone, Copy, Debug, PartialEq, Eq)]
+#[derive(Clone, Copy)]
 pub enum ReservationClass {
     /// It is allowed whatever is reserved.
     Always,
@@ -95,7 +95,7 @@ pub enum ReservationClass {
 }
 
 /// A row of the table of operations.
-#[derive(Clone, Copy, Debug, PartialEq, Eq)]
+#[derive(Clone, Copy)]
 pub struct Row {
     pub operation: Operation,
     /// It is carried out while a unit attention is pending (SAM-5 "Unit attention condition").

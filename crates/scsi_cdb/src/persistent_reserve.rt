@@ -13,7 +13,7 @@ const SERVICE_ACTION: u8 = 0x1F;
 const TYPE: u8 = 0x0F;
 
 /// A service action of PERSISTENT RESERVE IN (SPC-4 "PERSISTENT RESERVE IN command").
-#[derive(Clone, Copy, Debug, PartialEq, Eq)]
+#[derive(Clone, Copy)]
 pub enum ReadAction {
     /// 00h
     ReadKeys,
@@ -38,7 +38,7 @@ impl ReadAction {
 }
 
 /// The fields of PERSISTENT RESERVE IN (SPC-4 "PERSISTENT RESERVE IN command").
-#[derive(Clone, Copy, Debug, PartialEq, Eq)]
+#[derive(Clone, Copy)]
 pub struct ReserveInFields {
     pub action: ReadAction,
     pub allocation_length: u16,
@@ -61,7 +61,7 @@ impl ReserveInFields {
 }
 
 /// A service action of PERSISTENT RESERVE OUT (SPC-4 "PERSISTENT RESERVE OUT service actions").
-#[derive(Clone, Copy, Debug, PartialEq, Eq)]
+#[derive(Clone, Copy)]
 pub enum ServiceAction {
     /// 00h
     Register,
@@ -116,7 +116,7 @@ fn is_type(scope: u8, code: u8) -> bool
 
 /// The fields of PERSISTENT RESERVE OUT (SPC-4 "PERSISTENT RESERVE OUT command"). SCOPE and TYPE name a type of
 /// reservations if the action is RESERVE or RELEASE.
-#[derive(Clone, Copy, Debug, PartialEq, Eq)]
+#[derive(Clone, Copy)]
 pub struct ReserveOutFields {
     pub action: ServiceAction,
     /// SCOPE

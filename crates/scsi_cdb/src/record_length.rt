@@ -9,7 +9,7 @@ use std::marker::Model;
 pub const MOST_RECORD: u32 = 1_048_576;
 
 /// The length of a record that is written, in bytes: at most [`MOST_RECORD`]. Clauses see the number.
-#[derive(Clone, Copy, Debug, PartialEq, Eq)]
+#[derive(Clone, Copy)]
 pub struct RecordLength {
     bytes: u32,
 }

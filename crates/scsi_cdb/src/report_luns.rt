@@ -7,7 +7,7 @@ use crate::fault::FieldFault;
 use byteorder::{BigEndian, ByteOrder};
 
 /// Which logical units are to be reported (SPC-4 "REPORT LUNS command", SELECT REPORT).
-#[derive(Clone, Copy, Debug, PartialEq, Eq)]
+#[derive(Clone, Copy)]
 pub enum SelectReport {
     /// 00h: all but the well known ones.
     LogicalUnits,
@@ -18,7 +18,7 @@ pub enum SelectReport {
 }
 
 /// The fields of REPORT LUNS (SPC-4 "REPORT LUNS command").
-#[derive(Clone, Copy, Debug, PartialEq, Eq)]
+#[derive(Clone, Copy)]
 pub struct ReportLunsFields {
     pub select: SelectReport,
     pub allocation_length: u32,

@@ -43,7 +43,7 @@ const LOWEST_NEGATIVE: u32 = 0x0080_0000;
 const THREE_BYTES: u32 = 0x0100_0000;
 
 /// What is counted while spacing (SSC-4 "SPACE (6) command", CODE).
-#[derive(Clone, Copy, Debug, PartialEq, Eq)]
+#[derive(Clone, Copy)]
 pub enum SpaceCode {
     /// 0h
     LogicalBlocks,
@@ -52,7 +52,7 @@ pub enum SpaceCode {
 }
 
 /// How many are spaced over, and in which direction (SSC-4 "SPACE (6) command", COUNT).
-#[derive(Clone, Copy, Debug, PartialEq, Eq)]
+#[derive(Clone, Copy)]
 pub struct Distance {
     /// Toward the beginning of the tape.
     pub is_backward: bool,
@@ -60,7 +60,7 @@ pub struct Distance {
 }
 
 /// Whether it is reported that a record's length differs from the length requested (SSC-4 "READ (6) command", SILI).
-#[derive(Clone, Copy, Debug, PartialEq, Eq)]
+#[derive(Clone, Copy)]
 pub enum IncorrectLength {
     /// SILI is clear: it is reported.
     Told,
@@ -71,7 +71,7 @@ pub enum IncorrectLength {
 }
 
 /// A command to a tape.
-#[derive(Clone, Copy, Debug, PartialEq, Eq)]
+#[derive(Clone, Copy)]
 pub enum TapeCommand {
     /// Sets the position before everything written (SSC-4 "REWIND command").
     Rewind,

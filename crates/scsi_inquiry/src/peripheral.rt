@@ -6,7 +6,7 @@ ghost use Rattle.scsi_inquiry.specs.StandardData.{peripheral_byte};
 use scsi_cdb::Kind;
 
 /// What a LUN names, which byte 0 of INQUIRY data reports (SPC-4 "Standard INQUIRY data").
-#[derive(Clone, Copy, Debug, PartialEq, Eq)]
+#[derive(Clone, Copy)]
 pub enum Peripheral {
     /// A logical unit of this kind.
     Unit(Kind),

@@ -6,7 +6,7 @@ ghost use Rattle.scsi_inquiry.specs.ProductData.{page_of, page_code};
 use scsi_cdb::Kind;
 
 /// A vital product data page (SPC-4 "Vital product data parameters").
-#[derive(Clone, Copy, Debug, PartialEq, Eq)]
+#[derive(Clone, Copy)]
 pub enum VpdPage {
     /// 00h
     SupportedPages = 0x00,

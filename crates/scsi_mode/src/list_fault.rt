@@ -6,7 +6,7 @@ ghost use Rattle.scsi_mode.specs.ParameterList.{fault_sense};
 use scsi_sense::{Condition, Sense};
 
 /// Why a parameter list is refused.
-#[derive(Clone, Copy, Debug, PartialEq, Eq)]
+#[derive(Clone, Copy)]
 pub enum ListFault {
     /// A part of it ends early.
     EndsEarly,

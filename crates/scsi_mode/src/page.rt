@@ -7,7 +7,7 @@ use crate::parameters::Parameters;
 use scsi_cdb::PageControl;
 
 /// A mode page.
-#[derive(Clone, Copy, Debug, PartialEq, Eq)]
+#[derive(Clone, Copy)]
 pub enum ModePage {
     /// 08h (SBC-3 "Caching mode page")
     Caching,

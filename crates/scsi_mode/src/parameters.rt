@@ -7,7 +7,7 @@ ghost use Rattle.scsi_mode.specs.ModeData.{device_parameter};
 use media_block::BLOCK_LENGTH;
 
 /// The mode parameters of a unit.
-#[derive(Clone, Copy, Debug, PartialEq, Eq)]
+#[derive(Clone, Copy, PartialEq, Eq)]
 pub enum Parameters {
     Disk {
         block_count: u64,

@@ -7,7 +7,7 @@ use std::alloc::Global;
 use std::marker::Model;
 
 /// How a command ended: its status, with its sense data.
-#[derive(Clone, Copy, Debug, PartialEq, Eq)]
+#[derive(Clone, Copy)]
 pub enum Ended {
     Good,
     ReservationConflict,
@@ -15,7 +15,7 @@ pub enum Ended {
 }
 
 /// A nexus with a unit attention to be established for it.
-#[derive(Debug, Drop)]
+#[derive(Drop)]
 pub struct Due {
     pub nexus: Nexus,
     pub attention: Attention,
@@ -23,7 +23,7 @@ pub struct Due {
 
 /// The outcome of PERSISTENT RESERVE OUT, and the unit attentions that it establishes for others, at most one for each
 /// nexus.
-#[derive(Debug, Drop)]
+#[derive(Drop)]
 pub struct Outcome {
     pub ended: Ended,
     pub due: Vec<Due>,

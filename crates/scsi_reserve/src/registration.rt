@@ -8,14 +8,14 @@ use crate::reservation_type::ReservationType;
 use scsi_sense::Nexus;
 
 /// A nexus that is registered, and its reservation key (SPC-4 "Registering").
-#[derive(Debug, Drop)]
+#[derive(Drop)]
 pub(crate) struct Row {
     pub nexus: Nexus,
     pub key: u64,
 }
 
 /// A reservation of the logical unit.
-#[derive(Debug, Drop)]
+#[derive(Drop)]
 pub(crate) struct Reservation {
     pub kind: ReservationType,
     /// The nexus that made it. It alone is the holder, unless the type is of all registrants.

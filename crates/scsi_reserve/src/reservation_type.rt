@@ -4,7 +4,7 @@ ghost use Rattle.std.specs.Prelude.{◌≡◌};
 ghost use Rattle.scsi_reserve.specs.ReservationType.{type_code, type_of, is_same_type, is_of_all, is_of_registrants};
 
 /// The type of a reservation of the logical unit (SPC-4 "Persistent reservations type").
-#[derive(Clone, Copy, Debug, PartialEq, Eq)]
+#[derive(Clone, Copy)]
 pub enum ReservationType {
     /// 1h
     WriteExclusive = 0x1,

@@ -21,7 +21,7 @@ const MOST_ROWS: usize = 64;
 
 /// The registrations of a logical unit, in the order in which they were made, and its reservation (SPC-4 "Persistent
 /// reservations").
-#[derive(Debug, Drop)]
+#[derive(Drop)]
 pub struct Table {
     pub(crate) rows: Vec<Row>,
     pub(crate) reservation: Option<Reservation>,

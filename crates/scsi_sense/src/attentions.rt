@@ -12,7 +12,7 @@ const MOST: usize = 8;
 
 /// The unit attention conditions that have not yet been reported to an initiator, in the order in which they were
 /// established (SAM-5 "Unit attention condition"). No condition is in the list twice. It allocates nothing.
-#[derive(Debug, Drop)]
+#[derive(Drop)]
 pub struct Attentions {
     pending: ArrayVec<Attention, MOST>,
 }

@@ -5,7 +5,7 @@ ghost use Rattle.scsi_sense.specs.Codes.{attention_number, key_of, code_of};
 
 /// A unit attention condition (SAM-5 "Unit attention condition"), by SPC-4's names ("Sense key and
 /// additional sense code definitions").
-#[derive(Clone, Copy, Debug, Default, PartialEq, Eq)]
+#[derive(Clone, Copy, Default)]
 pub enum Attention {
     #[default]
     PowerOnOrReset = 0x2900,
@@ -29,7 +29,7 @@ impl Attention {
 
 /// What happened: an additional sense code, under its one sense key, by SPC-4's names ("Sense key and additional sense
 /// code definitions").
-#[derive(Clone, Copy, Debug, PartialEq, Eq)]
+#[derive(Clone, Copy)]
 pub enum Condition {
     NoAdditionalSenseInformation,
     FilemarkDetected,

@@ -9,7 +9,7 @@ use std::alloc::Global;
 use std::marker::Model;
 
 /// The status of a command (SAM-5 "Status codes").
-#[derive(Clone, Copy, Debug, PartialEq, Eq)]
+#[derive(Clone, Copy)]
 pub enum Status {
     Good = 0x00,
     CheckCondition = 0x02,
@@ -26,7 +26,7 @@ impl Status {
 }
 
 /// The outcome of a command: what is reported to its initiator.
-#[derive(Debug, Drop)]
+#[derive(Drop)]
 pub struct Done {
     pub status: Status,
     /// Present if the status is CHECK CONDITION.

@@ -17,7 +17,7 @@ pub const TAILROOM: usize = 71;
 
 /// The data that a command returns, as it lies in a buffer: after [`HEADROOM`] bytes, and before room for [`TAILROOM`]
 /// more. So it is sent from where it was read. Clauses see the data.
-#[derive(Debug, Drop)]
+#[derive(Drop)]
 pub struct Given {
     buffer: BytesMut,
 }

@@ -7,7 +7,7 @@ use std::marker::Model;
 
 /// An I_T nexus: a session of an initiator with a target (RFC 7143 §4.4.2), for which unit attentions and reservations
 /// are kept. It is identified by the initiator's name, and by the ISID, which distinguishes its sessions.
-#[derive(Debug, Drop)]
+#[derive(Drop)]
 pub struct Nexus {
     pub initiator_name: String,
     pub isid: [u8; 6],

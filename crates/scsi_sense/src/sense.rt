@@ -6,7 +6,7 @@ ghost use Rattle.scsi_sense.specs.Sense.{plain_sense, sense_bytes};
 use crate::condition::Condition;
 
 /// Why a command ended with CHECK CONDITION (SPC-4 "Sense data").
-#[derive(Clone, Copy, Debug, PartialEq, Eq)]
+#[derive(Clone, Copy)]
 pub struct Sense {
     pub condition: Condition,
     /// A filemark was read or spaced over.

@@ -6,7 +6,7 @@ ghost use Rattle.scsi_inquiry.specs.ProductData.{most_serial};
 use std::marker::Model;
 
 /// The serial number of a logical unit, as its vital product data reports it: at most 32 bytes.
-#[derive(Debug, Drop)]
+#[derive(Drop)]
 pub struct Serial {
     text: String,
 }

@@ -3,7 +3,7 @@
 ghost use Rattle.std.specs.Prelude.{◌≤◌};
 
 /// The number of blocks of 512 bytes of a disk in memory.
-#[derive(Clone, Copy, Debug)]
+#[derive(Clone, Copy)]
 pub struct BlockCount {
     pub number: u64,
     ghost some: { 1 ≤ number },

@@ -3,7 +3,7 @@
 use crate::block_count::BlockCount;
 
 /// A target portal and its targets.
-#[derive(Debug, Drop)]
+#[derive(Drop)]
 pub struct Configuration {
     /// The address that initiators connect to: 1 to 253 bytes.
     pub listen: String,
@@ -14,7 +14,7 @@ pub struct Configuration {
 }
 
 /// A target and its logical units.
-#[derive(Debug, Drop)]
+#[derive(Drop)]
 pub struct TargetConfiguration {
     /// Its iSCSI name: 1 to 223 bytes.
     pub name: String,
@@ -23,7 +23,7 @@ pub struct TargetConfiguration {
 }
 
 /// A logical unit.
-#[derive(Debug, Drop)]
+#[derive(Drop)]
 pub struct UnitConfiguration {
     /// 0 to 255.
     pub lun: i64,
@@ -33,7 +33,7 @@ pub struct UnitConfiguration {
 }
 
 /// What a logical unit keeps its data on.
-#[derive(Debug, Drop)]
+#[derive(Drop)]
 pub enum MediumConfiguration {
     /// A disk in memory, of zero blocks.
     MemoryDisk(BlockCount),
