@@ -8,12 +8,15 @@ ghost use Rattle.iscsi_pdu.specs.Parts.{is_data_out};
 ghost use Rattle.iscsi_pdu.specs.Segment.{most_data};
 ghost use Rattle.iscsi_transfer.specs.Counted.{brought};
 ghost use Rattle.iscsi_pdu.specs.Answer.{spelling};
+ghost use Rattle.iscsi_pdu.specs.declared.answer.Answer.TheVariants as answers;
 ghost use Rattle.iscsi_outbox.specs.Offered.{EndsPdu};
 ghost use Rattle.scsi_unit.specs.Units.{join as join_units};
 ghost use Rattle.iscsi_login.specs.Values.{AreInRange};
 ghost use Rattle.iscsi_login.specs.Lookup.{lookup_in};
 ghost use Rattle.iscsi_login.specs.LoginState.{LoginState, IsTargetBelow};
 ghost use Rattle.iscsi_login.specs.Login.{advanced, reply_of};
+ghost use Rattle.iscsi_session.specs.Requests.{begun as begun_past};
+ghost use Rattle.iscsi_session.specs.State.{remembered};
 ghost use Rattle.iscsi_target.specs.HalfRead.{IsCounted, CanCount, NeedsNot, KeepsPiece};
 ghost use Rattle.iscsi_target.specs.History.{arrivals};
 ghost use Rattle.iscsi_target.specs.Machine.{LinkState, is_reading, is_logging_in, session_in_phase, free_link, opened_link, shut_link, begun_link, GivesFrame, IsAnswered, IsWithin, sent_link, is_settled, is_silent, most_waiting};
@@ -72,6 +75,27 @@ fn count(framer: &mut Framer, piece: &[u8]) -> Result<(), Memory>
     Ok(())
 }
 
+// The drop of a session or a phase is long wherever it stands, so each stands in a function of its own.
+
+/// Creates a session, with room for its requests.
+fn reserved(alloc: Global, params: SessionParams) -> Result<Session, Memory>
+    ensures { IfOk result (λ session. session ≡ remembered (begun_past params)) }
+{
+    let mut session = Session::new(alloc, params);
+    session.reserve()?;
+    Ok(session)
+}
+
+/// Joins the nexus of a session to its target's units. If an allocation fails, the units stay as they are.
+fn joined<S: Store>(session: Session, units: &mut Units<S>) -> Result<Session, Memory>
+    ensures same { IfOk result (λ joined. joined ≡ session) }
+    ensures ok { OnOk result (units.new ≡ join_units session.params.nexus units.old) }
+    ensures err { OnErr result (units.new ≡ units.old) }
+{
+    units.join(&session.params().nexus)?;
+    Ok(session)
+}
+
 impl Connection {
     /// Returns a connection that is not open. Allocates nothing.
     pub(crate) fn free(alloc: Global) -> Connection
@@ -100,7 +124,7 @@ impl Connection {
     pub(crate) fn shut(&mut self)
         ensures { self.new ≡ shut_link self.old }
     {
-        self.phase = Phase::Closing;
+        self.phase.change(Phase::Closing);
     }
 
     /// Keeps a further piece of the connection's bytes. Of a half-read Data-Out whose data is not needed, only the number
@@ -175,6 +199,14 @@ impl Connection {
         Ok(())
     }
 
+    /// Queues a Login response. If an allocation fails, nothing changes.
+    fn reply(&mut self, response: LoginResponse) -> Result<(), Memory>
+        ensures ok { OnOk result (self.new ≡ record self.old { waiting = self.old.waiting ++ spelling (answers.LoginResponse response) }) }
+        ensures err { OnErr result (self.new ≡ self.old) }
+    {
+        self.send(&Answer::LoginResponse(response))
+    }
+
     /// Takes a Login request, if a login is in progress, and queues its answer. The answer that begins full feature
     /// phase is not queued: it is returned with the parameters of its session.
     pub(crate) fn log_in(
@@ -199,12 +231,12 @@ impl Connection {
         };
         match login.take(request, directory, named)? {
             Reply::GoOn(response) => {
-                self.send(&Answer::LoginResponse(response))?;
+                self.reply(response)?;
                 Ok(None)
             }
             Reply::Refused(response) => {
-                self.send(&Answer::LoginResponse(response))?;
-                self.phase = Phase::Closing;
+                self.reply(response)?;
+                self.phase.change(Phase::Closing);
                 Ok(None)
             }
             Reply::Full(response, session) => Ok(Some((response, session))),
@@ -226,12 +258,10 @@ impl Connection {
         ensures err { OnErr result (self.new ≡ self.old) }
         ensures units_err { OnErr result (units.new ≡ units.old) }
     {
-        let mut begun = Session::new(alloc, session);
-        begun.reserve()?;
         self.waiting.reserve(answer.length())?;
-        units.join(&begun.params().nexus)?;
+        let begun = joined(reserved(alloc, session)?, units)?;
         self.waiting.put(answer);
-        self.phase = Phase::FullFeature(begun);
+        self.phase.change(Phase::FullFeature(begun));
         Ok(())
     }
 
@@ -247,10 +277,10 @@ impl Connection {
         ensures ok { OnOk result (self.new ≡ begun_link session answer.now self.old) }
         ensures err { OnErr result (self.new ≡ self.old) }
     {
-        let mut begun = Session::new(alloc, session);
-        begun.reserve()?;
-        self.send(answer)?;
-        self.phase = Phase::FullFeature(begun);
+        self.waiting.reserve(answer.length())?;
+        let begun = reserved(alloc, session)?;
+        self.waiting.put(answer);
+        self.phase.change(Phase::FullFeature(begun));
         Ok(())
     }
 

@@ -20,6 +20,13 @@ impl Phase {
     ghost use Rattle.std.specs.Prelude.{◌≡◌};
     ghost use Rattle.iscsi_target.specs.Machine.{is_reading, is_free, is_closing};
 
+    /// Changes the phase.
+    pub(crate) fn change(&mut self, next: Phase)
+        ensures { self.new ≡ next }
+    {
+        *self = next;
+    }
+
     /// Returns whether frames are read in this phase.
     pub(crate) fn reads(&self) -> bool
         ensures { result ≡ is_reading self.now }
