@@ -1,7 +1,8 @@
 //! The pairs of the earlier texts, among which a key is found fast.
 
-ghost use Rattle.std.specs.Prelude.{◌≡◌, ◌++◌, [], not, IfOk, IsOk, OnErr, if◌then◌else◌};
+ghost use Rattle.std.specs.Prelude.{◌≡◌, ◌++◌, [], not, is_some, IfOk, IfSome, IsOk, OnErr, if◌then◌else◌};
 ghost use Rattle.std.specs.List.{list_any};
+ghost use Rattle.iscsi_login.specs.KeyTree.{IsTreeOf};
 ghost use Rattle.iscsi_login.specs.Rules.{is_again as is_said_again};
 
 use crate::key_tree::KeyTree;
@@ -66,17 +67,31 @@ impl Earlier {
             *self = Earlier::first(self.alloc, more);
             return Ok(true);
         }
-        let mut tree = match self.tree.take() {
-            Some(tree) => tree,
-            None => KeyTree::of(self.alloc, &self.pairs)?,
-        };
-        if !tree.extend(&self.pairs, &more)? {
+        let Some(tree) = self.tree_with(&more)? else {
             return Ok(false);
-        }
+        };
         if self.pairs.append(more).is_err() {
             return Err(Memory);
         }
         self.tree = Some(tree);
         Ok(true)
+    }
+
+    /// Returns the tree of the pairs and of these after them. Returns `None` if one of these repeats a key that may not be
+    /// given again.
+    fn tree_with(&mut self, more: &Pairs) -> Result<Option<KeyTree>, Memory>
+        ensures some { IfOk result (λ o. IfSome o (λ tree. IsTreeOf tree (self.old ++ more.now))) }
+        ensures is_new { IfOk result (λ o. is_some o ≡ not (list_any (is_said_again self.old) more.now)) }
+        ensures same { self.new ≡ self.old }
+    {
+        let mut tree = match self.tree.take() {
+            Some(tree) => tree,
+            None => KeyTree::of(self.alloc, &self.pairs)?,
+        };
+        if tree.extend(&self.pairs, more)? {
+            Ok(Some(tree))
+        } else {
+            Ok(None)
+        }
     }
 }
