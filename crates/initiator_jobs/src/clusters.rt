@@ -142,6 +142,22 @@ fn run(line: &mut Line, hosts: &mut [Host], rounds: usize) -> Result<(), Fault> 
     Ok(())
 }
 
+/// Returns what the hosts were answered.
+fn outcome_of(hosts: &[Host]) -> Outcome {
+    let mut outcome = Outcome::new();
+    for host in hosts {
+        outcome.add(&host.answers);
+    }
+    outcome
+}
+
+/// Starts all hosts `rounds` times, on this line.
+fn run_on(line: &mut Line, alloc: Global, rounds: usize) -> Result<Outcome, Fault> {
+    let mut hosts = hosts(alloc, &mut line.random)?;
+    run(line, hosts.as_mut_slice(), rounds)?;
+    Ok(outcome_of(hosts.as_slice()))
+}
+
 /// Starts all hosts `rounds` times, on two targets.
 pub fn clusters(alloc: Global, seed: u64, rounds: usize) -> Result<Outcome, Fault> {
     let way = Way {
@@ -151,11 +167,5 @@ pub fn clusters(alloc: Global, seed: u64, rounds: usize) -> Result<Outcome, Faul
     };
     let target = disks(alloc, 2, 65_536)?;
     let mut line = Line::new(alloc, target, Random::new(seed), 131_072, way)?;
-    let mut hosts = hosts(alloc, &mut line.random)?;
-    run(&mut line, hosts.as_mut_slice(), rounds)?;
-    let mut outcome = Outcome::new();
-    for host in hosts.iter() {
-        outcome.add(&host.answers);
-    }
-    Ok(outcome)
+    run_on(&mut line, alloc, rounds)
 }

@@ -140,22 +140,47 @@ fn run(
     Ok(())
 }
 
-/// Runs `rounds` rounds.
-pub fn hosts(alloc: Global, seed: u64, rounds: usize) -> Result<Outcome, Fault> {
+/// Returns what the hosts and the archives were answered.
+fn outcome_of(all: &[Initiator], archives: &Archives) -> Outcome {
+    let mut outcome = Outcome::new();
+    for initiator in all {
+        outcome.add(&initiator.host.answers);
+    }
+    outcome.add(archives.answers());
+    outcome
+}
+
+/// Runs `rounds` rounds on this line.
+fn run_on(
+    line: &mut Line,
+    alloc: Global,
+    archives: &mut Archives,
+    rounds: usize,
+) -> Result<Outcome, Fault> {
+    let mut all = initiators(alloc, &mut line.random)?;
+    run(line, all.as_mut_slice(), archives, rounds)?;
+    Ok(outcome_of(all.as_slice(), archives))
+}
+
+/// Makes the disk, and runs `rounds` rounds on it.
+fn run_beside(
+    alloc: Global,
+    random: Random,
+    archives: &mut Archives,
+    rounds: usize,
+) -> Result<Outcome, Fault> {
     let way = Way {
         places: BEGINNINGS,
         segment: SEGMENT,
         cut: CUT,
     };
+    let mut line = Line::new(alloc, disks(alloc, 1, BLOCKS)?, random, 2 * BEGINNINGS, way)?;
+    run_on(&mut line, alloc, archives, rounds)
+}
+
+/// Runs `rounds` rounds.
+pub fn hosts(alloc: Global, seed: u64, rounds: usize) -> Result<Outcome, Fault> {
     let random = Random::new(seed);
     let mut archives = Archives::new(alloc, random.stream(1), rounds)?;
-    let mut line = Line::new(alloc, disks(alloc, 1, BLOCKS)?, random, 2 * BEGINNINGS, way)?;
-    let mut all = initiators(alloc, &mut line.random)?;
-    run(&mut line, all.as_mut_slice(), &mut archives, rounds)?;
-    let mut outcome = Outcome::new();
-    for initiator in all.iter() {
-        outcome.add(&initiator.host.answers);
-    }
-    outcome.add(archives.answers());
-    Ok(outcome)
+    run_beside(alloc, random, &mut archives, rounds)
 }
