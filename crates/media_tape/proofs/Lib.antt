@@ -16,3 +16,4 @@ pub mod Sized
 pub mod Indexed
 pub mod Fixed
 pub mod There
+pub mod Opened

@@ -1,12 +1,12 @@
 -- The unit that a LUN names, as the code's list of units stands.
-use Rattle.std.proofs.Common.{◌≡◌, ℕ, ◌<◌, List, true, false, length, set, get_or, Some, sym, subst, refl}
+use Rattle.std.proofs.Common.{◌≡◌, ℕ, ◌<◌, List, true, false, length, set, get_or, Option, Some, None, sym, subst, refl}
 use Rattle.scsi_sense.specs.Done.{Outcome}
 use Rattle.scsi_sense.specs.Nexus.{NexusName}
-use Rattle.scsi_unit.specs.Identity.{is_for_target, reported_luns}
+use Rattle.scsi_unit.specs.Identity.{is_for_target, reported_luns, without_unit}
 use Rattle.scsi_unit.specs.Lun.{lun_number}
 use Rattle.scsi_unit.specs.Unit.{performed_as, touch_at, IsPerformed}
 use Rattle.scsi_unit.specs.State.{UnitState}
-use Rattle.scsi_unit.specs.Units.{UnitStates, unit_of, numbers_of, IsAnsweredAt, AreAnswered}
+use Rattle.scsi_unit.specs.Units.{UnitStates, unit_of, numbers_of, perform, IsAnsweredAt, AreAnswered}
 use Rattle.scsi_unit.proofs.Lists.{get_or_any}
 
 -- a place that was found is within the units
@@ -36,3 +36,13 @@ unit_answered units nexus cdb bytes at d after done lt other performed =
           (sym here) performed;
     } in
     rw other answered
+
+-- a LUN that names no unit
+pub none_answered : (nexus : NexusName) (cdb bytes : List ℕ) (place : Option ℕ) (units : UnitStates) (done : Outcome) → place ≡ None
+    → done ≡ without_unit cdb → AreAnswered nexus cdb bytes place units units done
+none_answered nexus cdb bytes place units done none answer = rw none (refl, answer)
+
+pub none_performed : (nexus : NexusName) (lun cdb bytes : List ℕ) (units : UnitStates) (done : Outcome) → unit_of units (lun_number lun) ≡ None
+    → done ≡ without_unit cdb → (units, done) ≡ perform units nexus lun cdb bytes
+unfolding perform
+none_performed nexus lun cdb bytes units done none answer = rw (none, answer) refl

@@ -11,3 +11,5 @@ pub mod Sound
 pub mod TapeDone
 pub mod Room
 pub mod Rooms
+pub mod Results
+pub mod UnitParts

@@ -1,5 +1,5 @@
 -- Facts about lists that several proofs share.
-use Rattle.std.proofs.Common.{◌≡◌, ℕ, zero, suc, ◌+◌, ◌<◌, ◌≤◌, List, [], ◌∷◌, map, length, get_or, drop, take, set, ◌++◌, refl, ◌∙◌, arith}
+use Rattle.std.proofs.Common.{◌≡◌, ℕ, zero, suc, ◌+◌, ◌<◌, ◌≤◌, List, [], ◌∷◌, map, length, get_or, drop, take, set, ◌++◌, refl, ap, ◌∙◌, arith}
 use Rattle.std.proofs.lemmas.List.{take_all, drop_all, take-append-le, append-nil}
 use Rattle.std.proofs.lemmas.List.Edits.{map_over_more}
 
@@ -20,3 +20,10 @@ map_over_all f xs ys i whole e = e ∙ rw (take_all i xs whole, drop_all i xs wh
 -- elements written over all that stand there
 pub over_all : {X : Type 0} (ys zs : List X) (n : ℕ) → n ≡ length ys → take n (ys ++ drop (length ys) zs) ≡ ys
 over_all ys zs n long = take-append-le n ys (drop (length ys) zs) (omega (arith, long)) ∙ take_all n ys (omega (arith, long))
+
+pub map_none : {X : Type 0} (f : X → X) (xs : List X) → length xs ≡ 0 → xs ≡ map f xs
+map_none f [] none = refl
+map_none f (x ∷ xs) none = absurd (omega arith)
+
+pub cons_same : {X : Type 0} {a b : X} {xs ys : List X} → a ≡ b → xs ≡ ys → a ∷ xs ≡ b ∷ ys
+cons_same {X} {a} {b} {xs} {ys} first rest = ap (λ (x : X). x ∷ xs) first ∙ ap (λ (l : List X). b ∷ l) rest

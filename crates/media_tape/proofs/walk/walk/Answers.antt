@@ -8,6 +8,13 @@ use Rattle.media_tape.proofs.Sized.{are_sizes}
 use Rattle.media_tape.proofs.Walks.{walked-next, walked-last}
 use Rattle.media_tape.proofs.walk.walk.Goals as goal
 
+pub loop-window-smaller : goal.loop-window-smaller
+loop-window-smaller g c =
+    let n = c.in-Some.length in
+    let sizes = c.loop-window.index.sizes in
+    let within = rw c.in-Some.is at c.in_ok-length.ensures.within in
+    omega (arith, ap sum c.in_ok-push.ensures.ok, sum-append sizes (replicate 1 (n + 8)), sum-replicate 1 (n + 8), within.0, c.end.ensures.end)
+
 pub loop-window-preserved : goal.loop-window-preserved
 loop-window-preserved g c =
     let n = c.in-Some.length in

@@ -1,4 +1,4 @@
-use Rattle.std.proofs.Common.{◌≡◌, Bool, true, false, List, [], ◌∷◌, Some, None, refl}
+use Rattle.std.proofs.Common.{◌≡◌, Bool, true, false, List, [], ◌∷◌, Some, None, refl, sym, ◌∙◌}
 use Rattle.std.specs.List.{list_any}
 use Rattle.std.proofs.lemmas.Result.{err_from_is_err_and}
 use Rattle.iscsi_pdu.specs.Frames.{Frame}
@@ -25,6 +25,24 @@ refused_for_keys login lookup request pairs fault read whole accepted kept told 
         → Tells (refusal_by (rule again InitiatorError ∷ rule (list_any is_segment_refused pairs) InitiatorError ∷ [])) fault
     by true _ = told
     by false memory = rw (memory refl) tt
+
+-- a text is refused for a segment length alone, or for its keys too
+segment_refused : (login : LoginState) (lookup : Lookup) (request : Frame) (pairs : List Pair)
+    → pairs ≡ pairs_with login request → text_fault login request ≡ None
+    → session_refusal login.session lookup request.header pairs ≡ None
+    → list_any is_segment_refused pairs ≡ true → text_refusal login lookup request ≡ Some InitiatorError
+unfolding text_refusal
+segment_refused login lookup request pairs read whole accepted segment =
+    rw (← read, whole, accepted, segment) (by (list_any (is_again login.earlier) pairs))
+  where
+    by : (again : Bool) → refusal_by (rule again InitiatorError ∷ rule true InitiatorError ∷ []) ≡ Some InitiatorError
+    by true = refl
+    by false = refl
+
+pub returns-then-says_no_segment-clause-refused : goal.returns-then-says_no_segment-clause-refused
+returns-then-says_no_segment-clause-refused c =
+    segment_refused _ _ _ _ c.in_ok-pairs.ensures.pairs c.in_ok-pairs.ensures.whole c.in_ok-asked.ensures.accepted
+    (sym c.says_no_segment.ensures ∙ c.if-says_no_segment.true)
 
 pub returns-in_err-remember-clause-refused : goal.returns-in_err-remember-clause-refused
 returns-in_err-remember-clause-refused c =

@@ -1,5 +1,5 @@
-use Rattle.std.proofs.Common.{◌≡◌, ◌+◌, ◌-◌, ◌*◌, ◌/◌, ◌≤◌, ◌<◌, min, length, map, List, ℕ, refl, sym, ap, ◌∙◌, arith, rules}
-use Rattle.std.proofs.Math.Nat.{mul-le-mul_right}
+use Rattle.std.proofs.Common.{◌≡◌, ◌+◌, ◌-◌, ◌*◌, ◌/◌, ◌≤◌, ◌<◌, min, length, map, List, ℕ, [], ◌∷◌, ◌==◌, false, refl, sym, ap, ◌∙◌, arith}
+use Rattle.std.proofs.Math.Nat.{mul-le-mul_left, mul-le-mul_right}
 use Rattle.std.proofs.lemmas.List.Sums.{sum_by-take-le}
 use Rattle.media_tape.specs.Items.{Item, most_bytes, size, size_of, items_of}
 use Rattle.media_tape.specs.Tape.{TapeState, size_told, wrote_if_told}
@@ -12,11 +12,20 @@ use Rattle.media_tape.proofs.Commands.{are_some, AreFitting, are_fitting, fittin
 use Rattle.media_tape.proofs.tape.Tape.write_fixed.Given as given
 use Rattle.media_tape.proofs.tape.Tape.write_fixed.Goals as goal
 
+some_bytes : (bytes : List ℕ) → false ≡ (length bytes == 0) → 0 < length bytes
+some_bytes [] some = absurd cc
+some_bytes (byte ∷ bytes) some = omega arith
+
 pub overflow_add-size : goal.overflow_add-size
 overflow_add-size g c =
-    let bytes : 0 < length c.args.bytes.now = search rules in
+    let bytes : 0 < length c.args.bytes.now = some_bytes c.args.bytes.now c.if-is_empty.ensures in
     let are = are_some c.args.count c.args.block_length (omega (arith, bytes, c.requires.whole)) in
     omega (arith, are.short, c.requires.few)
+
+pub overflow_sub-room : goal.overflow_sub-room
+overflow_sub-room g c =
+    let old = c.self.inside in
+    omega (arith, c.place_of.ensures, sum_by-take-le (λ n. n) old.index.sizes old.position, c.self.invariant.fits)
 
 -- so many fit as the tape has room for
 as_fitting : (tape : TapeState) (place capacity count of block_length size fits : ℕ) → size_of tape.before ≡ place → tape.capacity ≡ capacity
@@ -36,13 +45,30 @@ none_fits g c =
 
 pub returns-then-fitting-eq0-clause-told : goal.returns-then-fitting-eq0-clause-told
 returns-then-fitting-eq0-clause-told g c =
-    let bytes : 0 < length c.args.bytes.now = search rules in
+    let bytes : 0 < length c.args.bytes.now = some_bytes c.args.bytes.now c.if-is_empty.ensures in
     none_told c.args.count c.args.block_length c.args.self.now (omega (arith, bytes, c.requires.whole)) (none_fits g c)
 
 pub returns-then-fitting-eq0-clause-tape : goal.returns-then-fitting-eq0-clause-tape
 returns-then-fitting-eq0-clause-tape g c honest =
-    let bytes : 0 < length c.args.bytes.now = search rules in
+    let bytes : 0 < length c.args.bytes.now = some_bytes c.args.bytes.now c.if-is_empty.ensures in
     none_tape c.args.count c.args.block_length c.args.bytes.now c.args.self.now (omega (arith, bytes, c.requires.whole)) (none_fits g c)
+
+pub spelled-requires-clause-few : goal.spelled-requires-clause-few
+spelled-requires-clause-few g c =
+    let bytes : 0 < length c.args.bytes.now = some_bytes c.args.bytes.now c.if-is_empty.ensures in
+    let are = are_some c.args.count c.args.block_length (omega (arith, bytes, c.requires.whole)) in
+    omega (arith, mul-le-mul_left c.args.count are.some_length, c.requires.few, c.min-fitting.ensures, c.from-2.ensures)
+
+pub spelled-requires-clause-short : goal.spelled-requires-clause-short
+spelled-requires-clause-short g c =
+    let bytes : 0 < length c.args.bytes.now = some_bytes c.args.bytes.now c.if-is_empty.ensures in
+    let are = are_some c.args.count c.args.block_length (omega (arith, bytes, c.requires.whole)) in
+    omega (arith, are.short, c.requires.few)
+
+pub spelled-requires-clause-enough : goal.spelled-requires-clause-enough
+spelled-requires-clause-enough g c =
+    let few : c.min-fitting.result ≤ c.args.count = omega (arith, c.min-fitting.ensures, c.from-2.ensures) in
+    omega (arith, mul-le-mul_right c.args.block_length few, c.requires.whole)
 
 -- ---- some fit
 
@@ -55,7 +81,7 @@ spelled_are count block_length fits bytes some whole most few =
 
 pub put-requires : goal.put-requires
 put-requires g c =
-    let bytes : 0 < length c.args.bytes.now = search rules in
+    let bytes : 0 < length c.args.bytes.now = some_bytes c.args.bytes.now c.if-is_empty.ensures in
     let are = spelled_are c.args.count c.args.block_length c.min-fitting.result c.args.bytes.now bytes c.requires.whole c.requires.few
     (omega (arith, c.min-fitting.ensures, c.from-2.ensures)) in
     let some = are_some c.args.count c.args.block_length (omega (arith, bytes, c.requires.whole)) in
@@ -69,7 +95,7 @@ put-requires g c =
 
 are : (g : given.Over) (c : goal.Joined-blocks-2 g) → AreBlocks c.min-fitting.result c.args.block_length c.args.bytes.now
 are g c =
-    let bytes : 0 < length c.args.bytes.now = search rules in
+    let bytes : 0 < length c.args.bytes.now = some_bytes c.args.bytes.now c.if-is_empty.ensures in
     spelled_are c.args.count c.args.block_length c.min-fitting.result c.args.bytes.now bytes c.requires.whole c.requires.few
     (omega (arith, c.min-fitting.ensures, c.from-2.ensures))
 
@@ -90,7 +116,7 @@ pub returns-in-Ok-clause-told : goal.returns-in-Ok-clause-told
 returns-in-Ok-clause-told g c =
     let tape = c.args.self.now in
     let fits = c.min-fitting.result in
-    let bytes : 0 < length c.args.bytes.now = search rules in
+    let bytes : 0 < length c.args.bytes.now = some_bytes c.args.bytes.now c.if-is_empty.ensures in
     let total = ap length c.in_ok-spelled.ensures ∙ (are g c).long in
     let told = rw c.in-Ok.is at c.in_ok-done.ensures.told in
     c.blocks_written.ensures
@@ -103,7 +129,7 @@ as_fixed : (g : given.Over) (c : goal.Joined-blocks-2 g)
 as_fixed g c =
     let tape = c.args.self.now in
     let fits = c.min-fitting.result in
-    let bytes : 0 < length c.args.bytes.now = search rules in
+    let bytes : 0 < length c.args.bytes.now = some_bytes c.args.bytes.now c.if-is_empty.ensures in
     let total = ap length c.in_ok-spelled.ensures ∙ (are g c).long in
     let items = ap items_of c.in_ok-spelled.ensures ∙ (are g c).items in
     ap (λ (n : ℕ). wrote_if_told (size_told n tape) (items_of c.in_ok-spelled.spelled.items) tape) total
@@ -120,13 +146,13 @@ returns-in-Ok-clause-sized g c = rw (c.in-Ok.is, as_fixed g c) at c.in_ok-done.e
 
 pub returns-then-fitting-eq0-clause-sized : goal.returns-then-fitting-eq0-clause-sized
 returns-then-fitting-eq0-clause-sized g c =
-    let bytes : 0 < length c.args.bytes.now = search rules in
+    let bytes : 0 < length c.args.bytes.now = some_bytes c.args.bytes.now c.if-is_empty.ensures in
     rw (← none_tape c.args.count c.args.block_length c.args.bytes.now c.args.self.now (omega (arith, bytes, c.requires.whole)) (none_fits g c))
     (record { before = refl; after = refl })
 
 pub returns-clause-fits : goal.returns-clause-fits
 returns-clause-fits g c =
-    let bytes : 0 < length c.args.bytes.now = search rules in
+    let bytes : 0 < length c.args.bytes.now = some_bytes c.args.bytes.now c.if-is_empty.ensures in
     let blocks = spelled_are c.args.count c.args.block_length c.min-fitting.result c.args.bytes.now bytes c.requires.whole c.requires.few
     (omega (arith, c.min-fitting.ensures, c.from-2.ensures)) in
     let total = ap length c.in_ok-spelled.ensures ∙ blocks.long in

@@ -1,3 +1,4 @@
+use borrow.Author.Rules.{scaled_Fits}
 use Rattle.std.proofs.Common.{◌≡◌, ◌∙◌, map, set, refl, sym, ap, arith}
 use Rattle.scsi_unit.specs.Unit.{left_unit}
 use Rattle.scsi_unit.specs.Units.{leave, numbers_of}
@@ -28,3 +29,12 @@ invariant_of-self g c =
     let whole = over_all c.loop-unit.unit-items _ c.self.inside.units.len (omega (arith, c.deref_mut-unit-items.ensures.len, c.loop-unit.auto.unit-items))
     ∙ done ∙ ap (map f) c.deref_mut-unit-items.ensures.value in
     c.self.invariant ∙ sym (numbers_map (left_unit c.args.nexus.now) c.self.inside.units.items (λ unit. refl)) ∙ ap numbers_of (sym whole)
+
+pub offset_bounds-unit-items-unit-index : goal.offset_bounds-unit-items-unit-index
+offset_bounds-unit-items-unit-index g c = scaled_Fits _ _ _ c.loop-unit-test.true c.deref_mut-unit-items.type_inv.1
+
+pub bounds-unit-items-unit-index : goal.bounds-unit-items-unit-index
+bounds-unit-items-unit-index g c = omega arith
+
+pub loop-unit-smaller : goal.loop-unit-smaller
+loop-unit-smaller g c = omega arith

@@ -1,4 +1,6 @@
-use Rattle.std.proofs.Common.{◌≡◌, ◌∙◌, set, true, false, length, refl, ap, sym}
+use Rattle.scsi_unit.proofs.Results.{on_err_any}
+use Rattle.scsi_unit.proofs.Found.{none_answered, none_performed}
+use Rattle.std.proofs.Common.{◌≡◌, ℕ, ◌<◌, ◌∙◌, subst, set, true, false, length, refl, ap, sym}
 use Rattle.std.proofs.lemmas.Result.{IfOk-weaker, on_err_weaker}
 use Rattle.std.proofs.lemmas.List.{length-set, set-get_or}
 use Rattle.scsi_unit.specs.Identity.{is_for_target}
@@ -43,6 +45,9 @@ returns-then-is_for_target-clause-sound g c =
     c.args.self.now done found refl answered) (returns-then-is_for_target-clause-answered g c)
 
 -- ---- another command
+
+pub index_mut-unit-requires : goal.index_mut-unit-requires
+index_mut-unit-requires g c = subst (λ (n : ℕ). c.in-Some.at < n) (sym (c.self.inside.units.ok.0 ∙ ap length c.self.view_is)) c.in-Some.ensures.bound
 
 pub returns-clause-answered : goal.returns-clause-answered
 returns-clause-answered g c =
@@ -107,10 +112,28 @@ invariant_of-self g c =
 
 -- ---- there is no such unit
 
+pub returns-in_default-clause-answered : goal.returns-in_default-clause-answered
+returns-in_default-clause-answered g c =
+    IfOk-weaker c.without_unit.result _ _
+    (λ done answer. none_answered c.args.nexus.now c.args.cdb c.args.«data».now (unit_of c.args.self.now (lun_number c.args.lun)) c.args.self.now done
+    (sym c.position.ensures.value ∙ c.in_default.is) answer) c.without_unit.ensures.done
+
 pub returns-in_default-clause-came : goal.returns-in_default-clause-came
 returns-in_default-clause-came g c =
     IfOk-weaker c.without_unit.result _ _
     (λ done answer. none_came c.args.nexus.now c.args.lun c.args.cdb c.args.«data».now c.args.self.now done
+    (sym c.position.ensures.value ∙ c.in_default.is) answer) c.without_unit.ensures.done
+
+pub returns-in_default-clause-exact : goal.returns-in_default-clause-exact
+returns-in_default-clause-exact g c =
+    IfOk-weaker c.without_unit.result _ _
+    (λ done answer trusted. none_performed c.args.nexus.now c.args.lun c.args.cdb c.args.«data».now c.args.self.now done
+    (sym c.position.ensures.value ∙ c.in_default.is) answer) c.without_unit.ensures.done
+
+pub returns-in_default-clause-sound : goal.returns-in_default-clause-sound
+returns-in_default-clause-sound g c =
+    IfOk-weaker c.without_unit.result _ _
+    (λ done answer sound. none_performed c.args.nexus.now c.args.lun c.args.cdb c.args.«data».now c.args.self.now done
     (sym c.position.ensures.value ∙ c.in_default.is) answer) c.without_unit.ensures.done
 
 -- ---- no unit changes
@@ -121,8 +144,14 @@ returns-then-is_for_target-clause-back g c = λ sound. sound
 pub returns-then-is_for_target-clause-sure : goal.returns-then-is_for_target-clause-sure
 returns-then-is_for_target-clause-sure g c = λ sure. sure
 
+pub returns-then-is_for_target-clause-err : goal.returns-then-is_for_target-clause-err
+returns-then-is_for_target-clause-err g c = on_err_any c.reported_luns.result refl
+
 pub returns-in_default-clause-back : goal.returns-in_default-clause-back
 returns-in_default-clause-back g c = λ sound. sound
 
 pub returns-in_default-clause-sure : goal.returns-in_default-clause-sure
 returns-in_default-clause-sure g c = λ sure. sure
+
+pub returns-in_default-clause-err : goal.returns-in_default-clause-err
+returns-in_default-clause-err g c = on_err_any c.without_unit.result refl

@@ -1,4 +1,5 @@
-use Rattle.std.proofs.Common.{◌≡◌, ◌==◌, ◌∙◌, Some, ap, rules, tests, sym}
+use Rattle.std.proofs.lemmas.Option.{IfSome_then}
+use Rattle.std.proofs.Common.{◌≡◌, ℕ, ◌<◌, length, subst, ◌==◌, ◌∙◌, Some, ap, rules, tests, sym}
 use Rattle.std.proofs.lemmas.Iterator.{YieldsList-from_slice}
 use Rattle.std.proofs.lemmas.Iterator.Search.{position_from_yields_List}
 use Rattle.scsi_unit.specs.Lun.{lun_number}
@@ -11,3 +12,8 @@ returns-clause-value g c =
     let found = position_from_yields_List (λ unit. unit.lun == number) _ _ c.position.result c.position.ensures.ran
     (YieldsList-from_slice c.deref.result.now c.iter.ensures.rest) (λ x b q k. search (rules, tests)) in
     rw (named, ← c.self.view_is) (rw c.deref.ensures.value at found)
+
+pub returns-clause-bound : goal.returns-clause-bound
+returns-clause-bound g c =
+    IfSome_then c.position.result c.position.ensures.bound
+    (λ at below. subst (λ (n : ℕ). at < n) (c.iter.ensures.len ∙ ap length (c.deref.ensures.value ∙ c.self.view_is)) below)

@@ -1,9 +1,13 @@
+use borrow.Author.Rules.{scaled_Fits}
 use Rattle.std.proofs.Common.{◌≡◌, ◌∙◌, map, set, refl, sym, ap, arith}
 use Rattle.scsi_unit.specs.Unit.{where_named, raised_unit}
 use Rattle.scsi_unit.specs.Units.{raised_at, numbers_of}
 use Rattle.scsi_unit.proofs.Numbers.{numbers_named}
 use Rattle.scsi_unit.proofs.Lists.{map_over_next, map_over_all, over_all}
 use Rattle.scsi_unit.proofs.units.Units.raise.Goals as goal
+
+pub offset_bounds-unit-items-unit-index : goal.offset_bounds-unit-items-unit-index
+offset_bounds-unit-items-unit-index g c = scaled_Fits _ _ _ c.loop-unit-test.true c.deref_mut-unit-items.type_inv.1
 
 pub loop-unit-preserved : goal.loop-unit-preserved
 loop-unit-preserved g c =
