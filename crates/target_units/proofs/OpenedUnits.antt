@@ -1,6 +1,6 @@
 -- Units of a configuration as they are opened, one after the other.
 use Rattle.std.proofs.Common.{◌≡◌, ℕ, zero, suc, ◌-◌, ◌*◌, ◌/◌, ◌%◌, ◌<◌, List, [], ◌∷◌, ◌++◌, map, refl, sym, ap, subst, ◌∙◌, Bool, true, false, ◌&&◌, IsTrue, arith}
-use Rattle.std.specs.Prelude.{replicate, String, string_bytes, Contains}
+use Rattle.std.specs.Prelude.{length, replicate, nat_le, String, string_bytes, Contains}
 use Rattle.std.specs.declared.alloc.Global.{Global}
 use Rattle.std.specs.List.{list_all}
 use Rattle.std.proofs.lemmas.Bool.{lt-ltb, eq-eqb}
@@ -14,8 +14,8 @@ use Rattle.scsi_unit.specs.State.{UnitState}
 use Rattle.scsi_unit.specs.Unit.{free_unit}
 use Rattle.target_config.specs.declared.configuration.UnitConfiguration.{UnitConfiguration}
 use Rattle.target_config.specs.declared.configuration.TargetConfiguration.{TargetConfiguration}
-use Rattle.target_config.specs.Configuration.{UnitEntry, TargetEntry, natural, names_of, unit_view, units_view, target_view, targets_view}
-use Rattle.target_config.specs.Limits.{unit_keeps, target_keeps}
+use Rattle.target_config.specs.Configuration.{UnitEntry, TargetEntry, Document, natural, names_of, unit_view, units_view, target_view, targets_view}
+use Rattle.target_config.specs.Limits.{unit_keeps, target_keeps, keeps_limits}
 use Rattle.target_units.specs.Opened.{Held, zero_disk, empty_tape, IsMediumOf, IsUnitOf, AreEach}
 
 -- the blocks of zeros are blocks of zeros
@@ -109,6 +109,11 @@ both : (a b : Bool) → (a && b) ≡ true → (a ≡ true) × (b ≡ true)
 both true b e = (refl, e)
 both false b e = absurd cc
 
+-- the targets of a configuration that keeps its limits keep theirs
+pub all_kept : (document : Document) → keeps_limits document ≡ true → list_all target_keeps document.targets ≡ true
+all_kept document kept =
+    (both (nat_le (length document.listen) 253 && nat_le (length document.targets) 8) (list_all target_keeps document.targets) kept).1
+
 -- what comes first is contained
 pub contains_first : {X : Type 0} (x : X) (xs : List X) → Contains (x ∷ xs) x
 contains_first x xs = (0, omega arith, refl)
@@ -122,7 +127,20 @@ units_next now rest unit all taken kept named = (
   λ entry found. named entry (rw taken (Contains-append_right (unit_view unit ∷ []) (units_view rest) entry found)),
 )
 
+-- the first of the units that are left keeps its limits
+pub unit_kept : (now rest : List UnitConfiguration) (unit : UnitConfiguration) → now ≡ unit ∷ rest → list_all unit_keeps (units_view now) ≡ true
+    → unit_keeps (unit_view unit) ≡ true
+unit_kept now rest unit taken kept = (both (unit_keeps (unit_view unit)) (list_all unit_keeps (units_view rest)) (rw taken at kept)).0
+
 -- the same of targets
+pub target_kept : (now rest : List TargetConfiguration) (target : TargetConfiguration) → now ≡ target ∷ rest
+    → list_all target_keeps (targets_view now) ≡ true → list_all unit_keeps (units_view target.units.items) ≡ true
+target_kept now rest target taken kept =
+    let first = both (target_keeps (target_view target)) (list_all target_keeps (targets_view rest)) (rw taken at kept) in
+    let few = nat_le (length (string_bytes target.name)) 223 && nat_le (length (units_view target.units.items)) 16 in
+    (both few (list_all unit_keeps (units_view target.units.items)) first.0).1
+
+-- what is left of the targets
 pub targets_next : (now rest : List TargetConfiguration) (target : TargetConfiguration) (all : List TargetEntry) → now ≡ target ∷ rest
     → list_all target_keeps (targets_view now) ≡ true → ((entry : TargetEntry) → Contains (targets_view now) entry → Contains all entry)
     → (list_all target_keeps (targets_view rest) ≡ true) × ((entry : TargetEntry) → Contains (targets_view rest) entry → Contains all entry)

@@ -20,7 +20,7 @@ use Rattle.iscsi_target.specs.Stands.{Stands}
 use Rattle.iscsi_target.proofs.Standing.{stands_sent}
 use Rattle.iscsi_target.specs.Machine.{Machine, IsSound, IsSure, new_machine}
 use Rattle.iscsi_target.specs.Bounded.{Bounded}
-use Rattle.iscsi_ports.specs.Binding.{IsUnbound, ExplainsFault, not_located}
+use Rattle.iscsi_ports.specs.Binding.{IsUnbound, ExplainsFault}
 use Rattle.iscsi_ports.specs.declared.bind_fault.BindFault.{BindFault}
 use Rattle.iscsi_ports.specs.declared.bind_fault.BindFault.TheVariants as binds
 use Rattle.iscsi_ports.specs.Log.{Entry, written}
@@ -44,7 +44,7 @@ use Rattle.targetd.specs.Help.{RefusesWords}
 use Rattle.targetd.specs.Logging.{OpensLog}
 use Rattle.targetd.specs.Serve.{listening_line, HasServed, Serves}
 use Rattle.targetd.specs.Unopened.{IsUnopened}
-use Rattle.targetd.specs.Run.{FailsEarly, LeftState, ServedState, listening, known_of, setting_of, IsReplay, IsServing, Replays, ServesAt, Runs}
+use Rattle.targetd.specs.Run.{FailsToListen, FailsEarly, LeftState, ServedState, listening, known_of, setting_of, IsReplay, IsServing, Replays, ServesAt, Runs}
 
 -- ---- before a target is made
 
@@ -179,35 +179,21 @@ serving_early held left w count configured (Ok end) fault is early = absurd is
 serving_early held left w count configured (Err seen) fault is early =
     inl (Keeps-refl w, inr (subst (FailsEarly held left.refused configured) (sym is) early))
 
--- an allocation failed before the address was listened on
-pub serving_starves : (held : Held) (left : LeftState) (w : Option (List ℕ)) (count : ℕ) (configured : Result Document ConfigFault)
-    (result : Result (Unit {0}) Fault) → IsErrAnd result (λ seen. seen ≡ faults.OutOfMemory) → ServesAt held left w w count configured result
-serving_starves held left w count configured (Ok end) is = absurd is
-serving_starves held left w count configured (Err seen) is =
-    inl (Keeps-refl w, inr (subst (FailsEarly held left.refused configured) (sym is) (early_memory held left.refused configured)))
-
 -- why there are no ports, as the program tells it
 pub unbound_told : (text : List ℕ) (old new : List Noted) (why : BindFault) → ExplainsFault text old new why
     → ((bind_fault why ≡ faults.Socket) × IsUnbound text old new) ⊎ (bind_fault why ≡ faults.OutOfMemory)
 unbound_told text old new (binds.Socket code) is = inl (refl, is)
 unbound_told text old new binds.Memory is = inr refl
 
--- the address was not listened on
-pub serving_unbound : (held : Held) (left : LeftState) (w : Option (List ℕ)) (count : ℕ) (configured : Result Document ConfigFault) (document : Document)
-    (result : Result (Unit {0}) Fault) (fault : Fault) → configured ≡ Ok document → IsErrAnd result (λ seen. seen ≡ fault)
-    → ((fault ≡ faults.Socket) × IsUnbound document.listen [] left.unbound) ⊎ (fault ≡ faults.OutOfMemory)
-    → ServesAt held left w w count configured result
-serving_unbound held left w count configured document (Ok end) fault read is why = absurd is
-serving_unbound held left w count configured document (Err seen) fault read is (inl unbound) =
-    rw read (inl (Keeps-refl w, inl (is ∙ unbound.0, inl unbound.1)))
-serving_unbound held left w count configured document (Err seen) fault read is (inr starved) =
-    inl (Keeps-refl w, inr (subst (FailsEarly held left.refused configured) (sym (is ∙ starved)) (early_memory held left.refused configured)))
-
--- the system did not tell where the program listens
-pub serving_unlocated : (held : Held) (left : LeftState) (w : Option (List ℕ)) (count : ℕ) (configured : Result Document ConfigFault) (document : Document)
-    (earlier : List Noted) → configured ≡ Ok document → left.unbound ≡ not_located ∷ earlier
-    → ServesAt held left w w count configured (Err faults.Socket)
-serving_unlocated held left w count configured document earlier read told = rw read (inl (Keeps-refl w, inl (refl, inr (earlier, told))))
+-- the address was not listened on, or the system did not tell where the program listens
+pub serving_unbound : (held : Held) (left : LeftState) (w : Option (List ℕ)) (count : ℕ) (document : Document) (result : Result (Unit {0}) Fault)
+    (fault : Fault) → IsErrAnd result (λ seen. seen ≡ fault)
+    → ((fault ≡ faults.Socket) × FailsToListen (Ok document) left.unbound) ⊎ (fault ≡ faults.OutOfMemory)
+    → ServesAt held left w w count (Ok document) result
+serving_unbound held left w count document (Ok end) fault is why = absurd is
+serving_unbound held left w count document (Err seen) fault is (inl unbound) = inl (Keeps-refl w, inl (is ∙ unbound.0, unbound.1))
+serving_unbound held left w count document (Err seen) fault is (inr starved) =
+    inl (Keeps-refl w, inr (subst (FailsEarly held left.refused (Ok document)) (sym (is ∙ starved)) (early_memory held left.refused (Ok document))))
 
 pub fails_to_print : (line : List ℕ) (count : ℕ) (tells : Bool) (log : List Entry) (target : Machine) (w0 w1 : Option (List ℕ))
     (result : Result (Unit {0}) Fault) (fault : ReplayFault) (text : List ℕ)

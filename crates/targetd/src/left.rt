@@ -1,6 +1,6 @@
 //! What remains after a run.
 
-ghost use Rattle.std.specs.Prelude.{◌≡◌, [], None};
+ghost use Rattle.std.specs.Prelude.{◌≡◌, [], None, Some};
 
 use call_record::Record;
 use iscsi_ports::MioPorts;
@@ -61,5 +61,17 @@ impl<S: Start> Left<S> {
     {
         self.unbound = Record::new();
         self.logged = Record::new();
+    }
+
+    // The drop of what was served is long wherever it stands, so it stands in a function of its own.
+
+    /// Keeps ports that were served, and the target that served them.
+    pub fn keep_served(&mut self, served: Served<S>)
+        ensures told { self.new.told.calls ≡ self.old.told.calls }
+        ensures streams { self.new.streams ≡ self.old.streams }
+        ensures logged { self.new.logged.calls ≡ self.old.logged.calls }
+        ensures served { self.new.served ≡ Some served }
+    {
+        self.served = Some(served);
     }
 }

@@ -1,14 +1,17 @@
 //! A whole run: its words, its configuration, its target, and its lines or its turns.
 
-ghost use Rattle.std.specs.Prelude.{◌≡◌, ◌⊎◌, ◌∷◌, [], IfOk, IfErr, OnOk, OnErr, IsOkUnless, map, string_bytes};
-ghost use Rattle.iscsi_ports.specs.Binding.{IsUnbound};
+ghost use Rattle.std.specs.Prelude.{◌≡◌, ◌⊎◌, ◌∷◌, [], List, Ok, IfOk, IfErr, OnOk, OnErr, IsOkUnless, length, map, option_map, string_bytes};
+ghost use Rattle.call_record.specs.Noted.{Noted};
+ghost use Rattle.iscsi_ports.specs.Binding.{IsUnbound, not_located};
 ghost use Rattle.iscsi_ports.specs.Log.{Listened};
 ghost use Rattle.standard_streams.specs.Streams.{AreTaken, AreLacking};
 ghost use Rattle.command_line.specs.Help.{calls_for_help};
 ghost use Rattle.command_line.specs.Words.{mode_in};
 ghost use Rattle.target_config.specs.Config.{file_config_of};
+ghost use Rattle.target_config.specs.Configuration.{Document, names_of};
+ghost use Rattle.target_units.specs.Opened.{AreUnitsOf};
 ghost use Rattle.targetd.specs.Left.{left_view};
-ghost use Rattle.targetd.specs.Run.{Replays, ServesAt, Runs};
+ghost use Rattle.targetd.specs.Run.{Replays, ServesAt, Runs, listening};
 
 use crate::causes::Causes;
 use crate::fault::Fault;
@@ -24,7 +27,7 @@ use media_store::Start;
 use standard_streams::Streams;
 use std::fs::File;
 use std::io::{Read, Write};
-use std::net::Net;
+use std::net::{Net, SocketAddr};
 use std::rt::{Clock, Files};
 use target_config::{file_config, load};
 use target_replay::{Engine, replay};
@@ -88,6 +91,61 @@ fn listen(
     }
 }
 
+/// Listens on an address as [`listen`] does, and returns where.
+fn listen_at(
+    rt: &(impl Files<File = File> + AllocGlobal + Net + Clock),
+    address: &str,
+    causes: &Causes,
+    unbound: &mut Record,
+) -> Result<(MioPorts, SocketAddr), Fault>
+    ensures log { IfOk result (λ bound. ⟦<MioPorts as Ports>⟧.log bound.0 ≡ listening address.now bound.1) }
+    ensures fault { IfErr result (λ fault. ((fault ≡ Fault.Socket)
+        × (IsUnbound address.now unbound.old.calls unbound.new.calls ⊎ ((earlier : List Noted) × (unbound.new.calls ≡ not_located ∷ earlier))))
+        ⊎ (fault ≡ Fault.OutOfMemory)) }
+{
+    let mut ports = listen(rt, address, causes, unbound)?;
+    let Ok(address) = ports.address(unbound) else {
+        return Err(Fault::Socket);
+    };
+    Ok((ports, address))
+}
+
+/// Makes a target and serves it at its address for `count` turns. The clause `ends` is about each configuration that
+/// describes what the target is made from.
+fn serve_setup<S: Start, W: Write>(
+    rt: &(impl Files<File = File> + AllocGlobal + Net + Clock),
+    setup: Setup<S>,
+    causes: &Causes,
+    count: u64,
+    left: &mut Left<S>,
+    writer: &mut W,
+) -> Result<(), Fault>
+    requires as_many { length setup.units.items ≡ length setup.config.targets.items }
+    requires unbound { left.old.unbound.calls ≡ [] }
+    requires logged { left.old.logged.calls ≡ [] }
+    ensures told { left.new.told.calls ≡ left.old.told.calls }
+    ensures streams { left.new.streams ≡ left.old.streams }
+    ensures ends { (document : Document) → string_bytes setup.config.listen ≡ document.listen → option_map string_bytes setup.log ≡ document.log
+        → map string_bytes setup.config.targets.items ≡ names_of document.targets → AreUnitsOf S.held document.targets setup.units.items
+        → ServesAt S.held (left_view ⟦<MioPorts as Ports>⟧.log left.new) (W.contents writer.old) (W.contents writer.new) count (Ok document) result }
+{
+    let (ports, address) = listen_at(rt, setup.config.listen.as_str(), causes, &mut left.unbound)?;
+    let Setup { config, log, units } = setup;
+    let mut target = Target::new(rt.alloc(), config, units)?;
+    let (ports, ended) = serve_logged(
+        rt,
+        address,
+        ports,
+        log,
+        &mut left.logged,
+        &mut target,
+        count,
+        writer,
+    );
+    left.keep_served(Served { ports, target });
+    ended
+}
+
 /// Serves the target that a configuration file with these contents describes, for `count` turns.
 fn serve_at<S: Start, W: Write>(
     rt: &(impl Files<File = File> + AllocGlobal + Net + Clock),
@@ -105,24 +163,8 @@ fn serve_at<S: Start, W: Write>(
     let alloc = rt.alloc();
     let configuration = file_config(alloc, contents)?;
     let causes = Causes::of(alloc, &configuration);
-    let Setup { config, log, units } = open_telling(rt, configuration, &mut left.refused, &causes)?;
-    let mut ports = listen(rt, config.listen.as_str(), &causes, &mut left.unbound)?;
-    let Ok(address) = ports.address(&mut left.unbound) else {
-        return Err(Fault::Socket);
-    };
-    let mut target = Target::new(alloc, config, units)?;
-    let (ports, ended) = serve_logged(
-        rt,
-        address,
-        ports,
-        log,
-        &mut left.logged,
-        &mut target,
-        count,
-        writer,
-    );
-    left.served = Some(Served { ports, target });
-    ended
+    let setup = open_telling(rt, configuration, &mut left.refused, &causes)?;
+    serve_setup(rt, setup, &causes, count, left, writer)
 }
 
 /// Runs the program with the words after its name, from the beginning to the end of the input or of the turns. `S`

@@ -25,3 +25,24 @@ returns-in-Ok-false-clause-reply g c = λ kind is s h stands.
 
 pub returns-in-Ok-true-clause-each : goal.returns-in-Ok-true-clause-each
 returns-in-Ok-true-clause-each g c = λ target sound. c.act.ensures.each target (c.print.ensures.each target sound)
+
+pub returns-in-Ok-true-clause-sure : goal.returns-in-Ok-true-clause-sure
+returns-in-Ok-true-clause-sure g c = λ sure. c.print.ensures.sure (c.act.ensures.sure sure)
+
+pub returns-in-Ok-false-clause-each : goal.returns-in-Ok-false-clause-each
+returns-in-Ok-false-clause-each g c = c.act.ensures.each
+
+pub returns-in-Ok-false-clause-sure : goal.returns-in-Ok-false-clause-sure
+returns-in-Ok-false-clause-sure g c = c.act.ensures.sure
+
+pub returns-in_err-print-in-Ok-true-clause-each : goal.returns-in_err-print-in-Ok-true-clause-each
+returns-in_err-print-in-Ok-true-clause-each g c = λ target sound. c.act.ensures.each target (c.print.ensures.each target sound)
+
+pub returns-in_err-print-in-Ok-true-clause-sure : goal.returns-in_err-print-in-Ok-true-clause-sure
+returns-in_err-print-in-Ok-true-clause-sure g c = λ sure. c.print.ensures.sure (c.act.ensures.sure sure)
+
+pub returns-clause-each : goal.returns-clause-each
+returns-clause-each g c = c.act.ensures.each
+
+pub returns-clause-sure : goal.returns-clause-sure
+returns-clause-sure g c = c.act.ensures.sure

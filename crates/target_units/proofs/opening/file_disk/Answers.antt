@@ -1,15 +1,29 @@
-use Rattle.std.proofs.Common.{◌≡◌, [], ◌∷◌, ap, subst, ◌∙◌, false, string_bytes, rules}
-use Rattle.media_store.specs.Calls.{Opened}
+use Rattle.std.proofs.Common.{◌≡◌, [], ◌∷◌, refl, sym, ap, subst, ◌∙◌, false, string_bytes}
+use Rattle.media_store.specs.Calls.{Opened, calls_of}
+use Rattle.media_store.specs.Opening.{IsRefused}
 use Rattle.media_store.specs.States.{FileState}
-use Rattle.media_block.specs.Blocks.{is_disk}
+use Rattle.media_block.specs.Blocks.{is_disk, disk_of}
 use Rattle.media_block.specs.Fault.{failures_after}
-use Rattle.target_units.proofs.RefusedUnits.{unfit_disk}
+use Rattle.target_config.specs.Configuration.{FileDisk}
+use Rattle.target_units.proofs.RefusedUnits.{unfit_disk, unopened_file}
 use Rattle.target_units.proofs.opening.file_disk.Goals as goal
 
 pub returns-in-Ok-open-clause-disk : goal.returns-in-Ok-open-clause-disk
 returns-in-Ok-open-clause-disk g c =
     let made = c.new.ensures (string_bytes c.args.path) (c.in-Ok.ensures.opened ∙ ap (λ path. Opened path ∷ []) c.as_str.ensures.value) in
-    search rules
+    record {
+      unfailed = c.in-Ok-open.ensures.failures ∙ ap (λ (s : FileState). s.failures) made;
+      whole = λ honest. ap (λ (s : FileState). is_disk s.content) (sym made) ∙ c.in-Ok-open.ensures.disk honest;
+      blocks = λ honest. c.in-Ok-open.ensures.blocks honest ∙ ap (λ (s : FileState). disk_of s.content) made;
+    }
+
+pub returns-clause-fault : goal.returns-clause-fault
+returns-clause-fault g c =
+    let left = c.in-Err.unopened in
+    unopened_file g.S.Start.held (FileDisk (string_bytes c.args.path))
+    (string_bytes c.args.path) c.args.lun left.error (calls_of left.noted.calls)
+    c.fault_of-fault.result refl (subst (λ path. IsRefused path (calls_of left.noted.calls)) c.as_str.ensures.value c.in-Err.ensures.refused)
+    c.fault_of-fault.ensures.memory c.fault_of-fault.ensures.other
 
 pub returns-in-Ok-clause-fault : goal.returns-in-Ok-clause-fault
 returns-in-Ok-clause-fault g c =

@@ -1,9 +1,29 @@
-use Rattle.target_config.specs.Configuration.{target_view, targets_view}
-use Rattle.std.proofs.Common.{refl, subst}
-use Rattle.target_units.specs.Opened.{IsTargetOf}
+use Rattle.std.proofs.Common.{◌≡◌, List, [], map, refl, sym, ap, subst, ◌∙◌}
+use Rattle.std.specs.Prelude.{Contains, string_bytes}
+use Rattle.std.specs.List.{list_all}
+use Rattle.std.specs.Vec.Iter.{into_iter_items}
+use Rattle.scsi_unit.specs.Units.{UnitStates}
+use Rattle.target_config.specs.Configuration.{target_view, targets_view, configuration_view}
+use Rattle.target_config.specs.Limits.{target_keeps}
+use Rattle.target_units.specs.Opened.{IsTargetOf, AreUnitsOf}
 use Rattle.target_units.specs.Unopened.{IsFaultIn}
-use Rattle.target_units.proofs.OpenedUnits.{each_view_more, targets_next, target_now, names_next}
+use Rattle.target_units.proofs.OpenedUnits.{each_view_more, all_kept, targets_next, target_kept, target_now, names_next}
 use Rattle.target_units.proofs.opening.open.Goals as goal
+
+pub loop-target-init : goal.loop-target-init
+loop-target-init g c =
+    let same : into_iter_items c.into_iter-target-iterator.result ≡ c.args.configuration.targets.items =
+    c.into_iter-target-iterator.ensures.into_iter_gives.0 in (
+      tt,
+      tt,
+      ap (λ targets. list_all target_keeps (targets_view targets)) same ∙ all_kept (configuration_view c.args.configuration) c.requires,
+      λ entry found. subst (λ targets. Contains (targets_view targets) entry) same found,
+      ap (map string_bytes) c.new-names.ensures.items,
+      subst (λ (units : List UnitStates). AreUnitsOf g.S.Start.held [] units) (sym c.new-units.ensures.items) tt,
+    )
+
+pub open_units-requires : goal.open_units-requires
+open_units-requires g c = target_kept _ _ c.in-Some.target c.in-Some.ensures.steps.0 c.loop-target.invariant.2
 
 pub loop-target-preserved : goal.loop-target-preserved
 loop-target-preserved g c =
