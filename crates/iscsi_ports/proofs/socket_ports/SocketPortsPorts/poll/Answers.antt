@@ -1,5 +1,8 @@
-use Rattle.std.proofs.Common.{◌≡◌, true, false, ap, ◌∙◌}
-use Rattle.iscsi_ports.specs.Asking.{rested}
+use Rattle.std.proofs.Common.{◌≡◌, true, false, ap, rules, ◌∙◌}
+use Rattle.std.specs.Prelude.{option_map}
+use Rattle.std.specs.Duration.{as_nanos}
+use Rattle.iscsi_ports.specs.Asking.{rested, wait_now}
+use Rattle.iscsi_ports.specs.Calls.{named_by}
 use Rattle.iscsi_ports.specs.declared.readiness.Readiness.{Readiness}
 use Rattle.iscsi_ports.proofs.Seeing.{seen_turns}
 use Rattle.iscsi_ports.proofs.Fairness.{fair}
@@ -15,3 +18,26 @@ returns-in-Ok-clause-fair g c =
     let same : c.note_carried.new.self ≡ rested c.args.self.now = rw c.is_to_ask-asks.ensures.same at c.note_carried.ensures in
     let seen = seen_turns (g.K.SocketCalls.events c.poll-answer.new.self) c.note_carried.new.self in
     fair true (rested c.args.self.now) _ c.poll-answer.new.readiness (seen ∙ ap (λ (r : Readiness). r.turns) same) c.in-Ok.ensures.turn
+
+pub returns-in-Ok-clause-asked : goal.returns-in-Ok-clause-asked
+returns-in-Ok-clause-asked g c =
+    let noted = c.poll-answer.ensures.noted in
+    let limit : option_map as_nanos c.to_wait-wait.result ≡ wait_now c.args.self.now = search rules in
+    λ _. (
+      noted.0,
+      rw limit at noted.1,
+      (named_by c.poll-answer.result c.poll-answer.new.readiness.named, rw c.is_to_ask-asks.ensures.same at noted.2),
+    )
+
+pub returns-in-Err-clause-asked : goal.returns-in-Err-clause-asked
+returns-in-Err-clause-asked g c =
+    let noted = c.poll-answer.ensures.noted in
+    let limit : option_map as_nanos c.to_wait-wait.result ≡ wait_now c.args.self.now = search rules in
+    λ _. (
+      noted.0,
+      rw limit at noted.1,
+      (named_by c.poll-answer.result c.poll-answer.new.readiness.named, rw c.is_to_ask-asks.ensures.same at noted.2),
+    )
+
+pub returns-then-not-asks-clause-known : goal.returns-then-not-asks-clause-known
+returns-then-not-asks-clause-known g c = search rules
