@@ -1,9 +1,10 @@
-use Rattle.std.proofs.Common.{◌≡◌, ℕ, ◌*◌, ◌++◌, min, List, take, length, replicate, inl, inr, ap, sym, ◌∙◌, arith}
+use Rattle.std.proofs.Common.{◌≡◌, ℕ, ◌*◌, ◌++◌, min, Result, Ok, Err, OnOk, OnErr, List, take, length, replicate, inl, inr, ap, sym, ◌∙◌, arith}
 use Rattle.std.proofs.lemmas.List.{append-nil, length-take-le}
 use Rattle.std.proofs.lemmas.Result.{on_ok_weaker, on_err_weaker}
 use Rattle.media_store.proofs.Outcomes.{OnErr-always}
-use Rattle.media_store.specs.Content.{written}
-use Rattle.media_tape.proofs.Writes.{written-behind}
+use Rattle.media_store.specs.Content.{written, KeepsOutside}
+use Rattle.media_tape.specs.Writing.{KeepsBefore}
+use Rattle.media_tape.proofs.Writes.{written-behind, KeepsBefore-trans, KeepsBefore-put, KeepsBefore-torn}
 use Rattle.media_tape.proofs.write.write_objects.Goals as goal
 
 pub returns-in_err-cut_at-clause-between : goal.returns-in_err-cut_at-clause-between
@@ -41,3 +42,23 @@ returns-in-Filemarks-clause-between g c =
       parts.1 ∙ ap (λ (xs : List ℕ). xs ++ replicate {A = ℕ} (min (4096 * parts.0) (8 * count)) 0) cut
           ∙ ap (λ (n : ℕ). take place old ++ replicate {A = ℕ} n 0) many,
     )) c.write_zeros.ensures.between
+
+-- the front stays, whether the write succeeded or failed
+keeps : {T E : Type 0} (result : Result T E) (place : ℕ) (bytes old new : List ℕ) → OnOk result (new ≡ written place bytes old)
+    → OnErr result (KeepsOutside place (length bytes) old new) → KeepsBefore place old new
+keeps (Ok value) place bytes old new done torn = KeepsBefore-put place place bytes old new (omega arith) done
+keeps (Err fault) place bytes old new done torn = KeepsBefore-torn place place (length bytes) old new (omega arith) torn
+
+pub returns-in-Records-clause-keeps : goal.returns-in-Records-clause-keeps
+returns-in-Records-clause-keeps g c =
+    KeepsBefore-trans c.args.place _ _ _ c.in_ok-cut_at.ensures.keeps
+    (keeps c.write_at.result c.args.place c.deref.result.now _ _ c.write_at.ensures.written c.write_at.ensures.torn)
+
+pub returns-in-Filemarks-clause-keeps : goal.returns-in-Filemarks-clause-keeps
+returns-in-Filemarks-clause-keeps g c =
+    KeepsBefore-trans c.args.place _ _ _ c.in_ok-cut_at.ensures.keeps c.write_zeros.ensures.keeps
+
+pub returns-in-Records-clause-succeeds : goal.returns-in-Records-clause-succeeds
+returns-in-Records-clause-succeeds g c =
+    rw c.in-Records.is (λ steady fits. c.write_at.ensures.grows (c.in_ok-cut_at.ensures.steady ∙ steady)
+    (omega (arith, fits, c.in_ok-cut_at.ensures.reach, ap length c.deref.ensures.value)))

@@ -1,4 +1,4 @@
-use Rattle.std.proofs.Common.{sym, ◌∙◌}
+use Rattle.std.proofs.Common.{sym, ◌∙◌, rules}
 use Rattle.media_store.specs.Replay.{origin_by}
 use Rattle.media_store.proofs.Tries.{synced-content, synced-honest, synced-tested, synced-counted, failed-unsynced}
 use Rattle.media_store.proofs.file.FileStoreStore.sync.Goals as goal
@@ -26,3 +26,6 @@ pub returns-clause-failures : goal.returns-clause-failures
 returns-clause-failures g c =
     let origin = origin_by g.S.Start.held g.S.Start.torn in
     rw (← c.self.view_is) (synced-counted origin _ _ c.sync.result c.sync.ensures)
+
+pub returns-clause-refused : goal.returns-clause-refused
+returns-clause-refused g c = search rules

@@ -1,4 +1,5 @@
-use Rattle.std.proofs.Common.{◌≡◌, ◌≤◌, length, take, sum, ap, refl, arith, ◌∙◌, true, false, IsTrue, inl}
+use Rattle.std.proofs.Common.{◌≡◌, ◌≤◌, length, take, sum, ap, refl, sym, arith, ◌∙◌, true, false, IsTrue, inl}
+use Rattle.std.proofs.lemmas.Bool.{false≢true}
 use Rattle.std.proofs.lemmas.List.{append-nil, length-take-le}
 use Rattle.std.proofs.lemmas.List.Sums.{sum_by-take-le}
 use Rattle.media_tape.proofs.Indexed.{are_cut, cut_left, cut_indexed}
@@ -13,7 +14,7 @@ invariant_of-self g c =
     let keeps = rw c.place_of-place.ensures at c.cut_at.ensures.keeps in
     rw (c.truncate.ensures.sizes, c.cut_at.ensures.honest)
     (cut_indexed (g.S.Store.honest old.store) old.is_torn true (g.S.Store.content old.store) old.index.sizes (g.S.Store.content c.cut_at.new.store)
-    old.position old.capacity c.self.invariant keeps (λ none. absurd cc))
+    old.position old.capacity c.self.invariant keeps (λ none. absurd (false≢true (sym none))))
 
 pub returns-in_err-cut_at-clause-failed : goal.returns-in_err-cut_at-clause-failed
 returns-in_err-cut_at-clause-failed g c =
@@ -21,7 +22,7 @@ returns-in_err-cut_at-clause-failed g c =
     let keeps = rw c.place_of-place.ensures at c.cut_at.ensures.keeps in
     rw (← c.self.view_is) (OnErr-always c.from_residual.result (λ honest.
     let are = cut_left (g.S.Store.content old.store) old.index.sizes (g.S.Store.content c.cut_at.new.store) old.is_torn true old.position
-    (c.self.invariant.are_in honest) c.self.invariant.within keeps (λ none. absurd cc) in
+    (c.self.invariant.are_in honest) c.self.invariant.within keeps (λ none. absurd (false≢true (sym none))) in
     let kept = c.cut_at.ensures in
     rw (c.truncate.ensures.sizes, are.before, append-nil (take old.position _), are.after, c.in_err-cut_at.ensures.unsynced)
     (rw (c.in_err-cut_at.ensures.failures, kept.honest, kept.steady, kept.reach, kept.atomic) refl)))
@@ -41,7 +42,7 @@ whole g c honest =
     let place = sum (take old.position old.index.sizes) in
     let cut = rw c.place_of-place.ensures at c.in_ok-cut_at.ensures.cut in
     let within : place ≤ length content = omega (arith, sum_by-take-le (λ n. n) old.index.sizes old.position, (c.self.invariant.are_in honest).long) in
-    ap length (cut within (λ longer. absurd cc)) ∙ length-take-le place content within
+    ap length (cut within (λ longer. absurd (false≢true (sym longer)))) ∙ length-take-le place content within
 
 pub invariant_of-self-2 : goal.invariant_of-self-2
 invariant_of-self-2 g c =

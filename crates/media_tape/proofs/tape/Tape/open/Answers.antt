@@ -1,4 +1,4 @@
-use Rattle.std.proofs.Common.{◌≡◌, ◌≤◌, ℕ, List, length, take, map, sum, sym, ap, ◌∙◌, arith}
+use Rattle.std.proofs.Common.{◌≡◌, ◌≤◌, ℕ, List, length, take, map, sum, refl, sym, ap, ◌∙◌, arith}
 use Rattle.std.proofs.lemmas.List.{take_all}
 use Rattle.media_tape.specs.Items.{items_sized, items_of, size}
 use Rattle.media_tape.proofs.Sized.{items_sized-is, sizes-sized}
@@ -80,3 +80,6 @@ returns-clause-after g c honest =
     ∙ ap (λ (xs : List ℕ). map size (items_of (take c.in-Ok.end xs))) walked.content ∙ sym parsed in
     items_sized-is sizes content (omega (arith, total, ap length walked.content, long)) parse
     ∙ ap items_of (take_all (sum sizes) content (omega (arith, total, ap length walked.content, long)) ∙ same)
+
+pub returns-clause-before : goal.returns-clause-before
+returns-clause-before g c = refl

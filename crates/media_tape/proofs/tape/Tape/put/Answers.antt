@@ -1,4 +1,5 @@
 use Rattle.std.proofs.Common.{◌≡◌, ◌+◌, ◌*◌, ◌≤◌, ◌++◌, length, take, sum, map, nat_lt, ℕ, All, IsTrue, true, false, refl, sym, ap, ◌∙◌, arith}
+use Rattle.std.proofs.lemmas.Bool.{false≢true}
 use Rattle.std.proofs.lemmas.List.{length-map, length-append, length-take-le, append-nil}
 use Rattle.std.proofs.lemmas.List.Elements.{All-append, All-take}
 use Rattle.std.proofs.lemmas.List.Sums.{sum_by-take-le}
@@ -159,14 +160,14 @@ invariant_of-self-in-Err g c =
     let keeps = rw c.place_of-place.ensures at c.in-Err.ensures.keeps in
     rw (c.truncate.ensures.sizes, c.in_ok-reserve_one.ensures.sizes, c.in-Err.ensures.honest)
     (cut_indexed (g.S.Store.honest old.store) old.is_torn true (g.S.Store.content old.store) old.index.sizes
-    (g.S.Store.content c.write_objects.new.store) old.position old.capacity c.self.invariant keeps (λ none. absurd cc))
+    (g.S.Store.content c.write_objects.new.store) old.position old.capacity c.self.invariant keeps (λ none. absurd (false≢true (sym none))))
 
 pub returns-in-Err-clause-failed : goal.returns-in-Err-clause-failed
 returns-in-Err-clause-failed g c honest =
     let old = c.self.inside in
     let keeps = rw c.place_of-place.ensures at c.in-Err.ensures.keeps in
     let are = cut_left (g.S.Store.content old.store) old.index.sizes (g.S.Store.content c.write_objects.new.store) old.is_torn true old.position
-    (c.self.invariant.are_in (rw (← c.self.view_is) at honest)) c.self.invariant.within keeps (λ none. absurd cc) in
+    (c.self.invariant.are_in (rw (← c.self.view_is) at honest)) c.self.invariant.within keeps (λ none. absurd (false≢true (sym none))) in
     let kept = c.in-Err.ensures in
     rw (← c.self.view_is, c.truncate.ensures.sizes, c.in_ok-reserve_one.ensures.sizes, are.before, append-nil (take old.position _), are.after)
     (rw (kept.unsynced, kept.failures, kept.honest, kept.steady, kept.reach, kept.atomic) refl)
