@@ -1,6 +1,6 @@
-use Rattle.std.proofs.Common.{◌≡◌, ℕ, List, ◌++◌, length, take, refl, sym, ap, ◌∙◌, subst, arith}
+use Rattle.std.proofs.Common.{◌≡◌, ℕ, Err, List, ◌++◌, length, take, refl, sym, ap, ◌∙◌, subst, arith}
 use Rattle.iscsi_pdu.specs.Parts.{HoldsOne}
-use Rattle.iscsi_pdu.proofs.Fronts.{Fronted, fronted_by, front_takes, front_long, one_within, one_long, TakenBack, taken_back}
+use Rattle.iscsi_pdu.proofs.Fronts.{Fronted, fronted_by, front_takes, front_long, one_within, one_long, no_fault, only_memory, TakenBack, taken_back}
 use Rattle.iscsi_pdu.proofs.framer.Framer.take.Goals as goal
 
 pub take_more-requires-clause-within : goal.take_more-requires-clause-within
@@ -37,14 +37,14 @@ returns-in-Ok-clause-too_long c =
     c.put.new.header.items c.min.result c.self.view_is c.self.invariant (omega arith) c.split_at.ensures.front c.split_at.ensures.back c.put.ensures in
     let same = front_long c.args.self.now c.args.piece.now c.split_at.result.0.now c.split_at.result.1.now (c.put.new.header.items ++
     c.self.inside.behind) fr in
-    (λ e. absurd (cc (e)), λ long. absurd (cc (c.in-Ok.ensures.too_long.1 (sym same ∙ long))))
+    (λ e. absurd (no_fault e), λ long. absurd (no_fault (c.in-Ok.ensures.too_long.1 (sym same ∙ long))))
 
 pub returns-in-Err-TooLong-clause-one : goal.returns-in-Err-TooLong-clause-one
 returns-in-Err-TooLong-clause-one c =
     let fr : Fronted c.args.self.now c.args.piece.now c.split_at.result.0.now c.split_at.result.1.now (c.put.new.header.items ++ c.self.inside.behind) =
     fronted_by c.args.self.now c.self.inside.header.items c.self.inside.behind c.args.piece.now c.split_at.result.0.now c.split_at.result.1.now
     c.put.new.header.items c.min.result c.self.view_is c.self.invariant (omega arith) c.split_at.ensures.front c.split_at.ensures.back c.put.ensures in
-    let long = c.in-Err-TooLong.ensures.too_long.0 (cc (c.in-Err-TooLong.field-0-is)) in
+    let long = c.in-Err-TooLong.ensures.too_long.0 (ap Err c.in-Err-TooLong.field-0-is) in
     subst HoldsOne (sym c.in-Err-TooLong.ensures.err) (one_long c.args.self.now c.args.piece.now c.split_at.result.0.now c.split_at.result.1.now
     (c.put.new.header.items ++ c.self.inside.behind) fr c.requires long)
 
@@ -53,7 +53,7 @@ returns-in-Err-TooLong-clause-too_long c =
     let fr : Fronted c.args.self.now c.args.piece.now c.split_at.result.0.now c.split_at.result.1.now (c.put.new.header.items ++ c.self.inside.behind) =
     fronted_by c.args.self.now c.self.inside.header.items c.self.inside.behind c.args.piece.now c.split_at.result.0.now c.split_at.result.1.now
     c.put.new.header.items c.min.result c.self.view_is c.self.invariant (omega arith) c.split_at.ensures.front c.split_at.ensures.back c.put.ensures in
-    let long = c.in-Err-TooLong.ensures.too_long.0 (cc (c.in-Err-TooLong.field-0-is)) in (
+    let long = c.in-Err-TooLong.ensures.too_long.0 (ap Err c.in-Err-TooLong.field-0-is) in (
       λ e. front_long c.args.self.now c.args.piece.now c.split_at.result.0.now c.split_at.result.1.now (c.put.new.header.items ++ c.self.inside.behind)
           fr ∙ long,
       λ _. refl,
@@ -77,8 +77,10 @@ returns-in-Err-Memory-clause-too_long c =
     fronted_by c.args.self.now c.self.inside.header.items c.self.inside.behind c.args.piece.now c.split_at.result.0.now c.split_at.result.1.now
     c.put.new.header.items c.min.result c.self.view_is c.self.invariant (omega arith) c.split_at.ensures.front c.split_at.ensures.back c.put.ensures in
     let same = front_long c.args.self.now c.args.piece.now c.split_at.result.0.now c.split_at.result.1.now (c.put.new.header.items ++
-    c.self.inside.behind) fr in
-    (λ e. absurd (cc (e)), λ long. absurd (cc (c.in-Err-Memory.ensures.too_long.1 (sym same ∙ long), c.in-Err-Memory.field-0-is)))
+    c.self.inside.behind) fr in (
+      λ e. absurd (only_memory _ refl e),
+      λ long. absurd (only_memory _ c.in-Err-Memory.field-0-is (c.in-Err-Memory.ensures.too_long.1 (sym same ∙ long))),
+    )
 
 pub returns-in-Err-Memory-clause-memory : goal.returns-in-Err-Memory-clause-memory
 returns-in-Err-Memory-clause-memory c =

@@ -1,5 +1,6 @@
 use Rattle.std.proofs.Common.{◌≡◌, true, false, refl, sym, ◌∙◌, arith}
-use Rattle.iscsi_pdu.proofs.Fronts.{short_waits, short_one, out_by, not_long, is_longer, no_header_long, only_memory}
+use Rattle.std.proofs.lemmas.Bool.{false≢true}
+use Rattle.iscsi_pdu.proofs.Fronts.{short_waits, short_one, out_by, not_long, is_longer, no_header_long, no_fault, only_memory}
 use Rattle.iscsi_pdu.proofs.framer.Framer.take_more.Goals as goal
 
 pub returns-in_default-clause-part : goal.returns-in_default-clause-part
@@ -11,7 +12,7 @@ returns-in_default-clause-one c = short_one c.args.self.now c.in_default.ensures
 pub returns-in_default-clause-too_long : goal.returns-in_default-clause-too_long
 returns-in_default-clause-too_long c =
     let none = no_header_long c.args.self.now c.in_default.ensures.none in
-    (λ e. absurd (cc (e)), λ long. absurd (cc (none, long)))
+    (λ e. absurd (no_fault e), λ long. absurd (false≢true (sym none ∙ long)))
 
 pub returns-then-data_length-gt-MOST_DATA-clause-too_long : goal.returns-then-data_length-gt-MOST_DATA-clause-too_long
 returns-then-data_length-gt-MOST_DATA-clause-too_long c =
@@ -27,7 +28,7 @@ lend-requires-clause-out c =
 pub returns-then-is_data_out-clause-too_long : goal.returns-then-is_data_out-clause-too_long
 returns-then-is_data_out-clause-too_long c =
     let short = not_long c.args.self.now _ c.in-Some.ensures.some.0 (omega arith) in
-    (λ e. absurd (cc (e)), λ long. absurd (cc (short, long)))
+    (λ e. absurd (no_fault e), λ long. absurd (false≢true (sym short ∙ long)))
 
 pub gather-requires-clause-within : goal.gather-requires-clause-within
 gather-requires-clause-within c = c.requires.within (not_long c.args.self.now _ c.in-Some.ensures.some.0 (omega arith))
@@ -39,4 +40,4 @@ gather-requires-clause-other c =
 pub returns-clause-too_long : goal.returns-clause-too_long
 returns-clause-too_long c =
     let short = not_long c.args.self.now _ c.in-Some.ensures.some.0 (omega arith) in
-    (λ e. absurd (only_memory c.gather.result c.gather.ensures.memory e), λ long. absurd (cc (short, long)))
+    (λ e. absurd (only_memory c.gather.result c.gather.ensures.memory e), λ long. absurd (false≢true (sym short ∙ long)))
