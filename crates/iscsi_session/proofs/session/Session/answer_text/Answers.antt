@@ -1,4 +1,4 @@
-use Rattle.std.proofs.Common.{◌≡◌, ◌∷◌, List, ℕ, drop, true, ap, subst, ◌∙◌}
+use Rattle.std.proofs.Common.{◌≡◌, ◌∷◌, List, ℕ, drop, true, ap, subst, ◌∙◌, arith}
 use Rattle.iscsi_pdu.specs.Frames.{Frame}
 use Rattle.iscsi_exchange.specs.Exchange.{hears}
 use Rattle.iscsi_session.specs.Requests.{Past, frame_of, frames_of, due}
@@ -7,6 +7,7 @@ use Rattle.iscsi_session.specs.Runs.{ActsAs, output}
 use Rattle.iscsi_session.specs.State.{SessionState, Stands, standing}
 use Rattle.iscsi_session.proofs.Answered.{seen, first_due, same_head, some_due, stands_other_kind, text_no_command}
 use Rattle.iscsi_session.proofs.session.Session.answer_text.Goals as goal
+use Rattle.std.proofs.lemmas.Grind.{common_steps}
 
 pub returns-in_default-clause-acts : goal.returns-in_default-clause-acts
 returns-in_default-clause-acts c luns past k rest s is e orders =
@@ -38,3 +39,6 @@ returns-clause-acts c luns past k rest s is e orders =
     let told = c.told.view_is ∙ c.in_ok-told.ensures.told ∙ ap (λ (f : Frame). hears c.self.inside.exchange f c.self.inside.params) at in
     subst (λ (bytes : List ℕ). ActsAs luns k past c.answer_told-2.result c.answer_told-2.new.self (output bytes orders) (output c.answer_told-2.new.out.items orders))
     c.in_ok-reserve-2.ensures.items (c.answer_told-2.ensures.acts luns past k rest c.self.inside.exchange known is e told orders)
+
+pub answer_told-requires-clause-room : goal.answer_told-requires-clause-room
+answer_told-requires-clause-room c = grind (arith, common_steps)
