@@ -18,7 +18,7 @@ def needs_rt(tool):
 def one_job_each():
     """The environment in which `rt ci` proves each crate by one process, and as many crates side by side as there are processors
     and memory for. Left to itself it has several processes share a crate while others wait for it, and each of them loads the
-    same libraries: a proof then costs up to twice the processors' time."""
+    same libraries. The proof of iscsi_outbox then costs 1.2 times the processors' time."""
     lines = Path("/proc/meminfo").read_text(encoding="ascii").splitlines()
     free = next(1024 * int(line.split()[1]) for line in lines if line.startswith("MemAvailable:"))
     jobs = max(1, min(len(os.sched_getaffinity(0)), free // PROOF))
