@@ -67,10 +67,11 @@ no_header_long bytes short =
       | inr none ↦ none
     ]
 
--- out of memory is another fault
+-- what succeeded is no fault
 pub no_fault : {T : Type 0} {value : T} → Ok value ≡ Err faults.TooLong → ⊥
 no_fault e = cc
 
+-- out of memory is another fault
 pub only_memory : {T : Type 0} (r : Result T PduFault) → IfErr r (λ fault. fault ≡ faults.Memory) → r ≡ Err faults.TooLong → ⊥
 only_memory (Ok x) memory e = absurd (cc (e))
 only_memory (Err fault) memory e = absurd (cc (memory, e))
