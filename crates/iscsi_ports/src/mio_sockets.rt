@@ -250,11 +250,12 @@ impl SocketCalls for MioSockets {
         &mut self,
         readiness: &mut Readiness,
         c: usize,
+        room: usize,
         buffer: &mut [u8],
     ) -> Result<usize, SocketFailure> {
-        let answer = self.read_some(readiness, c, buffer);
+        let answer = self.read_front(readiness, c, room, buffer);
         if answer.is_ok() {
-            self.bulk[c] = is_bulk(buffer.len(), self.bulk[c]);
+            self.bulk[c] = is_bulk(room, self.bulk[c]);
         }
         readiness.ready_again(c, self.count_ahead(c) > 0);
         answer

@@ -35,6 +35,19 @@ pub trait Ports {
         ensures log { tells self.new ≡ true → log self.new ≡ log self.old ++ Read c (length buffer.new) (carried_by result buffer.new) ∷ [] }
         ensures back { tells self.new ≡ true → tells self.old ≡ true };
 
+    /// Reads like [`read`](Ports::read) into the first `room` bytes of the buffer. Ports may use the rest of it for
+    /// bytes that the next reads return.
+    fn read_front(&mut self, c: usize, room: usize, buffer: &mut [u8]) -> IoResult
+        requires in_range { c < 64 }
+        requires room { room ≤ length buffer.old }
+        ensures count { count_of result ≤ room }
+        ensures long { length buffer.new ≡ length buffer.old }
+        ensures log { tells self.new ≡ true → log self.new ≡ log self.old ++ Read c room (carried_by result buffer.new) ∷ [] }
+        ensures back { tells self.new ≡ true → tells self.old ≡ true }
+    {
+        self.read(c, &mut buffer[..room])
+    }
+
     /// Writes a front of these bytes to a connection.
     fn write(&mut self, c: usize, bytes: &[u8]) -> IoResult
         requires { c < 64 }

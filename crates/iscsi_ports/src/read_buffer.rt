@@ -1,6 +1,6 @@
 //! Bytes of a connection that the system gave and that were not handed on yet.
 
-ghost use Rattle.std.specs.Prelude.{◌≡◌, ◌≤◌, min, length, take, drop, IfOk};
+ghost use Rattle.std.specs.Prelude.{◌≡◌, ◌≤◌, [], min, length, take, drop, vec_capacity, IfOk};
 ghost use Rattle.iscsi_ports.specs.ReadBuffer.{bytes_in};
 
 use std::alloc::{AllocError, Global};
@@ -75,6 +75,25 @@ impl ReadBuffer {
             from: 0,
             to: bytes.len(),
         })
+    }
+
+    /// Puts bytes that are ahead, if there are any, into an empty buffer that has the room.
+    pub(crate) fn filled(mut few: Vec<u8>, bytes: &[u8]) -> Option<ReadBuffer>
+        requires empty { few.items ≡ [] }
+        requires room { length bytes.now ≤ vec_capacity few }
+        ensures { bytes_in result ≡ bytes.now }
+    {
+        if bytes.is_empty() {
+            return None;
+        }
+        match few.extend_from_slice(bytes) {
+            Ok(()) => Some(ReadBuffer {
+                buffer: few,
+                from: 0,
+                to: bytes.len(),
+            }),
+            Err(AllocError) => None,
+        }
     }
 
     /// Returns the buffer for a later read, if it is a whole one.

@@ -1,6 +1,6 @@
 //! The calls of the system on a listener and its connections.
 
-ghost use Rattle.std.specs.Prelude.{◌≡◌, ◌<◌, ◌≤◌, ◌++◌, ◌∷◌, ℕ, List, [], length, Option, option_map, OnOk, OnErr};
+ghost use Rattle.std.specs.Prelude.{◌≡◌, ◌<◌, ◌≤◌, ◌++◌, ◌∷◌, ℕ, List, [], length, Option, option_map, IfOk, OnOk, OnErr};
 ghost use Rattle.std.specs.Duration.{as_nanos};
 ghost use Rattle.std.specs.Io.{WritesAtMost};
 ghost use Rattle.iscsi_ports.specs.Log.{Read};
@@ -56,19 +56,23 @@ pub trait SocketCalls {
         requires { c < 64 }
         ensures { result ≡ length (ahead self.now c) };
 
-    /// Reads into the front of the buffer: what is ahead, or else what the system gives.
+    /// Reads into the first `room` bytes of the buffer: what is ahead, or else what the system gives, for which all of the
+    /// buffer may be used.
     fn read(
         &mut self,
         readiness: &mut Readiness,
         c: usize,
+        room: usize,
         buffer: &mut [u8],
     ) -> Result<usize, SocketFailure>
-        requires { c < 64 }
-        ensures count { WritesAtMost result buffer.new }
+        requires in_range { c < 64 }
+        requires room { room ≤ length buffer.old }
+        ensures count { IfOk result (λ count. count ≤ room) }
+        ensures long { length buffer.new ≡ length buffer.old }
         ensures told { log_by (calls self.new) ≡ log_by (calls self.old)
-            ++ Read c (length buffer.new) (read_carried (moved result buffer.new)) ∷ [] }
+            ++ Read c room (read_carried (moved result buffer.new)) ∷ [] }
         ensures unasked { unasked_in (calls self.new) ≡ unasked_in (calls self.old) }
-        ensures readiness { IsReadBy c (length buffer.new) (length (ahead self.old c)) (length (ahead self.new c)) result
+        ensures readiness { IsReadBy c room (length (ahead self.old c)) (length (ahead self.new c)) result
             readiness.old readiness.new };
 
     /// Writes a front of these bytes.

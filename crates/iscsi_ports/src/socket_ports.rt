@@ -142,7 +142,7 @@ fn accept_told(answer: Result<bool, SocketFailure>) -> Result<Accepted, PortFaul
 
 /// Returns what a read came to. No bytes are the end of the stream.
 fn read_told(answer: Result<usize, SocketFailure>) -> IoResult
-    ensures count { (buffer : List ℕ) → WritesAtMost answer buffer → count_of result ≤ length buffer }
+    ensures count { (room : ℕ) → IfOk answer (λ count. count ≤ room) → count_of result ≤ room }
     ensures told { (buffer : List ℕ) → WritesAtMost answer buffer → carried_by result buffer ≡ read_carried (moved answer buffer) }
 {
     match answer {
@@ -304,7 +304,23 @@ impl<K: SocketCalls + Drop> Ports for SocketPorts<K> {
             × (self.new ≡ after_reading c answer (length (K.ahead self.new.sockets c)) self.new.sockets self.new.readiness self.old) }
         ensures in_time { AsksInTime (K.calls self.old.sockets) self.old → AsksInTime (K.calls self.new.sockets) self.new }
     {
-        let answer = self.sockets.read(&mut self.readiness, c, buffer);
+        self.read_front(c, buffer.len(), buffer)
+    }
+
+    fn read_front(&mut self, c: usize, room: usize, buffer: &mut [u8]) -> IoResult
+        requires in_range { c < 64 }
+        requires room { room ≤ length buffer.old }
+        ensures count { count_of result ≤ room }
+        ensures long { length buffer.new ≡ length buffer.old }
+        ensures log { log_by (K.calls self.new.sockets) ≡ log_by (K.calls self.old.sockets)
+            ++ Read c room (carried_by result buffer.new) ∷ [] }
+        ensures after { (answer : Result ℕ SocketFailure) × (carried_by result buffer.new ≡ read_carried (moved answer buffer.new))
+            × IsReadBy c room (length (K.ahead self.old.sockets c)) (length (K.ahead self.new.sockets c)) answer
+            self.old.readiness self.new.readiness
+            × (self.new ≡ after_reading c answer (length (K.ahead self.new.sockets c)) self.new.sockets self.new.readiness self.old) }
+        ensures in_time { AsksInTime (K.calls self.old.sockets) self.old → AsksInTime (K.calls self.new.sockets) self.new }
+    {
+        let answer = self.sockets.read(&mut self.readiness, c, room, buffer);
         self.after_read(c, answer);
         read_told(answer)
     }

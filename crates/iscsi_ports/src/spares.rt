@@ -3,7 +3,7 @@
 //! A buffer that is kept lies above memory that was freed since, which then stays with the process. So all are dropped once
 //! the process is idle: a poll waits no longer than a second while one is kept, and drops them if it met no event.
 
-ghost use Rattle.std.specs.Prelude.{◌≡◌, ◌≢◌, ◌≤◌, ◌<◌, [], true, false, length, option_map, IsSome};
+ghost use Rattle.std.specs.Prelude.{◌≡◌, ◌≢◌, ◌≤◌, ◌<◌, [], true, false, length, option_map, vec_capacity, IsSome, IfSome};
 ghost use Rattle.std.specs.Duration.{as_nanos};
 ghost use Rattle.iscsi_ports.specs.ReadBuffer.{bytes_in};
 ghost use Rattle.iscsi_ports.specs.Spares as spares;
@@ -120,6 +120,14 @@ impl Spares {
             }
             Err(AllocError) => Some(ahead),
         }
+    }
+
+    /// Makes an empty buffer with room for `count` bytes, for what may come after the room of a reader. None if an allocation fails.
+    pub(crate) fn few(&self, count: usize) -> Option<Vec<u8>>
+        ensures empty { IfSome result (λ few. few.items ≡ []) }
+        ensures room { IfSome result (λ few. vec_capacity few ≡ count) }
+    {
+        Vec::with_capacity(self.alloc, count).ok()
     }
 
     /// Returns for how long a poll waits that would wait for this long: no longer than a second while a buffer is kept.

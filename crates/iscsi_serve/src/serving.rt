@@ -21,6 +21,12 @@ use target_limits::CONNECTIONS;
 /// The most bytes that a read has room for.
 const MOST_READ: usize = 65_536;
 
+/// The length in bytes of a header (RFC 7143 §11.2.1).
+const HEADER: usize = 48;
+
+/// A buffer for a read, and for the next header after it.
+type ReadBuffer = [u8; MOST_READ + HEADER];
+
 /// Returns the lowest free number, or 64 if there is none.
 fn free_number<S: Store>(target: &Target<S>) -> usize
     ensures value { result ≡ lowest_free target.now }
@@ -98,23 +104,40 @@ fn room_for<S: Store>(target: &Target<S>, named: &Named, c: usize) -> usize
     target.want(c).min(MOST_READ)
 }
 
-/// Reads a piece from a connection and feeds it.
+/// Returns where the buffer ends for a read with this room: after one more header if a PDU ends in the room, so that the
+/// ports need no read for that alone.
+fn end_of<S: Store>(target: &Target<S>, c: usize, room: usize) -> usize
+    requires in_range { c < 64 }
+    requires open { is_open_at target.now c ≡ true }
+    requires bound { room ≤ 65536 }
+    ensures least { room ≤ result }
+    ensures most { result ≤ 65584 }
+{
+    if room == MOST_READ && target.want(c) > MOST_READ {
+        return room;
+    }
+    room + HEADER
+}
+
+/// Reads a piece from a connection, of at most `room` bytes, and feeds it.
 fn read_piece<P: Ports, S: Store>(
     ports: &mut P,
     target: &mut Target<S>,
-    piece: &mut [u8],
+    buffer: &mut [u8],
+    room: usize,
     ended: &mut [bool; CONNECTIONS],
     c: usize,
 )
     requires in_range { c < 64 }
     requires open { is_open_at target.old c ≡ true }
-    ensures { (named : Named) → IsDue named c (length piece.old) target.old → StepsBy (Reads named c) (P.tells ports.old) (P.tells ports.new)
+    requires room { room ≤ length buffer.old }
+    ensures { (named : Named) → IsDue named c room target.old → StepsBy (Reads named c) (P.tells ports.old) (P.tells ports.new)
         (P.log ports.old) (P.log ports.new) target.old target.new ended.old ended.new }
 {
-    match ports.read(c, piece) {
+    match ports.read_front(c, room, buffer) {
         IoResult::Bytes(0) => {}
         IoResult::Bytes(count) => {
-            let starved = feed(target, c, &piece[..count]);
+            let starved = feed(target, c, &buffer[..count]);
             tell_starved(ports, starved);
         }
         IoResult::End | IoResult::Fault => ended[c] = true,
@@ -126,7 +149,7 @@ fn read_one<P: Ports, S: Store>(
     ports: &mut P,
     target: &mut Target<S>,
     named: &Named,
-    buffer: &mut [u8; MOST_READ],
+    buffer: &mut ReadBuffer,
     ended: &mut [bool; CONNECTIONS],
     c: usize,
 )
@@ -136,7 +159,8 @@ fn read_one<P: Ports, S: Store>(
 {
     let room = room_for(target, named, c);
     if room > 0 {
-        read_piece(ports, target, &mut buffer[..room], ended, c);
+        let end = end_of(target, c, room);
+        read_piece(ports, target, &mut buffer[..end], room, ended, c);
     }
 }
 
@@ -211,7 +235,7 @@ fn read_all<P: Ports, S: Store>(
     ports: &mut P,
     target: &mut Target<S>,
     named: &Named,
-    buffer: &mut [u8; MOST_READ],
+    buffer: &mut ReadBuffer,
     ended: &mut [bool; CONNECTIONS],
 )
     ensures { StepsBy (InOrder (Reads named.now) connections) (P.tells ports.old) (P.tells ports.new)
@@ -302,7 +326,7 @@ fn carry<P: Ports, S: Store>(
     ports: &mut P,
     target: &mut Target<S>,
     named: &Named,
-    buffer: &mut [u8; MOST_READ],
+    buffer: &mut ReadBuffer,
 )
     ensures carries { P.tells ports.new ≡ true → (before turn : List Entry) → P.log ports.old ≡ before ++ turn → AreEnded none_ended turn
         → (after : List Entry) × (P.log ports.new ≡ before ++ after) × Carries named.now (moment target.old before turn) (moment target.new before after) }
@@ -318,7 +342,7 @@ fn carry<P: Ports, S: Store>(
 fn turn_with<P: Ports, S: Store>(
     ports: &mut P,
     target: &mut Target<S>,
-    buffer: &mut [u8; MOST_READ],
+    buffer: &mut ReadBuffer,
 ) -> Result<(), ServeFault>
     ensures turned { P.tells ports.new ≡ true
         → (m : Moment) × (P.log ports.new ≡ log_of m) × (target.new ≡ m.target) × EndsTurn (beginning target.old (P.log ports.old)) result m }
@@ -360,7 +384,7 @@ pub fn turn<P: Ports, S: Store>(ports: &mut P, target: &mut Target<S>) -> Result
     ensures each { ReflectsSoundness target.old target.new }
     ensures sure { IsSure target.old → IsSure target.new }
 {
-    let mut buffer = [0; MOST_READ];
+    let mut buffer = [0; MOST_READ + HEADER];
     turn_with(ports, target, &mut buffer)
 }
 
@@ -381,7 +405,7 @@ pub fn turns<P: Ports, S: Store>(
     ensures each { ReflectsSoundness target.old target.new }
     ensures sure { IsSure target.old → IsSure target.new }
 {
-    let mut buffer = [0; MOST_READ];
+    let mut buffer = [0; MOST_READ + HEADER];
     for _ in 0..count {
         turn_with(ports, target, &mut buffer)?;
     }

@@ -87,7 +87,11 @@ impl<P: Ports + Peers + Drop, O: Observer + Drop> Ports for ObservedPorts<P, O> 
     }
 
     fn read(&mut self, c: usize, buffer: &mut [u8]) -> IoResult {
-        let result = self.ports.read(c, buffer);
+        self.read_front(c, buffer.len(), buffer)
+    }
+
+    fn read_front(&mut self, c: usize, room: usize, buffer: &mut [u8]) -> IoResult {
+        let result = self.ports.read_front(c, room, buffer);
         match result {
             IoResult::Bytes(count) => self.observer.read(c, &buffer[..count]),
             IoResult::End => self.observer.ended(c, false),

@@ -8,63 +8,62 @@ use Rattle.iscsi_serve.proofs.serving.read_piece.Goals as goal
 
 pub returns-in-Bytes-eq0 : goal.returns-in-Bytes-eq0
 returns-in-Bytes-eq0 g c = λ named due.
-    (let same : length c.read.new.buffer ≡ length c.args.piece.now = search rules in
     record {
       keeps =
-          keeps_told _ _ _ _ _ (Read c.args.c (length c.args.piece.now) (Bytes [])) refl (λ rows. refl) c.read.ensures.back
-          (λ tells. rw (c.in-Bytes-eq0.field-0-test, same) at (c.in-Bytes-eq0.ensures.log tells));
+          keeps_told _ _ _ _ _ (Read c.args.c c.args.room (Bytes [])) refl (λ rows. refl) c.read_front.ensures.back
+          (λ tells. rw c.in-Bytes-eq0.field-0-test at (c.in-Bytes-eq0.ensures.log tells));
       goes = λ tells.
-          read_none _ _ _ named _ c.args.c (length c.args.piece.now) due
-          (rw (c.in-Bytes-eq0.field-0-test, same) at (c.in-Bytes-eq0.ensures.log tells));
-    })
+          read_none _ _ _ named _ c.args.c c.args.room due
+          (rw c.in-Bytes-eq0.field-0-test at (c.in-Bytes-eq0.ensures.log tells));
+    }
 
 pub returns-in-Bytes : goal.returns-in-Bytes
 returns-in-Bytes g c = λ named due.
-    (let same : length c.read.new.buffer ≡ length c.args.piece.now = search rules in
-    let piece = take c.in-Bytes.count c.read.new.buffer in
-    let count : length piece ≡ c.in-Bytes.count = length-take-le c.in-Bytes.count c.read.new.buffer c.in-Bytes.ensures.count in
+    (let within : c.in-Bytes.count ≤ length c.read_front.new.buffer =
+    omega (arith, c.in-Bytes.ensures.count, c.read_front.ensures.long, c.requires.room) in
+    let piece = take c.in-Bytes.count c.read_front.new.buffer in
+    let count : length piece ≡ c.in-Bytes.count = length-take-le c.in-Bytes.count c.read_front.new.buffer within in
     let below : 0 < c.in-Bytes.count = search rules in
     let some : 0 < length piece = omega (arith, below, count) in
-    let fits : length piece ≤ length c.args.piece.now = omega (arith, count, same, c.in-Bytes.ensures.count) in
+    let fits : length piece ≤ c.args.room = omega (arith, count, c.in-Bytes.ensures.count) in
     let told = sym c.tell_starved.ensures.tells in
     let log = c.tell_starved.ensures.log in
     record {
       keeps = record {
-        back = λ tells. c.read.ensures.back (told ∙ tells);
+        back = λ tells. c.read_front.ensures.back (told ∙ tells);
         each = c.feed-starved.ensures.each;
         sure = c.feed-starved.ensures.sure;
         served = λ tells sound.
-            read_stays MayHappen _ _ _ _ c.args.c (length c.args.piece.now) piece some (log ∙ rw same at (c.in-Bytes.ensures.log (told ∙ tells)))
+            read_stays MayHappen _ _ _ _ c.args.c c.args.room piece some (log ∙ c.in-Bytes.ensures.log (told ∙ tells))
             (c.feed-starved.ensures.stands sound);
         came = λ tells.
-            read_stays (MayComeOut c.feed-starved.new.target) _ _ _ _ c.args.c (length c.args.piece.now) piece some (log ∙ rw same at (c.in-Bytes.ensures.log (told ∙ tells)))
+            read_stays (MayComeOut c.feed-starved.new.target) _ _ _ _ c.args.c c.args.room piece some (log ∙ c.in-Bytes.ensures.log (told ∙ tells))
             (fed_comes_out _ _ _ _ c.feed-starved.ensures.fed);
         bounded = (let room = due.is_room in c.feed-starved.ensures.bounded (omega (arith, fits, room)));
       };
       goes = λ tells.
-          read_some _ _ _ _ named _ c.args.c (length c.args.piece.now) piece due some fits (log ∙ rw same at (c.in-Bytes.ensures.log (told ∙ tells)))
+          read_some _ _ _ _ named _ c.args.c c.args.room piece due some fits (log ∙ c.in-Bytes.ensures.log (told ∙ tells))
           c.feed-starved.ensures.feeds c.feed-starved.ensures.fed;
     })
 
 pub returns-in-End : goal.returns-in-End
 returns-in-End g c = λ named due.
     (let long : length c.args.ended.now ≡ 64 = search rules in
-    let same : length c.read.new.buffer ≡ length c.args.piece.now = search rules in
     elim c.in-End.is [
       | inl is ↦ record {
         keeps =
-            keeps_told _ _ _ _ _ (Read c.args.c (length c.args.piece.now) End) refl (λ rows. refl) c.read.ensures.back
-            (λ tells. rw (is, same) at (c.read.ensures.log tells));
+            keeps_told _ _ _ _ _ (Read c.args.c c.args.room End) refl (λ rows. refl) c.read_front.ensures.back
+            (λ tells. rw is at (c.read_front.ensures.log tells));
         goes = λ tells.
-            read_ended _ _ _ named _ c.args.c (length c.args.piece.now) End c.requires.in_range long due refl
-            (rw (is, same) at (c.read.ensures.log tells));
+            read_ended _ _ _ named _ c.args.c c.args.room End c.requires.in_range long due refl
+            (rw is at (c.read_front.ensures.log tells));
       }
       | inr is ↦ record {
         keeps =
-            keeps_told _ _ _ _ _ (Read c.args.c (length c.args.piece.now) Fault) refl (λ rows. refl) c.read.ensures.back
-            (λ tells. rw (is, same) at (c.read.ensures.log tells));
+            keeps_told _ _ _ _ _ (Read c.args.c c.args.room Fault) refl (λ rows. refl) c.read_front.ensures.back
+            (λ tells. rw is at (c.read_front.ensures.log tells));
         goes = λ tells.
-            read_ended _ _ _ named _ c.args.c (length c.args.piece.now) Fault c.requires.in_range long due refl
-            (rw (is, same) at (c.read.ensures.log tells));
+            read_ended _ _ _ named _ c.args.c c.args.room Fault c.requires.in_range long due refl
+            (rw is at (c.read_front.ensures.log tells));
       }
     ])
