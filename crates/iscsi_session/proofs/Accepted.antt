@@ -17,11 +17,11 @@ use Rattle.iscsi_order.specs.Serial.{distance}
 use Rattle.iscsi_order.proofs.Front.{front, front_come, front_missing}
 use Rattle.iscsi_order.proofs.Held.{prefix_range}
 use Rattle.iscsi_order.proofs.Standing.{front_more, front_within, lawful_with as window_with}
-use Rattle.iscsi_session.specs.Requests.{Request, pending, unfinished, is_function, functions, Past, request_at, frame_of, is_in, left, is_command, commands, others, counted, over, numbered, place_of, taken, taken_at, numbers, due, queue, frames_of, begun}
-use Rattle.iscsi_session.specs.State.{TaskLists, functions_of, standing, bare, bare_frames, bared, frame_numbered, tasks_with, tasks_of, AreDistinct, IsDelivered, IsLawful, holding, takes_next, takes, takes_all}
-use Rattle.iscsi_session.proofs.Left.{filter_cong, map_cong, left_append, left_all, in_at, in_front, in_left, in_filter, not_by, below_of, apart_behind, distinct_push, prefix_marks}
+use Rattle.iscsi_requests.specs.Requests.{Request, pending, unfinished, is_function, functions, Past, request_at, frame_of, is_in, left, is_command, commands, others, counted, over, numbered, place_of, taken, taken_at, numbers, due, queue, frames_of, begun}
+use Rattle.iscsi_requests.specs.State.{TaskLists, functions_of, standing, bare, bare_frames, bared, frame_numbered, tasks_with, tasks_of, AreDistinct, IsDelivered, IsLawful, holding, takes_next, takes, takes_all}
+use Rattle.iscsi_requests.proofs.Left.{filter_cong, map_cong, left_append, left_all, in_at, in_front, in_left, in_filter, not_by, below_of, apart_behind, distinct_push, prefix_marks}
 use Rattle.iscsi_session.proofs.Kept.{joined, Below, tags_with, functions_below, functions_joined as functions_with, settled_below, drained_joined, tags_joined, kind_same}
-use Rattle.iscsi_session.specs.Transfers.{tag_of}
+use Rattle.iscsi_requests.specs.Transfers.{tag_of}
 use Rattle.iscsi_session.proofs.Taken.{request_before, request_new, taken_more, taken_below, distinct_taken, first_of, taken_now, frame_missing, frame_marked, frame_other, frame_now, counted_places, frames_come}
 use Rattle.iscsi_session.proofs.Standing.{numbered_standing, place_standing, length_standing, standing_joined}
 

@@ -14,18 +14,18 @@ use Rattle.iscsi_transfer.specs.WriteData.{remembered as task_of}
 use Rattle.iscsi_order.specs.Window as order
 use Rattle.iscsi_order.specs.Window.{taken as taken_numbers}
 use Rattle.scsi_unit.specs.Units.{numbers_of}
-use Rattle.iscsi_session.specs.declared.verdict.Verdict.{Verdict}
-use Rattle.iscsi_session.specs.declared.verdict.Verdict.TheVariants.{Ignored, Dropped, Rejected, Violating, Accepted, Feeding}
-use Rattle.iscsi_session.specs.Requests.{Request, Past, drain_for, frame_of, is_command, is_function, is_in, left, numbers, held, due, queue, unfinished, pending as awaiting, functions, moved, removing, draining, answering, stamp, number_for, DataOut, SentR2t}
-use Rattle.iscsi_session.specs.Functions.{plug, plugged, reached, plugs, awaited, drained_functions, told, told_answers, function_result}
-use Rattle.iscsi_session.specs.Judging.{verdict, judged, reject}
-use Rattle.iscsi_session.specs.Transfers.{command_with, fed, task_at, asking, r2ts_of, r2t_answers, sent_for}
-use Rattle.iscsi_session.specs.Texts.{exchange_of}
+use Rattle.iscsi_requests.specs.declared.verdict.Verdict.{Verdict}
+use Rattle.iscsi_requests.specs.declared.verdict.Verdict.TheVariants.{Ignored, Dropped, Rejected, Violating, Accepted, Feeding}
+use Rattle.iscsi_requests.specs.Requests.{Request, Past, drain_for, frame_of, is_command, is_function, is_in, left, numbers, held, due, queue, unfinished, pending as awaiting, functions, moved, removing, draining, answering, stamp, number_for, DataOut, SentR2t}
+use Rattle.iscsi_requests.specs.Functions.{plug, plugged, reached, plugs, awaited, drained_functions, told, told_answers, function_result}
+use Rattle.iscsi_requests.specs.Judging.{verdict, judged, reject}
+use Rattle.iscsi_requests.specs.Transfers.{command_with, fed, task_at, asking, r2ts_of, r2t_answers, sent_for}
+use Rattle.iscsi_requests.specs.Texts.{exchange_of}
 use Rattle.iscsi_session.specs.Acts.{reach_of, act_answers, ended, behind, acted}
-use Rattle.iscsi_session.specs.State.{IsLawful, tasks_of, holding, takes_all}
+use Rattle.iscsi_requests.specs.State.{IsLawful, tasks_of, holding, takes_all}
 use Rattle.iscsi_session.specs.Steps.{Work, judge, act, ask, tell}
 use Rattle.iscsi_session.specs.Weight.{request_weight, pending, IsWithinLimits}
-use Rattle.iscsi_session.proofs.Left.{left_append, left_more, is_in_append, in_left}
+use Rattle.iscsi_requests.proofs.Left.{left_append, left_more, is_in_append, in_left}
 use Rattle.iscsi_session.proofs.Kept.{command_no_function, function_no_command, unfinished_without, functions_without}
 use Rattle.iscsi_session.proofs.Moved.{not_pending, due_came}
 use Rattle.iscsi_session.proofs.Accepted.{with}

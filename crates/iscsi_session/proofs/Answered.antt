@@ -19,24 +19,25 @@ use Rattle.iscsi_order.specs.Window as order
 use Rattle.iscsi_order.specs.declared.window.CommandNumbers.{CommandNumbers}
 use Rattle.iscsi_order.specs.Stat.{stat_sn}
 use Rattle.iscsi_login.specs.declared.values.Values.{Values}
-use Rattle.iscsi_session.specs.Judging.{reserved_tag, reject}
-use Rattle.iscsi_session.specs.Requests.{pending, Request, Past, frame_of, frames_of, is_in, left, is_command, is_function, functions, due, queue, finished, moved, numbers, bears_status, bearing, statuses, stamp, answering}
-use Rattle.iscsi_session.specs.State.{SessionState, standing, bare, bare_frames, TaskLists, TransferList, IsLawful, Stands, functions_of, one_fewer, removed_at, place_for, function_place, function_removed}
-use Rattle.iscsi_session.specs.Transfers.{tag_of}
+use Rattle.iscsi_requests.specs.Judging.{reserved_tag, reject}
+use Rattle.iscsi_requests.specs.Requests.{pending, Request, Past, frame_of, frames_of, is_in, left, is_command, is_function, functions, due, queue, finished, moved, numbers, bears_status, bearing, statuses, stamp, answering}
+use Rattle.iscsi_requests.specs.State.{SessionState, standing, bare, bare_frames, TaskLists, TransferList, IsLawful, Stands, functions_of, one_fewer, removed_at, place_for, function_place, function_removed}
+use Rattle.iscsi_requests.specs.Transfers.{tag_of}
 use Rattle.iscsi_pdu.specs.declared.task_management_response.TaskResult.{TaskResult}
-use Rattle.iscsi_session.specs.Functions.{own_reach, awaited, function_result, function_answer}
+use Rattle.iscsi_requests.specs.Functions.{own_reach, awaited, function_result, function_answer}
+use Rattle.iscsi_requests.proofs.Heads.{same_head}
 use Rattle.iscsi_session.specs.Runs.{Output, ActsAs, ActsFirst}
 use Rattle.iscsi_session.specs.declared.act.Act.{Act}
 use Rattle.iscsi_session.specs.declared.act.Act.TheVariants.{Idle, Taken, Ended}
 use Rattle.iscsi_session.specs.Acts.{acted, reach_of, ended, behind, act_answers, ordered, act_answers_by, acted_answers, ends, ends_by, closes, logout_answer, ping_answers}
 use Rattle.iscsi_exchange.specs.ExchangeState.{ExchangeState}
 use Rattle.iscsi_exchange.specs.Exchange.{TextPiece, ToldState, hears}
-use Rattle.iscsi_session.specs.Texts.{is_text, exchange_behind, exchange_of, text_answer}
+use Rattle.iscsi_requests.specs.Texts.{is_text, exchange_behind, exchange_of, text_answer}
 use Rattle.iscsi_session.proofs.Parts.{exchange_acted, exchange_other, exchange_text, text_kind, not_text, exchange_as, parts, due_is, queue_is, stands_tasks, stands_parts}
 use Rattle.iscsi_session.proofs.Kept.{function_no_command, command_no_function, functions_distinct, other_not_pending}
 use Rattle.iscsi_session.proofs.Standing.{bare_other, standing_kept, stands_as, stands_void}
 use Rattle.iscsi_session.proofs.Over.{removed_command}
-use Rattle.iscsi_session.proofs.Places.{Located, found_self, remove_map}
+use Rattle.iscsi_requests.proofs.Places.{Located, found_self, remove_map}
 use Rattle.iscsi_session.proofs.Feeding.{removed_is, headers_are, function_located}
 use Rattle.iscsi_session.proofs.Moved.{not_pending, due_came, stays_other, lawful_command, tasks_command, tasks_gone, transfers_command, functions_command, lawful_other, tasks_other, transfers_other, functions_acted, functions_kept, functions_left, functions_of_finished, due_function, lawful_finished, tasks_finished}
 
@@ -206,12 +207,6 @@ text_no_function frame e = false_from_ne_true (is_function frame) (λ h. absurd 
 same_functions : (past : Past) (state : SessionState) (k : ℕ) → Stands past state → is_function (frame_of past.came k) ≡ false
     → state.functions ≡ functions_of (finished k past)
 same_functions past state k s e = grind (arith, parts, functions_kept, other_not_pending)
-
-pub same_head : (a b : Frame) (x y l : List Frame) → l ≡ a ∷ x → l ≡ b ∷ y → a ≡ b
-same_head a b x y l p q = let both : a ∷ x ≡ b ∷ y = sym p ∙ q in cc
-
-pub same_tail : (a b : Frame) (x y l : List Frame) → l ≡ a ∷ x → l ≡ b ∷ y → x ≡ y
-same_tail a b x y l p q = let both : a ∷ x ≡ b ∷ y = sym p ∙ q in cc
 
 -- where it stands among the functions
 pub function_at : (past : Past) (k : ℕ) (at : Option ℕ) → IsLawful past → is_in k (functions past) ≡ true

@@ -10,64 +10,25 @@ use Rattle.iscsi_transfer.specs.WriteData.{WriteDataState, remembered as task_of
 use Rattle.iscsi_transfer.specs.declared.progress.Ask.{Ask}
 use Rattle.iscsi_transfer.proofs.Standing.{remembered-asked}
 use Rattle.iscsi_transfer.proofs.Due.{sent_is_due_no_more}
-use Rattle.iscsi_session.specs.declared.transfers.Transfer.{Transfer}
-use Rattle.iscsi_session.specs.Requests.{Past, SentR2t, frame_of, is_in, due, queue, unfinished, stamp, statuses, bearing, functions}
-use Rattle.iscsi_session.specs.Transfers.{outs_of, tags_of, data_past, task_at, asks_of, is_due_of, asking, next_transfer_tag, drains_of, r2t_for, r2ts_for, r2ts_of, r2t_answers, sent_for, asked, asked_by, r2ts_by}
-use Rattle.iscsi_session.specs.State.{SessionState, AreDrained, drained_of, IsLawful, Stands, tasks_of, transfers_of, transfer_of, transfer_at, no_transfer, asking_place, r2ts_at, sent_at, sent_to, functions_of, standing}
+use Rattle.iscsi_requests.specs.declared.transfers.Transfer.{Transfer}
+use Rattle.iscsi_requests.specs.Requests.{Past, SentR2t, frame_of, is_in, due, queue, unfinished, stamp, statuses, bearing, functions}
+use Rattle.iscsi_requests.specs.Transfers.{outs_of, tags_of, data_past, task_at, asks_of, is_due_of, asking, next_transfer_tag, drains_of, r2t_for, r2ts_for, r2ts_of, r2t_answers, sent_for, asked, asked_by, r2ts_by}
+use Rattle.iscsi_requests.specs.State.{SessionState, AreDrained, drained_of, IsLawful, Stands, tasks_of, transfers_of, transfer_of, transfer_at, no_transfer, asking_place, r2ts_at, sent_at, sent_to, functions_of, standing}
 use Rattle.iscsi_session.specs.Steps.{ready, ready_in}
 use Rattle.iscsi_session.specs.Laws.{R2tsAreSentAtOnce}
 use Rattle.iscsi_order.specs.Stat.{stat_sn}
-use Rattle.iscsi_session.proofs.Left.{in_at, in_filter}
-use Rattle.iscsi_session.proofs.Places.{in_get, Located, located, index_map, first_passes, none_passes}
+use Rattle.iscsi_requests.proofs.Sent.{transfer_tag, length-r2ts, sent_none, sent_then, one_less}
+use Rattle.iscsi_requests.proofs.Left.{in_at, in_filter}
+use Rattle.iscsi_requests.proofs.Places.{in_get, Located, located, index_map, first_passes, none_passes}
 use Rattle.iscsi_session.proofs.Kept.{unfinished_came}
 use Rattle.iscsi_session.proofs.Parts.{parts}
 use Rattle.iscsi_session.proofs.Feeding.{list_is, list_changed, drains_kept}
 use Rattle.iscsi_session.proofs.Runs.{lawful_data, statuses_answering}
-use Rattle.iscsi_session.specs.Texts.{exchange_of}
-
--- ---- R2Ts for some parts of the data of a command
-
-abbrev pub transfer_tag : R2t → ℕ
-transfer_tag r2t = r2t.target_transfer_tag
-
-pub length-r2ts : (header : List ℕ) (tag : ℕ) (numbers : Stamp) (asks : List Ask) → length (r2ts_for header tag numbers asks) ≡ length asks
-length-r2ts header tag numbers [] = refl
-length-r2ts header tag numbers (ask ∷ asks) = ap suc (length-r2ts header ((tag + 1) % 0xFFFFFFFF) numbers asks)
+use Rattle.iscsi_requests.specs.Texts.{exchange_of}
 
 pub r2ts_counted : (past : Past) (k : ℕ) → length (r2ts_of past k) ≡ length (asks_of past k)
 unfolding r2ts_of
 r2ts_counted past k = length-r2ts (frame_of past.came k).header (next_transfer_tag past) (stamp past) (asks_of past k)
-
--- ---- what a task makes of them
-
-abbrev no_tags : List ℕ
-no_tags = []
-
-pub sent_none : (task : WriteDataState) → with_asked [] task ≡ task
-unfolding with_asked
-sent_none task =
-    let same : task.sent + 0 ≡ task.sent = omega arith in
-    ap (λ (l : List ℕ). record task { sent = task.sent + 0; open_tags = task.open_tags ++ l }) (drop_all (filled task - task.sent) no_tags (omega arith))
-    ∙ ap (λ (l : List ℕ). record task { sent = task.sent + 0; open_tags = l }) (append-nil task.open_tags)
-    ∙ ap (λ (k : ℕ). record task { sent = k }) same
-
-after_one : (n m : ℕ) (open_tags : List ℕ) (tag : ℕ) (tags : List ℕ) → m ≡ n - 1
-    → (open_tags ++ drop n (tag ∷ [])) ++ drop m tags ≡ open_tags ++ drop n (tag ∷ tags)
-after_one zero m open_tags tag tags e =
-    let none : m ≡ 0 = omega (arith, e) in
-    ap (λ (k : ℕ). (open_tags ++ tag ∷ []) ++ drop k tags) none ∙ append_assoc open_tags (tag ∷ []) tags
-after_one (suc n) m open_tags tag tags e =
-    let less : m ≡ n = omega (arith, e) in
-    ap (λ (k : ℕ). (open_tags ++ drop n no_tags) ++ drop k tags) less
-    ∙ ap (λ (l : List ℕ). (open_tags ++ l) ++ drop n tags) (drop_all n no_tags (omega arith))
-    ∙ ap (λ (l : List ℕ). l ++ drop n tags) (append-nil open_tags)
-
-pub sent_then : (task : WriteDataState) (tag : ℕ) (tags : List ℕ) → with_asked tags (with_asked (tag ∷ []) task) ≡ with_asked (tag ∷ tags) task
-unfolding with_asked
-sent_then task tag tags = grind (arith, after_one)
-
-pub one_less : (task : WriteDataState) (ask : Ask) (asks : List Ask) (tag : ℕ) → due_asks task ≡ ask ∷ asks → due_asks (with_asked (tag ∷ []) task) ≡ asks
-one_less task ask asks tag e = sent_is_due_no_more task tag ∙ ap (drop 1) e
 
 -- where all that are due are sent, none is due
 pub all_sent : (task : WriteDataState) (asks : List Ask) (tags : List ℕ) → due_asks task ≡ asks → length tags ≡ length asks

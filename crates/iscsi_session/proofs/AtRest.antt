@@ -2,9 +2,9 @@
 use Rattle.std.proofs.Common.{◌≡◌, ℕ, zero, suc, ◌+◌, ◌*◌, ◌≤◌, List, [], ◌∷◌, length, Bool, true, false, cond, not, refl, arith, ◌-◌, ◌<◌, ◌==◌, get_or, Option, None, Result, Ok, Err, sym, ap, subst, ◌∙◌}
 use Rattle.iscsi_pdu.specs.Header.{header_length, is_immediate}
 use Rattle.iscsi_pdu.specs.Frames.{Frame}
-use Rattle.iscsi_session.specs.Requests.{Past, due, begun, no_request, frame_of, request_at, is_command, is_in, left, commands, others, numbers, numbered, held, queue, unfinished, pending as awaiting, functions, finished, removing, stamp, counted, over, taken, place_of}
-use Rattle.iscsi_session.specs.Functions.{drained_functions, FunctionReach, reached}
-use Rattle.iscsi_session.specs.Transfers.{asking}
+use Rattle.iscsi_requests.specs.Requests.{Past, due, begun, no_request, frame_of, request_at, is_command, is_in, left, commands, others, numbers, numbered, held, queue, unfinished, pending as awaiting, functions, finished, removing, stamp, counted, over, taken, place_of}
+use Rattle.iscsi_requests.specs.Functions.{drained_functions, FunctionReach, reached}
+use Rattle.iscsi_requests.specs.Transfers.{asking}
 use Rattle.iscsi_session.specs.Steps.{Step, Judging, Taking, Asking, Answering, Work, reaches, take_step, judge, act, ask, tell, first_steps, one_by_one, waiting_in, act_all, ask_due, tell_due, taken_in, asked_in, served, begun_work, answered_command, is_serving}
 use Rattle.iscsi_session.specs.Weight.{request_weight, IsWithinLimits, open_requests, IsAtRest, Eases, Loads}
 use Rattle.iscsi_session.proofs.Holding.{pending_in, fewer_still, filter_fewer, waits_in, pending_is, pending_finished, pending_removing, immediate_of, immediate_less}
@@ -26,10 +26,10 @@ use Rattle.iscsi_session.specs.Comings.{TargetUnits}
 use Rattle.iscsi_login.specs.Values.{AreInRange}
 use Rattle.iscsi_login.specs.declared.session_params.SessionParams.{SessionParams}
 use Rattle.iscsi_session.specs.Answers.{command_answers}
-use Rattle.iscsi_session.specs.State.{SessionState, AreDistinct, IsLawful, Stands, remembered}
+use Rattle.iscsi_requests.specs.State.{SessionState, AreDistinct, IsLawful, Stands, remembered}
 use Rattle.iscsi_session.specs.Runs.{Output, Starts, is_failed, Runs, Stops, AnswersAs}
 use Rattle.iscsi_session.proofs.Answered.{none_due, queue_first}
-use Rattle.iscsi_session.proofs.Left.{filter_cong, in_at, in_left_back, distinct_filter, distinct_left, passes_in, below_of, in_filter, in_filter_back, distinct_front}
+use Rattle.iscsi_requests.proofs.Left.{filter_cong, in_at, in_left_back, distinct_filter, distinct_left, passes_in, below_of, in_filter, in_filter_back, distinct_front}
 use Rattle.iscsi_session.proofs.Kept.{unfinished_without, queue_unfinished, functions_without, functions_distinct, functions_below, command_not_pending, Below}
 use Rattle.iscsi_session.proofs.Moved.{lawful_finished, is_done}
 use Rattle.iscsi_session.proofs.Telling.{pending_finished as waits_finished}

@@ -15,18 +15,18 @@ use Rattle.iscsi_order.specs.Window.{taken as taken_numbers}
 use Rattle.iscsi_transfer.specs.WriteData.{first, is_due, is_asked}
 use Rattle.iscsi_transfer.specs.declared.progress.Ask.{Ask}
 use Rattle.scsi_unit.specs.Units.{numbers_of}
-use Rattle.iscsi_session.specs.declared.transfers.Transfer.{Transfer}
-use Rattle.iscsi_session.specs.declared.verdict.Verdict.{Verdict}
-use Rattle.iscsi_session.specs.declared.verdict.Verdict.TheVariants.{Ignored, Dropped, Rejected, Violating, Accepted, Feeding}
-use Rattle.iscsi_session.specs.Requests.{Request, Past, Drain, begun, drain_for, draining, frame_of, frames_of, is_in, is_command, is_function, left, pending, taken, numbers, due, queue, unfinished, moved, finished, accepted, removing, answering, number_for}
-use Rattle.iscsi_session.specs.Transfers.{outs_of, tags_of, task_at, is_due_of, is_asked_of, asking, asked, command_with, fed}
-use Rattle.iscsi_session.specs.Functions.{FunctionReach, reached, awaited, plug, plugs, lacks, drained_functions, told, told_answers}
-use Rattle.iscsi_session.specs.Judging.{verdict, judged, is_refused}
+use Rattle.iscsi_requests.specs.declared.transfers.Transfer.{Transfer}
+use Rattle.iscsi_requests.specs.declared.verdict.Verdict.{Verdict}
+use Rattle.iscsi_requests.specs.declared.verdict.Verdict.TheVariants.{Ignored, Dropped, Rejected, Violating, Accepted, Feeding}
+use Rattle.iscsi_requests.specs.Requests.{Request, Past, Drain, begun, drain_for, draining, frame_of, frames_of, is_in, is_command, is_function, left, pending, taken, numbers, due, queue, unfinished, moved, finished, accepted, removing, answering, number_for}
+use Rattle.iscsi_requests.specs.Transfers.{outs_of, tags_of, task_at, is_due_of, is_asked_of, asking, asked, command_with, fed}
+use Rattle.iscsi_requests.specs.Functions.{FunctionReach, reached, awaited, plug, plugs, lacks, drained_functions, told, told_answers}
+use Rattle.iscsi_requests.specs.Judging.{verdict, judged, is_refused}
 use Rattle.iscsi_session.specs.Acts.{reach_of, act_answers, ended, behind}
-use Rattle.iscsi_session.specs.State.{IsLawful, AreDistinct, standing, tasks_with, tasks_of, transfer_of, weight, waiting}
+use Rattle.iscsi_requests.specs.State.{IsLawful, AreDistinct, standing, tasks_with, tasks_of, transfer_of, weight, waiting}
 use Rattle.iscsi_session.specs.Steps.{Step, Judging, Taking, Asking, Answering, Doing, Work, reaches, take_step, judge, act, act_all, ask, tell, finish, first_steps, one_by_one, waiting_in, ask_due, tell_due, taken_in, asked_in, served, ready, settled}
 use Rattle.iscsi_session.specs.Laws.{NothingIsDue, NothingStaysDue}
-use Rattle.iscsi_session.proofs.Left.{in_at, in_filter, in_filter_back, in_left, in_left_back, in_back, not_gone, passes_in, is_in_append, left_more}
+use Rattle.iscsi_requests.proofs.Left.{in_at, in_filter, in_filter_back, in_left, in_left_back, in_back, not_gone, passes_in, is_in_append, left_more}
 use Rattle.iscsi_session.proofs.Kept.{joined, function_no_command, unfinished_came, unfinished_joined, unfinished_without, queue_unfinished, transfer_joined, drains_apart, drain_commands_below}
 use Rattle.iscsi_session.proofs.Standing.{standing_kept}
 use Rattle.iscsi_session.proofs.Accepted.{finished_below, removed_below, with}

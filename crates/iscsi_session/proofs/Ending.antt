@@ -7,11 +7,11 @@ use Rattle.iscsi_order.specs.Window.{taken as taken_numbers, window}
 use Rattle.iscsi_order.specs.WindowState as windows
 use Rattle.iscsi_order.specs.Serial.{distance, is_at_most}
 use Rattle.iscsi_order.proofs.Standing.{window_is}
-use Rattle.iscsi_session.specs.Requests.{Past, numbers, Request, draining, frame_of, is_command, is_function, numbered, place_of, unfinished, finished, moved, removing}
-use Rattle.iscsi_session.specs.declared.transfers.Transfer.{Transfer}
-use Rattle.iscsi_session.specs.Functions.{plug, plugged, FunctionReach, scope, awaited, reaches, reached, is_plug, is_plugged, refers_back, abort_finds, plugs, plugs_by}
-use Rattle.iscsi_session.specs.State.{SessionState, TaskLists, IsLawful, Stands, tasks_of, transfers_of, functions_of, is_vacant, holding, takes_all, void, standing, frame_numbered, transfer_of, one_fewer, without, transfers_without, reaches_some, held_numbered, is_some_plug}
-use Rattle.iscsi_session.proofs.Left.{both_true}
+use Rattle.iscsi_requests.specs.Requests.{Past, numbers, Request, draining, frame_of, is_command, is_function, numbered, place_of, unfinished, finished, moved, removing}
+use Rattle.iscsi_requests.specs.declared.transfers.Transfer.{Transfer}
+use Rattle.iscsi_requests.specs.Functions.{plug, plugged, FunctionReach, scope, awaited, reaches, reached, is_plug, is_plugged, refers_back, abort_finds, plugs, plugs_by}
+use Rattle.iscsi_requests.specs.State.{SessionState, TaskLists, IsLawful, Stands, tasks_of, transfers_of, functions_of, is_vacant, holding, takes_all, void, standing, frame_numbered, transfer_of, one_fewer, without, transfers_without, reaches_some, held_numbered, is_some_plug}
+use Rattle.iscsi_requests.proofs.Left.{both_true}
 use Rattle.iscsi_session.proofs.Kept.{joined, function_no_command, transfers_joined, unfinished_other}
 use Rattle.iscsi_session.proofs.Parts.{exchange_joined, parts, stands_tasks, ahead_of}
 use Rattle.iscsi_session.proofs.Accepted.{HasFreeTag, IsAhead, finished_below, removed_below, functions_of_joined, with, lawful_with, held_now}
@@ -20,12 +20,12 @@ use Rattle.std.specs.List.{list_any, range_with_len}
 use Rattle.std.proofs.lemmas.List.{nil_from_length, get_or_past}
 use Rattle.std.proofs.lemmas.List.FromFn.{get_or-map-range_with_len, length-map-range_with_len}
 use Rattle.iscsi_pdu.specs.TaskManagement.{ref_cmd_sn}
-use Rattle.iscsi_session.specs.declared.abort_scope.Scope.{Scope}
-use Rattle.iscsi_session.specs.declared.abort_scope.Scope.TheVariants as scopes
+use Rattle.iscsi_requests.specs.declared.abort_scope.Scope.{Scope}
+use Rattle.iscsi_requests.specs.declared.abort_scope.Scope.TheVariants as scopes
 use Rattle.iscsi_pdu.specs.Frames.{Frame}
-use Rattle.iscsi_session.specs.declared.aborted.Aborted.{Aborted}
-use Rattle.iscsi_session.specs.declared.aborted.Aborted.TheVariants.{Live, Missing, Plugged, Nothing}
-use Rattle.iscsi_session.specs.Transfers.{is_asked_of}
+use Rattle.iscsi_requests.specs.declared.aborted.Aborted.{Aborted}
+use Rattle.iscsi_requests.specs.declared.aborted.Aborted.TheVariants.{Live, Missing, Plugged, Nothing}
+use Rattle.iscsi_requests.specs.Transfers.{is_asked_of}
 use Rattle.iscsi_session.specs.Acts.{reach_of, ended, behind}
 use Rattle.iscsi_session.proofs.Standing.{standing_at, standing_kept, numbered_standing, place_standing, length_standing}
 use Rattle.iscsi_session.proofs.Taken.{frame_come, frame_missing, place_come, place_missing}

@@ -7,17 +7,17 @@ use Rattle.iscsi_pdu.specs.Header.{is_immediate, initiator_task_tag}
 use Rattle.iscsi_pdu.specs.Frames.{Frame}
 use Rattle.iscsi_transfer.specs.WriteData.{WriteDataState, remembered as task_of, is_whole, with_data, blank}
 use Rattle.iscsi_transfer.proofs.Blank.{asked_blank, fault_blank, with_blank}
-use Rattle.iscsi_session.proofs.Places.{Located, located, in_get, same_all, index_map, set_map, remove_map, missing, found_or_not, found_self, count_map, or_known, one_more, drain_at, LocatedAmong, located_among, same_drains, set_drains}
+use Rattle.iscsi_requests.proofs.Places.{Located, located, in_get, same_all, index_map, set_map, remove_map, missing, found_or_not, found_self, count_map, or_known, one_more, drain_at, LocatedAmong, located_among, same_drains, set_drains}
 use Rattle.iscsi_transfer.proofs.Standing.{remembered-accepted}
-use Rattle.iscsi_session.specs.declared.transfers.Transfer.{Transfer}
-use Rattle.iscsi_session.specs.Drained.{Drained}
-use Rattle.iscsi_session.specs.Functions.{function_with, immediate_in}
-use Rattle.iscsi_session.specs.Requests.{Request, Past, Drain, DataOut, is_command, is_function, functions, frame_of, is_in, due, queue, unfinished, finished}
-use Rattle.iscsi_session.specs.Judging.{is_live, is_full, data_verdict}
-use Rattle.iscsi_session.specs.Transfers.{tag_of, command_with, command_among, drains_of, drained, is_asked_of, outs_of, tags_of, data_past, task_at, payload_of, is_whole_of, fed}
-use Rattle.iscsi_session.specs.Draining.{is_draining, drain_with, drain_for, no_drained, judged_drain, fed_drain, judged_in, fed_in, is_live_in}
-use Rattle.iscsi_session.specs.State.{SessionState, TransferList, AreDrained, drained_of, IsLawful, Stands, tasks_of, transfers_of, transfer_of, no_transfer, bears, place_with, place_for, immediate_transfers, functions_of, function_place, immediate_functions, judged_at, fed_at, whole_at, payload_at, removed_at, standing, IsLawfulTask}
-use Rattle.iscsi_session.proofs.Left.{in_at, in_filter, below_of}
+use Rattle.iscsi_requests.specs.declared.transfers.Transfer.{Transfer}
+use Rattle.iscsi_requests.specs.Drained.{Drained}
+use Rattle.iscsi_requests.specs.Functions.{function_with, immediate_in}
+use Rattle.iscsi_requests.specs.Requests.{Request, Past, Drain, DataOut, is_command, is_function, functions, frame_of, is_in, due, queue, unfinished, finished}
+use Rattle.iscsi_requests.specs.Judging.{is_live, is_full, data_verdict}
+use Rattle.iscsi_requests.specs.Transfers.{tag_of, command_with, command_among, drains_of, drained, is_asked_of, outs_of, tags_of, data_past, task_at, payload_of, is_whole_of, fed}
+use Rattle.iscsi_requests.specs.Draining.{is_draining, drain_with, drain_for, no_drained, judged_drain, fed_drain, judged_in, fed_in, is_live_in}
+use Rattle.iscsi_requests.specs.State.{SessionState, TransferList, AreDrained, drained_of, IsLawful, Stands, tasks_of, transfers_of, transfer_of, no_transfer, bears, place_with, place_for, immediate_transfers, functions_of, function_place, immediate_functions, judged_at, fed_at, whole_at, payload_at, removed_at, standing, IsLawfulTask}
+use Rattle.iscsi_requests.proofs.Left.{in_at, in_filter, below_of}
 use Rattle.iscsi_session.proofs.Kept.{drained_with, unfinished_came, unfinished_distinct, queue_unfinished, drains_all, drains_once, drains_apart, drain_commands_below}
 use Rattle.iscsi_session.proofs.Moved.{transfers_finished}
 use Rattle.iscsi_session.proofs.Parts.{exchange_fed, parts, stands_parts}

@@ -7,12 +7,12 @@ use Rattle.std.proofs.lemmas.List.{length-map, length-append}
 use Rattle.std.proofs.lemmas.List.Elements.{All-head, All-tail, filter-append}
 use Rattle.iscsi_pdu.specs.Frames.{Frame}
 use Rattle.iscsi_order.specs.Window.{taken as taken_numbers}
-use Rattle.iscsi_session.specs.Requests.{Request, Past, Drain, is_command, is_function, is_in, left, frame_of, held, due, queue, pending as awaiting, functions, moved, finished, removing, numbers, unfinished, accepted, number_for}
-use Rattle.iscsi_session.specs.Transfers.{drains_of}
-use Rattle.iscsi_session.specs.Functions.{told, immediate_in}
-use Rattle.iscsi_session.specs.State.{TaskLists, AreDistinct, IsLawful, remembered, drained_of, tasks_of, transfers_of, functions_of, bare, holding, takes_next, takes, takes_all}
+use Rattle.iscsi_requests.specs.Requests.{Request, Past, Drain, is_command, is_function, is_in, left, frame_of, held, due, queue, pending as awaiting, functions, moved, finished, removing, numbers, unfinished, accepted, number_for}
+use Rattle.iscsi_requests.specs.Transfers.{drains_of}
+use Rattle.iscsi_requests.specs.Functions.{told, immediate_in}
+use Rattle.iscsi_requests.specs.State.{TaskLists, AreDistinct, IsLawful, remembered, drained_of, tasks_of, transfers_of, functions_of, bare, holding, takes_next, takes, takes_all}
 use Rattle.iscsi_session.specs.Weight.{pending, waits_for, waiting_functions, open_requests}
-use Rattle.iscsi_session.proofs.Left.{filter_cong, left_append, left_more, left_swap, in_at, in_left}
+use Rattle.iscsi_requests.proofs.Left.{filter_cong, left_append, left_more, left_swap, in_at, in_left}
 use Rattle.iscsi_session.proofs.Kept.{joined, Below, of_kind, kept_of, kept_joined, below_kept, kind_same, functions_without, functions_joined, functions_distinct, command_not_pending, settled, settled_below}
 use Rattle.iscsi_session.proofs.Accepted.{finished_below, removed_below, now, with, admitted, held_now}
 use Rattle.iscsi_session.proofs.Moved.{not_pending, is_done}

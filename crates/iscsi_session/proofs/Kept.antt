@@ -7,16 +7,16 @@ use Rattle.std.proofs.lemmas.List.{length-append, map-append}
 use Rattle.std.proofs.lemmas.List.Elements.{filter-append, All-cons, All-nil, All-head, All-tail, All-filter}
 use Rattle.iscsi_pdu.specs.Frames.{Frame}
 use Rattle.iscsi_pdu.specs.Header.{initiator_task_tag}
-use Rattle.iscsi_session.specs.Requests.{Request, Past, is_command, is_function, frame_of, is_in, left, finished, Drain, pending, functions, unfinished, removing, commands, queue}
-use Rattle.iscsi_session.specs.Transfers.{tag_of, drains_of, outs_of, tags_of, task_at}
-use Rattle.iscsi_session.specs.State.{AreDistinct, AreDrained, transfer_of, drained_of, transfers_of, begun_transfer}
-use Rattle.iscsi_session.proofs.Left.{filter_cong, map_cong, left_more, left_swap, left_append, left_all, left_one, in_at, in_left, in_left_back, in_filter, in_filter_back, in_range, passes_in, below_of, distinct_left, distinct_filter, distinct_range, range_below, range_more, distinct_push, distinct_map_filter, in_front, not_gone}
+use Rattle.iscsi_requests.specs.Requests.{Request, Past, is_command, is_function, frame_of, is_in, left, finished, Drain, pending, functions, unfinished, removing, commands, queue}
+use Rattle.iscsi_requests.specs.Transfers.{tag_of, drains_of, outs_of, tags_of, task_at}
+use Rattle.iscsi_requests.specs.State.{AreDistinct, AreDrained, transfer_of, drained_of, transfers_of, begun_transfer}
+use Rattle.iscsi_requests.proofs.Left.{filter_cong, map_cong, left_more, left_swap, left_append, left_all, left_one, in_at, in_left, in_left_back, in_filter, in_filter_back, in_range, passes_in, below_of, distinct_left, distinct_filter, distinct_range, range_below, range_more, distinct_push, distinct_map_filter, in_front, not_gone}
 use Rattle.iscsi_session.proofs.Taken.{request_before, request_new}
 use Rattle.iscsi_transfer.specs.WriteData.{remembered as task_of}
 use Rattle.iscsi_transfer.specs.Payload.{begun}
-use Rattle.iscsi_session.specs.declared.transfers.Transfer.{Transfer}
-use Rattle.iscsi_session.specs.Drained.{Drained, blanked}
-use Rattle.iscsi_session.proofs.Places.{none_named}
+use Rattle.iscsi_requests.specs.declared.transfers.Transfer.{Transfer}
+use Rattle.iscsi_requests.specs.Drained.{Drained, blanked}
+use Rattle.iscsi_requests.proofs.Places.{none_named}
 
 abbrev pub joined : Request → Past → Past
 joined x past = record past { came = past.came ++ x ∷ [] }

@@ -6,22 +6,22 @@ use Rattle.std.proofs.lemmas.List.Elements.{filter-append}
 use Rattle.iscsi_pdu.specs.Header.{is_immediate, cmd_sn}
 use Rattle.iscsi_pdu.specs.Frames.{Frame}
 use Rattle.scsi_unit.specs.Units.{numbers_of}
-use Rattle.iscsi_session.specs.declared.verdict.Verdict.{Verdict}
-use Rattle.iscsi_session.specs.declared.verdict.Verdict.TheVariants.{Ignored, Dropped, Rejected, Violating, Accepted, Feeding}
-use Rattle.iscsi_session.specs.Requests.{Past, pending, frame_of, is_function, removing, is_in, left, is_command, commands, others, taken, numbers, due, queue, moved, finished, accepted}
-use Rattle.iscsi_session.specs.Judging.{verdict, judged}
+use Rattle.iscsi_requests.specs.declared.verdict.Verdict.{Verdict}
+use Rattle.iscsi_requests.specs.declared.verdict.Verdict.TheVariants.{Ignored, Dropped, Rejected, Violating, Accepted, Feeding}
+use Rattle.iscsi_requests.specs.Requests.{Past, pending, frame_of, is_function, removing, is_in, left, is_command, commands, others, taken, numbers, due, queue, moved, finished, accepted}
+use Rattle.iscsi_requests.specs.Judging.{verdict, judged}
 use Rattle.iscsi_pdu.specs.TaskManagement.{ref_cmd_sn}
-use Rattle.iscsi_session.specs.Functions.{reached, awaited, plugs, lacks, drained_functions, told, told_answers}
+use Rattle.iscsi_requests.specs.Functions.{reached, awaited, plugs, lacks, drained_functions, told, told_answers}
 use Rattle.iscsi_session.specs.Acts.{reach_of, act_answers, ended, behind}
-use Rattle.iscsi_session.specs.State.{IsLawful}
+use Rattle.iscsi_requests.specs.State.{IsLawful}
 use Rattle.iscsi_session.proofs.Telling.{lawful_told}
 use Rattle.iscsi_session.proofs.Waits.{lawful_waits}
 use Rattle.iscsi_session.specs.Steps.{Step, Work, judge, act, ask, finish, tell, served, ready, settled}
-use Rattle.iscsi_session.specs.Transfers.{asking}
+use Rattle.iscsi_requests.specs.Transfers.{asking}
 use Rattle.iscsi_session.proofs.Asking.{lawful_asked, asking_came, ready_queue}
 use Rattle.iscsi_session.specs.Laws.{TakenOnce, FinishedAsTaken, DueInOrder, DoneInOrder, StepsAreLawful}
 use Rattle.iscsi_session.proofs.Steps.{served_keeps, settled_keeps}
-use Rattle.iscsi_session.proofs.Left.{left_append, in_filter, in_at}
+use Rattle.iscsi_requests.proofs.Left.{left_append, in_filter, in_at}
 use Rattle.iscsi_session.proofs.Taken.{distinct_taken}
 use Rattle.iscsi_session.proofs.Accepted.{begun_lawful, lawful_now, lawful_with}
 use Rattle.iscsi_session.proofs.Moved.{due_after, due_other, stays_other, not_pending, lawful_command, lawful_other, lawful_finished, queue_after}

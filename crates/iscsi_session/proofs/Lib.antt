@@ -1,25 +1,20 @@
 mod Room
-pub mod Left
 pub mod Taken
-mod Places
 pub mod Kept
 pub mod Standing
 pub mod Accepted
 pub mod Over
 pub mod Moved
-mod Lines
 pub mod Parts
 mod Weights
 mod Holding
 mod Added
 pub mod AtRest
 pub mod Removing
-mod Voiding
 mod Ending
 pub mod Telling
 mod Feeding
 pub mod Asking
-mod Sending
 mod Verdicts
 mod Answered
 pub mod Waits

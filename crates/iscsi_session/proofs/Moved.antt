@@ -4,15 +4,16 @@ use Rattle.std.specs.Prelude.{All}
 use Rattle.std.proofs.lemmas.List.{append-nil, map-append}
 use Rattle.std.proofs.lemmas.List.Elements.{filter-append, All-push, All-nil, All-cons}
 use Rattle.iscsi_order.specs.Window.{taken as taken_numbers}
-use Rattle.iscsi_session.specs.Requests.{Past, pending, frame_of, is_in, left, is_command, commands, others, counted, over, taken, due, queue, unfinished, is_function, functions, frames_of, finished}
-use Rattle.iscsi_session.specs.Transfers.{tag_of, task_at, outs_of, tags_of}
-use Rattle.iscsi_session.specs.State.{standing, bare, bare_frames, tasks_of, transfer_of, transfers_of, functions_of, AreDistinct, IsLawful, one_fewer}
-use Rattle.iscsi_session.proofs.Left.{left_append, left_all, left_more, left_swap, left_first, left_one, left_passes, in_at, in_front, in_back, in_left, passes_in, not_gone, not_by, not_in, below_of, distinct_left, distinct_filter, distinct_front}
+use Rattle.iscsi_requests.specs.Requests.{Past, pending, frame_of, is_in, left, is_command, commands, others, counted, over, taken, due, queue, unfinished, is_function, functions, frames_of, finished}
+use Rattle.iscsi_requests.specs.Transfers.{tag_of, task_at, outs_of, tags_of}
+use Rattle.iscsi_requests.specs.State.{standing, bare, bare_frames, tasks_of, transfer_of, transfers_of, functions_of, AreDistinct, IsLawful, one_fewer}
+use Rattle.iscsi_requests.proofs.Left.{left_append, left_all, left_more, left_swap, left_first, left_one, left_passes, in_at, in_front, in_back, in_left, passes_in, not_gone, not_by, not_in, below_of, distinct_left, distinct_filter, distinct_front}
 use Rattle.iscsi_session.proofs.Taken.{taken_below, distinct_taken}
 use Rattle.iscsi_session.proofs.Kept.{tags_left, command_no_function, function_no_command, functions_without, functions_other, in_functions, open_not_pending, command_not_pending, drained_finished, drained_acted, unfinished_without, unfinished_other}
 use Rattle.iscsi_session.proofs.Standing.{standing_immediate}
 use Rattle.iscsi_session.proofs.Accepted.{counted_append, due_is, queue_is, in_queue}
-use Rattle.iscsi_session.proofs.Over.{not_removed, lawful_step, one_fewer_by, unfinished_less, over_same, over_gone, over_other, over_finished, over_more}
+use Rattle.iscsi_requests.proofs.Heads.{one_fewer_by}
+use Rattle.iscsi_session.proofs.Over.{not_removed, lawful_step, unfinished_less, over_same, over_gone, over_other, over_finished, over_more}
 
 -- ---- Task Management Function Requests
 

@@ -9,16 +9,16 @@ use Rattle.iscsi_transfer.specs.declared.fault.DataFault.{DataFault}
 use Rattle.iscsi_transfer.proofs.Blank.{asked_blank, fault_blank}
 use Rattle.iscsi_pdu.specs.declared.reject.RejectReason.{RejectReason}
 use Rattle.iscsi_pdu.specs.declared.reject.RejectReason.TheVariants as reasons
-use Rattle.iscsi_session.specs.declared.verdict.Verdict.{Verdict}
-use Rattle.iscsi_session.specs.declared.verdict.Verdict.TheVariants.{Rejected, Violating, Feeding}
-use Rattle.iscsi_session.specs.Requests.{Past, Drain, is_in, left, commands, unfinished, removing}
-use Rattle.iscsi_session.specs.Transfers.{tag_of, task_at, outs_of, tags_of, verdict_on, is_asked_of, drains_of, drained, command_among, command_with}
-use Rattle.iscsi_session.specs.Judging.{verdict, is_refused, verdict_by, judged, data_verdict}
+use Rattle.iscsi_requests.specs.declared.verdict.Verdict.{Verdict}
+use Rattle.iscsi_requests.specs.declared.verdict.Verdict.TheVariants.{Rejected, Violating, Feeding}
+use Rattle.iscsi_requests.specs.Requests.{Past, Drain, is_in, left, commands, unfinished, removing}
+use Rattle.iscsi_requests.specs.Transfers.{tag_of, task_at, outs_of, tags_of, verdict_on, is_asked_of, drains_of, drained, command_among, command_with}
+use Rattle.iscsi_requests.specs.Judging.{verdict, is_refused, verdict_by, judged, data_verdict}
 use Rattle.iscsi_session.specs.Steps.{Step, Judging, Work, reaches, take_step, judge, act_all, ask_due, tell_due, taken_in, asked_in, finish, served}
-use Rattle.iscsi_session.specs.Needed.{takes, is_needed, AreAlike, takes_out, drains_out, needs_in}
-use Rattle.iscsi_session.specs.State.{Stands, SessionState, transfer_of, drained_of, transfers_of}
+use Rattle.iscsi_requests.specs.Needed.{takes, is_needed, AreAlike, takes_out, drains_out, needs_in}
+use Rattle.iscsi_requests.specs.State.{Stands, SessionState, transfer_of, drained_of, transfers_of}
 use Rattle.iscsi_session.specs.Laws.{UnneededDataIsUnread, OthersNeedNoData}
-use Rattle.iscsi_session.proofs.Left.{left_more}
+use Rattle.iscsi_requests.proofs.Left.{left_more}
 use Rattle.iscsi_session.proofs.Kept.{unfinished_without}
 use Rattle.iscsi_session.proofs.Steps.{settled_keeps}
 

@@ -7,11 +7,11 @@ use Rattle.std.proofs.lemmas.List.Elements.{filter-append, filter_passes}
 use Rattle.iscsi_pdu.specs.Header.{is_immediate}
 use Rattle.iscsi_pdu.specs.Frames.{Frame}
 use Rattle.iscsi_order.specs.Window.{taken as taken_numbers}
-use Rattle.iscsi_session.specs.Requests.{Request, Past, frame_of, is_in, left, is_command, commands, others, counted, over, pending, taken, numbers, due, queue, Drain, functions, unfinished}
-use Rattle.iscsi_session.specs.State.{TaskLists, IsLawful, one_fewer, AreDistinct, AreDrained}
-use Rattle.iscsi_session.proofs.Left.{filter_filter, filter_cong, left_all, all_in}
+use Rattle.iscsi_requests.specs.Requests.{Request, Past, frame_of, is_in, left, is_command, commands, others, counted, over, pending, taken, numbers, due, queue, Drain, functions, unfinished}
+use Rattle.iscsi_requests.specs.State.{TaskLists, IsLawful, one_fewer, AreDistinct, AreDrained}
+use Rattle.iscsi_requests.proofs.Left.{filter_filter, filter_cong, left_all, all_in}
 use Rattle.iscsi_session.proofs.Kept.{left_push}
-use Rattle.iscsi_session.specs.Transfers.{tag_of}
+use Rattle.iscsi_requests.specs.Transfers.{tag_of}
 use Rattle.iscsi_session.proofs.Accepted.{counted_append, handed_le}
 
 filter_swap : (p q : ℕ → Bool) (names : List ℕ) → filter p (filter q names) ≡ filter q (filter p names)
@@ -52,10 +52,6 @@ unfolding left
 few_over past in_order queued at_once all handed = grind (arith, split, acted_counted, counted_append)
 
 -- ---- one more is over
-
-pub one_fewer_by : (b : Bool) (frame : Frame) (tasks : TaskLists) → is_immediate frame.header ≡ b
-    → one_fewer frame tasks ≡ record tasks { unfinished = cond b tasks.unfinished (tasks.unfinished - 1) }
-one_fewer_by b frame tasks e = grind arith
 
 -- of so many that are handed over, one more is over
 pub unfinished_less : (past : Past) (handed n m k : ℕ) → IsLawful past → k < length past.came → m ≡ n + counted past.came (k ∷ [])

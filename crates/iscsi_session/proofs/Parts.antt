@@ -11,9 +11,9 @@ use Rattle.iscsi_pdu.specs.declared.header.Opcode.TheVariants as opcodes
 use Rattle.iscsi_login.specs.declared.session_params.SessionParams.{SessionParams}
 use Rattle.iscsi_exchange.specs.ExchangeState.{ExchangeState, no_exchange}
 use Rattle.iscsi_exchange.specs.Exchange.{hears}
-use Rattle.iscsi_session.specs.Requests.{Request, Past, frame_of, is_command, is_function, functions, left, numbered, numbers, due, queue, frames_of, unfinished, statuses, bearing, answering, accepted, begun, taken}
-use Rattle.iscsi_session.specs.Transfers.{fed, task_at, outs_of, tags_of}
-use Rattle.iscsi_session.specs.Texts.{is_text, exchange_behind, exchange_of}
+use Rattle.iscsi_requests.specs.Requests.{Request, Past, frame_of, is_command, is_function, functions, left, numbered, numbers, due, queue, frames_of, unfinished, statuses, bearing, answering, accepted, begun, taken}
+use Rattle.iscsi_requests.specs.Transfers.{fed, task_at, outs_of, tags_of}
+use Rattle.iscsi_requests.specs.Texts.{is_text, exchange_behind, exchange_of}
 use Rattle.iscsi_session.proofs.Kept.{joined, Below, command_no_function, function_no_command, transfers_joined}
 use Rattle.iscsi_session.proofs.Accepted.{frames_same, HasFreeTag, marks_are, finished_below, removed_below, functions_of_joined, now, with, IsAhead, lawful_now, admitted, lawful_with, held_now}
 use Rattle.std.specs.Prelude.{is_some, Result, Ok, Err, OnOk, OnErr}
@@ -26,14 +26,14 @@ use Rattle.iscsi_order.specs.WindowState as windows
 use Rattle.iscsi_order.specs.WindowState.{remembered as remembered_window}
 use Rattle.iscsi_order.specs.Serial.{distance}
 use Rattle.iscsi_order.specs.Stat.{stat_sn}
-use Rattle.iscsi_session.specs.Judging.{is_fresh}
-use Rattle.iscsi_session.specs.declared.transfers.Transfer.{Transfer}
+use Rattle.iscsi_requests.specs.Judging.{is_fresh}
+use Rattle.iscsi_requests.specs.declared.transfers.Transfer.{Transfer}
 use Rattle.iscsi_transfer.specs.WriteData.{WriteDataState, remembered as task_of}
 use Rattle.iscsi_transfer.specs.Payload.{begun as begun_data}
-use Rattle.iscsi_session.specs.State.{SessionState, TaskLists, TransferList, no_tasks, transfers_of, functions_of, begun_transfer, bare, bare_command, bare_frames, kept, frame_numbered, standing, tasks_of, window_of, IsLawful, Stands, is_vacant, is_vacant_for, holding, takes_all}
+use Rattle.iscsi_requests.specs.State.{SessionState, TaskLists, TransferList, no_tasks, transfers_of, functions_of, begun_transfer, bare, bare_command, bare_frames, kept, frame_numbered, standing, tasks_of, window_of, IsLawful, Stands, is_vacant, is_vacant_for, holding, takes_all}
 use Rattle.iscsi_session.proofs.Standing.{bare_other, bare_is, numbered_standing}
 use Rattle.iscsi_session.proofs.Taken.{frame_marked}
-use Rattle.iscsi_session.proofs.Left.{both_true}
+use Rattle.iscsi_requests.proofs.Left.{both_true}
 use Rattle.iscsi_session.proofs.Runs.{lawful_answering, statuses_answering}
 
 -- ---- what leaves it as it is

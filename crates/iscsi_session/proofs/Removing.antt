@@ -10,12 +10,12 @@ use Rattle.iscsi_pdu.specs.Frames.{Frame}
 use Rattle.iscsi_order.specs.Window as order
 use Rattle.iscsi_order.specs.Window.{taken as taken_numbers, window}
 use Rattle.iscsi_order.proofs.Front.{front_missing}
-use Rattle.iscsi_session.specs.Requests.{Past, request_at, frame_of, frames_of, is_in, left, is_command, is_function, commands, counted, over, numbered, place_of, taken, numbers, due, queue, unfinished, pending, functions, removing}
-use Rattle.iscsi_session.specs.Transfers.{tag_of, task_at, outs_of, tags_of}
-use Rattle.iscsi_session.specs.Functions.{FunctionReach, reaches, reached}
-use Rattle.iscsi_session.specs.State.{SessionState, TransferList, Stands, AreDistinct, IsDelivered, IsLawful, standing, bare, bare_frames, frame_numbered, tasks_of, transfers_of, functions_of, void_if, stays, counts_out, reaches_frame, without, transfers_without}
-use Rattle.iscsi_session.proofs.Left.{filter_cong, filter_filter, map_cong, left_more, left_append, left_all, in_at, in_filter, in_filter_back, in_left, passes_in, not_gone, not_in, is_in_append, below_of, distinct_map_filter}
-use Rattle.iscsi_session.proofs.Places.{count_map}
+use Rattle.iscsi_requests.specs.Requests.{Past, request_at, frame_of, frames_of, is_in, left, is_command, is_function, commands, counted, over, numbered, place_of, taken, numbers, due, queue, unfinished, pending, functions, removing}
+use Rattle.iscsi_requests.specs.Transfers.{tag_of, task_at, outs_of, tags_of}
+use Rattle.iscsi_requests.specs.Functions.{FunctionReach, reaches, reached}
+use Rattle.iscsi_requests.specs.State.{SessionState, TransferList, Stands, AreDistinct, IsDelivered, IsLawful, standing, bare, bare_frames, frame_numbered, tasks_of, transfers_of, functions_of, void_if, stays, counts_out, reaches_frame, without, transfers_without}
+use Rattle.iscsi_requests.proofs.Left.{filter_cong, filter_filter, map_cong, left_more, left_append, left_all, in_at, in_filter, in_filter_back, in_left, passes_in, not_gone, not_in, is_in_append, below_of, distinct_map_filter}
+use Rattle.iscsi_requests.proofs.Places.{count_map}
 use Rattle.iscsi_session.proofs.Kept.{function_no_command, in_kept, function_in, drained_removing, unfinished_came, unfinished_command, queue_unfinished}
 use Rattle.iscsi_session.proofs.Standing.{numbered_standing, place_standing, length_standing, standing_at}
 use Rattle.iscsi_session.proofs.Taken.{beyond_not_taken, taken_below, first_of, frame_come, frame_missing, place_come, place_missing, moment_above}

@@ -46,10 +46,10 @@ use Rattle.iscsi_login.specs.declared.session_params.SessionParams.{SessionParam
 use Rattle.iscsi_exchange.specs.ExchangeState.{ExchangeState}
 use Rattle.iscsi_exchange.specs.Exchange.{TextPiece, IsShort}
 use Rattle.iscsi_exchange.proofs.Short.{hears_short}
-use Rattle.iscsi_session.specs.Judging.{reserved_tag, reject}
-use Rattle.iscsi_session.specs.Texts.{text_answer}
+use Rattle.iscsi_requests.specs.Judging.{reserved_tag, reject}
+use Rattle.iscsi_requests.specs.Texts.{text_answer}
 use Rattle.iscsi_session.specs.Acts.{ping_answers, logout_answer, act_answers_by}
-use Rattle.iscsi_session.specs.Transfers.{r2t_for, r2ts_for, r2t_answers}
+use Rattle.iscsi_requests.specs.Transfers.{r2t_for, r2ts_for, r2t_answers}
 use Rattle.iscsi_session.specs.Weight.{request_weight}
 
 -- ---- the length of the Data-Ins

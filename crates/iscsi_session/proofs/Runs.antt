@@ -8,8 +8,8 @@ use Rattle.std.proofs.lemmas.List.Elements.{filter-append}
 use Rattle.iscsi_session.specs.Comings.{TargetUnits}
 use Rattle.iscsi_pdu.specs.Answer.{spelling}
 use Rattle.iscsi_pdu.specs.declared.answer.Answer.{Answer}
-use Rattle.iscsi_session.specs.Requests.{Past, DataOut, SentR2t, due, queue, unfinished, functions, bearing, statuses, answering}
-use Rattle.iscsi_session.specs.State.{SessionState, IsLawful, Stands, waiting, standing, tasks_of}
+use Rattle.iscsi_requests.specs.Requests.{Past, DataOut, SentR2t, due, queue, unfinished, functions, bearing, statuses, answering}
+use Rattle.iscsi_requests.specs.State.{SessionState, IsLawful, Stands, waiting, standing, tasks_of}
 use Rattle.iscsi_session.specs.Steps.{Step, Taking, Doing, is_step, is_of, Work, reaches, take_step, first_steps, one_by_one}
 use Rattle.iscsi_session.specs.Runs.{Output, output, Starts, Leaves, FailsAs, IsReached, Runs}
 

@@ -3,8 +3,8 @@ use Rattle.std.proofs.Common.{◌≡◌, ◌≤◌, map, ℕ, suc, ◌<◌, List
 use Rattle.scsi_unit.specs.Units.{numbers_of, UnitStates}
 use Rattle.iscsi_session.specs.Comings.{TargetUnits, Coming, CameAs, lend, next_coming}
 use Rattle.iscsi_pdu.specs.Frames.{Frame}
-use Rattle.iscsi_session.specs.Requests.{Past, frame_of, due, queue, bears_status, bearing}
-use Rattle.iscsi_session.specs.State.{SessionState, IsLawful, Stands, remembered, standing, bare, bare_frames, tasks_of, place_for, whole_at, payload_at, is_waiting, is_waiting_by, waiting}
+use Rattle.iscsi_requests.specs.Requests.{Past, frame_of, due, queue, bears_status, bearing}
+use Rattle.iscsi_requests.specs.State.{SessionState, IsLawful, Stands, remembered, standing, bare, bare_frames, tasks_of, place_for, whole_at, payload_at, is_waiting, is_waiting_by, waiting}
 use Rattle.iscsi_session.specs.declared.act.Act.{Act}
 use Rattle.iscsi_session.specs.declared.act.Act.TheVariants.{Idle, Taken, Ended}
 use Rattle.iscsi_session.specs.Acts.{ends}
@@ -28,7 +28,7 @@ use Rattle.iscsi_login.specs.declared.values.Values.{Values}
 use Rattle.iscsi_transfer.specs.declared.data_in.Piece.{Piece}
 use Rattle.iscsi_session.specs.Answers.{data_in, data_answers, scsi_answer, command_answers}
 use Rattle.iscsi_session.specs.Commands.{carried_out}
-use Rattle.iscsi_session.specs.Transfers.{payload_of, is_whole_of}
+use Rattle.iscsi_requests.specs.Transfers.{payload_of, is_whole_of}
 use Rattle.iscsi_session.proofs.Came.{came_none}
 
 -- ---- what an act leaves

@@ -7,13 +7,13 @@ use Rattle.iscsi_session.specs.Comings.{TargetUnits}
 use Rattle.iscsi_pdu.specs.Frames.{Frame}
 use Rattle.iscsi_pdu.specs.Answer.{spelling}
 use Rattle.iscsi_pdu.specs.declared.answer.Answer.{Answer}
-use Rattle.iscsi_session.specs.Requests.{Past, due}
-use Rattle.iscsi_session.specs.declared.verdict.Verdict.{Verdict}
-use Rattle.iscsi_session.specs.declared.verdict.Verdict.TheVariants.{Ignored, Dropped, Rejected, Violating, Accepted, Feeding}
-use Rattle.iscsi_session.specs.Judging.{verdict, judged, judged_answers, violates}
-use Rattle.iscsi_session.specs.Transfers.{asking, asked_by, r2ts_by}
-use Rattle.iscsi_session.specs.Functions.{drained_functions, answered_by, told_by}
-use Rattle.iscsi_session.specs.State.{SessionState, Stands, IsLawful, remembered}
+use Rattle.iscsi_requests.specs.Requests.{Past, due}
+use Rattle.iscsi_requests.specs.declared.verdict.Verdict.{Verdict}
+use Rattle.iscsi_requests.specs.declared.verdict.Verdict.TheVariants.{Ignored, Dropped, Rejected, Violating, Accepted, Feeding}
+use Rattle.iscsi_requests.specs.Judging.{verdict, judged, judged_answers, violates}
+use Rattle.iscsi_requests.specs.Transfers.{asking, asked_by, r2ts_by}
+use Rattle.iscsi_requests.specs.Functions.{drained_functions, answered_by, told_by}
+use Rattle.iscsi_requests.specs.State.{SessionState, Stands, IsLawful, remembered}
 use Rattle.iscsi_session.specs.Steps.{Step, Judging, Taking, Asking, Answering, is_of, is_step, is_serving, Work, reaches, take_step, judge, act, act_all, waiting_in, ask, tell, first_steps, ask_due, tell_due, taken_in, asked_in, served, one_by_one}
 use Rattle.iscsi_session.specs.Runs.{Output, output, Starts, Leaves, Runs, is_failed, Stops}
 use Rattle.iscsi_session.proofs.Steps.{judged_agrees, judged_same, turns_agree, taken_alike, asked_alike}

@@ -2,11 +2,11 @@
 use Rattle.std.proofs.Common.{◌≡◌, ℕ, zero, suc, ◌+◌, ◌<◌, List, [], ◌∷◌, ◌++◌, length, true, false, cond, refl, ap, arith}
 use Rattle.std.specs.Prelude.{All}
 use Rattle.std.proofs.lemmas.Bool.{false_from_ne_true}
-use Rattle.iscsi_session.specs.Requests.{Request, Past, is_command, request_at, frame_of, is_in, numbered, place_of}
+use Rattle.iscsi_requests.specs.Requests.{Request, Past, is_command, request_at, frame_of, is_in, numbered, place_of}
 use Rattle.iscsi_pdu.specs.Header.{opcode_number, is_immediate}
 use Rattle.iscsi_pdu.specs.Frames.{Frame}
-use Rattle.iscsi_session.specs.State.{voided, bare, bare_command, bared, standing_from, standing}
-use Rattle.iscsi_session.proofs.Left.{below_of}
+use Rattle.iscsi_requests.specs.State.{voided, bare, bare_command, bared, standing_from, standing}
+use Rattle.iscsi_requests.proofs.Left.{below_of}
 
 -- ---- without the data of SCSI Commands
 

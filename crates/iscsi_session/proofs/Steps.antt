@@ -5,15 +5,15 @@ use Rattle.scsi_unit.specs.Units.{numbers_of}
 use Rattle.iscsi_session.specs.Comings.{TargetUnits}
 use Rattle.iscsi_pdu.specs.Frames.{Frame}
 use Rattle.iscsi_pdu.specs.declared.answer.Answer.{Answer}
-use Rattle.iscsi_session.specs.Requests.{Past, queue, due}
-use Rattle.iscsi_session.specs.Judging.{verdict, judged_answers, judged}
+use Rattle.iscsi_requests.specs.Requests.{Past, queue, due}
+use Rattle.iscsi_requests.specs.Judging.{verdict, judged_answers, judged}
 use Rattle.iscsi_session.specs.Acts.{acted, act_answers}
-use Rattle.iscsi_session.specs.Functions.{drained_functions, told_answers}
+use Rattle.iscsi_requests.specs.Functions.{drained_functions, told_answers}
 use Rattle.iscsi_session.specs.Steps.{Step, Judging, Taking, Asking, Answering, Doing, Work, reaches, take_step, judge, act, ask, finish, first_steps, one_by_one, waiting_in, act_all, ask_due, tell, tell_due, taken_in, asked_in, served, ready, settled}
-use Rattle.iscsi_session.specs.Transfers.{asking, r2t_answers, r2ts_of}
+use Rattle.iscsi_requests.specs.Transfers.{asking, r2t_answers, r2ts_of}
 use Rattle.iscsi_session.proofs.Answered.{acted_same}
-use Rattle.iscsi_session.specs.declared.verdict.Verdict.{Verdict}
-use Rattle.iscsi_session.specs.declared.verdict.Verdict.TheVariants.{Ignored, Dropped, Rejected, Violating, Accepted, Feeding}
+use Rattle.iscsi_requests.specs.declared.verdict.Verdict.{Verdict}
+use Rattle.iscsi_requests.specs.declared.verdict.Verdict.TheVariants.{Ignored, Dropped, Rejected, Violating, Accepted, Feeding}
 use Rattle.iscsi_session.proofs.Feeding.{fed_same}
 
 -- ---- what the judging of a frame leaves of the parameters and the answers

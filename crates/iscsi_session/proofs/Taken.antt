@@ -7,9 +7,9 @@ use Rattle.std.proofs.lemmas.List.{append-nil}
 use Rattle.std.proofs.lemmas.List.Concat.{flat_map-append}
 use Rattle.std.proofs.lemmas.List.Elements.{All-head, All-tail, All-nil, All-cons, All-append, filter_passes, All-map, filter-append}
 use Rattle.std.proofs.lemmas.List.Folds.{position_or_len_push}
-use Rattle.iscsi_session.specs.Requests.{Request, request_at, is_in, has_number, place_of, moment, taken_at, taken, frame_of, numbered, counted}
-use Rattle.iscsi_session.specs.State.{AreDistinct, frame_numbered}
-use Rattle.iscsi_session.proofs.Left.{filter_cong, map_cong, range_more, range_below, distinct_filter, distinct_range, distinct_append, is_in_append, below_of, range_split, filter_none, filter_every}
+use Rattle.iscsi_requests.specs.Requests.{Request, request_at, is_in, has_number, place_of, moment, taken_at, taken, frame_of, numbered, counted}
+use Rattle.iscsi_requests.specs.State.{AreDistinct, frame_numbered}
+use Rattle.iscsi_requests.proofs.Left.{filter_cong, map_cong, range_more, range_below, distinct_filter, distinct_range, distinct_append, is_in_append, below_of, range_split, filter_none, filter_every}
 use Rattle.iscsi_order.specs.Window as order
 use Rattle.iscsi_order.proofs.Front.{front, front_le, front_come, front_missing}
 

@@ -6,15 +6,15 @@ use Rattle.std.proofs.lemmas.Bool.{cases_eq, eq-eqb, ne_eqb, eqb-true, false_fro
 use Rattle.std.proofs.lemmas.List.Elements.{All-head, All-tail, All-nil, All-push}
 use Rattle.iscsi_pdu.specs.Header.{is_immediate, initiator_task_tag}
 use Rattle.iscsi_order.specs.Window.{taken as taken_numbers}
-use Rattle.iscsi_session.specs.Drained.{Drained}
+use Rattle.iscsi_requests.specs.Drained.{Drained}
 use Rattle.iscsi_transfer.proofs.Blank.{asked_blank}
-use Rattle.iscsi_session.proofs.Places.{found_self, first_passes, none_passes, LocatedFunction, located_function, index_map, drain_at}
-use Rattle.iscsi_session.specs.Requests.{Past, Drain, frame_of, is_in, left, is_command, is_function, others, counted, over, pending, due, queue, unfinished, functions, stamp}
-use Rattle.iscsi_session.specs.Transfers.{tag_of, task_at, outs_of, tags_of, is_asked_of, drains_of}
-use Rattle.iscsi_session.specs.Functions.{lacks, told, drained_functions, function_answer, told_answers, told_by}
-use Rattle.iscsi_session.specs.State.{AreDistinct, IsLawful, standing, tasks_of, drained_of, transfers_of, functions_of, SessionState, TaskLists, TransferList, Stands, function_removed, function_place}
-use Rattle.iscsi_session.specs.Draining.{function_tag, lacks_for, drains_without, no_drained, telling_place, function_at}
-use Rattle.iscsi_session.proofs.Left.{filter_cong, filter_filter, left_more, left_swap, in_left, in_left_back, not_gone, below_of, is_in_append, all_in}
+use Rattle.iscsi_requests.proofs.Places.{found_self, first_passes, none_passes, LocatedFunction, located_function, index_map, drain_at}
+use Rattle.iscsi_requests.specs.Requests.{Past, Drain, frame_of, is_in, left, is_command, is_function, others, counted, over, pending, due, queue, unfinished, functions, stamp}
+use Rattle.iscsi_requests.specs.Transfers.{tag_of, task_at, outs_of, tags_of, is_asked_of, drains_of}
+use Rattle.iscsi_requests.specs.Functions.{lacks, told, drained_functions, function_answer, told_answers, told_by}
+use Rattle.iscsi_requests.specs.State.{AreDistinct, IsLawful, standing, tasks_of, drained_of, transfers_of, functions_of, SessionState, TaskLists, TransferList, Stands, function_removed, function_place}
+use Rattle.iscsi_requests.specs.Draining.{function_tag, lacks_for, drains_without, no_drained, telling_place, function_at}
+use Rattle.iscsi_requests.proofs.Left.{filter_cong, filter_filter, left_more, left_swap, in_left, in_left_back, not_gone, below_of, is_in_append, all_in}
 use Rattle.iscsi_session.proofs.Kept.{function_no_command, tags_left, pending_holds, in_functions}
 use Rattle.iscsi_session.proofs.Accepted.{counted_append, finished_below}
 use Rattle.iscsi_session.proofs.Over.{split, lawful_step, not_removed, unfinished_less}

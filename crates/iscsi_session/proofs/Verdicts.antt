@@ -9,11 +9,11 @@ use Rattle.iscsi_pdu.specs.declared.header.Opcode.TheVariants as opcodes
 use Rattle.iscsi_pdu.specs.declared.reject.RejectReason.TheVariants as reasons
 use Rattle.iscsi_login.specs.declared.values.Values.{Values}
 use Rattle.iscsi_transfer.specs.WriteData.{command_fault}
-use Rattle.iscsi_session.specs.declared.verdict.Verdict.{Verdict}
-use Rattle.iscsi_session.specs.declared.verdict.Verdict.TheVariants.{Ignored, Rejected, Violating, Accepted}
-use Rattle.iscsi_session.specs.Requests.{Past, is_command, is_function}
-use Rattle.iscsi_session.specs.Transfers.{command_with}
-use Rattle.iscsi_session.specs.Judging.{is_fresh, is_live, is_full, is_faulty, task_verdict, data_verdict, is_refused, verdict_by, request_verdict, verdict, is_over, is_taken}
+use Rattle.iscsi_requests.specs.declared.verdict.Verdict.{Verdict}
+use Rattle.iscsi_requests.specs.declared.verdict.Verdict.TheVariants.{Ignored, Rejected, Violating, Accepted}
+use Rattle.iscsi_requests.specs.Requests.{Past, is_command, is_function}
+use Rattle.iscsi_requests.specs.Transfers.{command_with}
+use Rattle.iscsi_requests.specs.Judging.{is_fresh, is_live, is_full, is_faulty, task_verdict, data_verdict, is_refused, verdict_by, request_verdict, verdict, is_over, is_taken}
 
 -- ---- a command, test by test
 

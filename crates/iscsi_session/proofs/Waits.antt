@@ -7,22 +7,22 @@ use Rattle.std.proofs.lemmas.Bool.{cases_eq, eq-eqb, ne_eqb, false_from_ne_true}
 use Rattle.std.proofs.lemmas.List.{map-append, append-nil}
 use Rattle.std.proofs.lemmas.List.Elements.{filter-append, All-append, All-map}
 use Rattle.iscsi_order.specs.Window.{taken as taken_numbers}
-use Rattle.iscsi_session.specs.Drained.{Drained}
-use Rattle.iscsi_session.specs.Requests.{Past, Drain, drain_for, draining, frame_of, frames_of, is_in, left, is_command, is_function, counted, over, pending, due, queue, unfinished, functions, removing}
-use Rattle.iscsi_session.specs.Transfers.{tag_of, task_at, outs_of, tags_of, drains_of, is_asked_of}
-use Rattle.iscsi_session.specs.Texts.{exchange_of}
-use Rattle.iscsi_session.specs.State.{SessionState, AreDistinct, IsLawful, Stands, standing, tasks_of, drained_of, transfers_of, functions_of, transfer_of, without, transfers_without}
-use Rattle.iscsi_session.proofs.Left.{filter_cong, left_append, in_at, in_left, in_left_back, not_in, is_in_append, filter_filter, in_back, in_filter, distinct_filter, distinct_append}
-use Rattle.iscsi_session.proofs.Places.{or_known}
+use Rattle.iscsi_requests.specs.Drained.{Drained}
+use Rattle.iscsi_requests.specs.Requests.{Past, Drain, drain_for, draining, frame_of, frames_of, is_in, left, is_command, is_function, counted, over, pending, due, queue, unfinished, functions, removing}
+use Rattle.iscsi_requests.specs.Transfers.{tag_of, task_at, outs_of, tags_of, drains_of, is_asked_of}
+use Rattle.iscsi_requests.specs.Texts.{exchange_of}
+use Rattle.iscsi_requests.specs.State.{SessionState, AreDistinct, IsLawful, Stands, standing, tasks_of, drained_of, transfers_of, functions_of, transfer_of, without, transfers_without}
+use Rattle.iscsi_requests.proofs.Left.{filter_cong, left_append, in_at, in_left, in_left_back, not_in, is_in_append, filter_filter, in_back, in_filter, distinct_filter, distinct_append}
+use Rattle.iscsi_requests.proofs.Places.{or_known}
 use Rattle.iscsi_session.proofs.Kept.{kept_of, function_no_command, unfinished_other, unfinished_distinct, drains_apart}
 use Rattle.iscsi_session.proofs.Over.{lawful_step, over_same}
 use Rattle.iscsi_session.proofs.Moved.{due_after, queue_other, not_finished, stays_other, lawful_other}
 use Rattle.iscsi_session.proofs.Parts.{exchange_acted, exchange_other, parts, stands_parts, due_is}
 use Rattle.iscsi_session.proofs.Answered.{function_no_text, answering_none, function_waits}
 use Rattle.std.specs.List.{list_any}
-use Rattle.iscsi_session.specs.Functions.{FunctionReach, reaches, reached, waits, awaited}
+use Rattle.iscsi_requests.specs.Functions.{FunctionReach, reaches, reached, waits, awaited}
 use Rattle.iscsi_session.specs.Acts.{reach_of, ended, acted}
-use Rattle.iscsi_session.specs.Draining.{drained_for, is_awaited, awaited_in, awaits_in}
+use Rattle.iscsi_requests.specs.Draining.{drained_for, is_awaited, awaited_in, awaits_in}
 use Rattle.iscsi_session.proofs.Feeding.{list_is}
 use Rattle.iscsi_session.proofs.Removing.{filter_map_names, due_same, lawful_removing, stands_removing}
 use Rattle.iscsi_session.proofs.Ending.{awaited_some, awaited_no_plug, behind_plain, any_counts}

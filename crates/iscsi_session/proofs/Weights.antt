@@ -7,9 +7,9 @@ use Rattle.std.proofs.lemmas.List.Elements.{filter_map-append}
 use Rattle.iscsi_pdu.specs.Frames.{Frame}
 use Rattle.iscsi_order.specs.Window as order
 use Rattle.iscsi_order.specs.Window.{window}
-use Rattle.iscsi_session.specs.Requests.{Past, is_function, numbered, numbers, held, place_of}
-use Rattle.iscsi_session.specs.Functions.{FunctionReach}
-use Rattle.iscsi_session.specs.State.{TaskLists, standing, frame_numbered, tasks_of, one_fewer, holding, takes_next, takes, takes_all, void_if, plugged_behind, without, weight, weigh, waiting}
+use Rattle.iscsi_requests.specs.Requests.{Past, is_function, numbered, numbers, held, place_of}
+use Rattle.iscsi_requests.specs.Functions.{FunctionReach}
+use Rattle.iscsi_requests.specs.State.{TaskLists, standing, frame_numbered, tasks_of, one_fewer, holding, takes_next, takes, takes_all, void_if, plugged_behind, without, weight, weigh, waiting}
 use Rattle.iscsi_session.specs.Steps.{waiting_in}
 use Rattle.iscsi_session.proofs.Standing.{numbered_standing}
 use Rattle.iscsi_session.proofs.Taken.{frame_marked}

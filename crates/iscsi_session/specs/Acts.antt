@@ -17,10 +17,10 @@ use Rattle.iscsi_pdu.specs.declared.answer.Answer.TheVariants as answers
 use Rattle.iscsi_pdu.specs.declared.stamp.Stamp.{Stamp}
 use Rattle.iscsi_login.specs.declared.session_params.SessionParams.{SessionParams}
 use Rattle.iscsi_login.specs.declared.values.Values.{Values}
-use Rattle.iscsi_session.specs.Requests.{Past, frame_of, is_function, moved, removing, draining, answering, stamp}
-use Rattle.iscsi_session.specs.Judging.{reserved_tag, reject}
-use Rattle.iscsi_session.specs.Texts.{exchange_of, text_answer_in}
-use Rattle.iscsi_session.specs.Functions.{FunctionReach, own_reach, reached, awaited, plugs, plugged, function_result, function_answer}
+use Rattle.iscsi_requests.specs.Requests.{Past, frame_of, is_function, moved, removing, draining, answering, stamp}
+use Rattle.iscsi_requests.specs.Judging.{reserved_tag, reject}
+use Rattle.iscsi_requests.specs.Texts.{exchange_of, text_answer_in}
+use Rattle.iscsi_requests.specs.Functions.{FunctionReach, own_reach, reached, awaited, plugs, plugged, function_result, function_answer}
 use Rattle.iscsi_exchange.specs.ExchangeState.{ExchangeState}
 
 -- RFC 7143 §11.18, §11.19: the ping data is returned, cut to what the initiator takes in one PDU and to what a PDU of

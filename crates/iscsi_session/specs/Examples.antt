@@ -11,15 +11,15 @@ use Rattle.iscsi_pdu.specs.declared.stamp.Stamp.{Stamp}
 use Rattle.iscsi_login.specs.declared.session_params.SessionParams.{SessionParams}
 use Rattle.iscsi_login.specs.Values.{default_values}
 use Rattle.iscsi_order.specs.Window as order
-use Rattle.iscsi_session.specs.declared.verdict.Verdict.TheVariants.{Ignored, Dropped, Rejected, Violating, Accepted}
+use Rattle.iscsi_requests.specs.declared.verdict.Verdict.TheVariants.{Ignored, Dropped, Rejected, Violating, Accepted}
 use Rattle.iscsi_transfer.specs.WriteData.{remembered as task_of, fault_of}
-use Rattle.iscsi_session.specs.Requests.{functions, Past, begun, left, taken, taken_at, held, due, queue, unfinished, stamp, numbers}
-use Rattle.iscsi_session.specs.Transfers.{outs_of, tags_of, task_at, drained, asking, asked_by, r2ts_of}
-use Rattle.iscsi_session.specs.Judging.{is_refused, verdict, verdict_by, task_verdict, judged, reject}
+use Rattle.iscsi_requests.specs.Requests.{functions, Past, begun, left, taken, taken_at, held, due, queue, unfinished, stamp, numbers}
+use Rattle.iscsi_requests.specs.Transfers.{outs_of, tags_of, task_at, drained, asking, asked_by, r2ts_of}
+use Rattle.iscsi_requests.specs.Judging.{is_refused, verdict, verdict_by, task_verdict, judged, reject}
 use Rattle.scsi_sense.specs.Done.{good}
 use Rattle.iscsi_session.specs.Answers.{data_answers, scsi_answer}
 use Rattle.iscsi_session.specs.Steps.{answered_command, ready}
-use Rattle.iscsi_session.specs.Functions.{own_reach, reaches, reached, plugs, awaited, function_result, function_answer, drained_functions, told_answers, answered_by}
+use Rattle.iscsi_requests.specs.Functions.{own_reach, reaches, reached, plugs, awaited, function_result, function_answer, drained_functions, told_answers, answered_by}
 use Rattle.iscsi_session.specs.Acts.{acted, act_answers, ends, logout_response}
 
 -- what an example unfolds

@@ -5,10 +5,10 @@ use Rattle.iscsi_pdu.specs.declared.answer.Answer.{Answer}
 use Rattle.iscsi_pdu.specs.declared.answer.Answer.TheVariants as answers
 use Rattle.iscsi_pdu.specs.declared.task_management_response.TaskResult.TheVariants.{Complete}
 use Rattle.iscsi_login.specs.Values.{default_values}
-use Rattle.iscsi_session.specs.declared.verdict.Verdict.TheVariants.{Violating}
-use Rattle.iscsi_session.specs.Requests.{Past, begun}
-use Rattle.iscsi_session.specs.Judging.{verdict}
-use Rattle.iscsi_session.specs.Functions.{function_answer}
+use Rattle.iscsi_requests.specs.declared.verdict.Verdict.TheVariants.{Violating}
+use Rattle.iscsi_requests.specs.Requests.{Past, begun}
+use Rattle.iscsi_requests.specs.Judging.{verdict}
+use Rattle.iscsi_requests.specs.Functions.{function_answer}
 use Rattle.iscsi_session.specs.Examples.{computed, low, params_from, said, comes, all_come, taking, brings, function_nine}
 
 abbrev several : ℕ → Past

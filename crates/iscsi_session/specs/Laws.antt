@@ -3,11 +3,11 @@ use Rattle.std.specs.Prelude.{◌≡◌, All, ℕ, ◌<◌, ◌^◌, List, [], �
 use Rattle.iscsi_pdu.specs.Header.{cmd_sn, opcode_number}
 use Rattle.iscsi_pdu.specs.Frames.{Frame}
 use Rattle.iscsi_login.specs.declared.session_params.SessionParams.{SessionParams}
-use Rattle.iscsi_session.specs.Requests.{Request, Past, begun, left, commands, others, taken, due, queue, unfinished, stamp, moved, finished, removing}
-use Rattle.iscsi_session.specs.Transfers.{asks_of, asking, r2ts_of, asked}
-use Rattle.iscsi_session.specs.Functions.{drained_functions}
-use Rattle.iscsi_session.specs.Needed.{is_needed, AreAlike}
-use Rattle.iscsi_session.specs.State.{AreDistinct, IsLawful}
+use Rattle.iscsi_requests.specs.Requests.{Request, Past, begun, left, commands, others, taken, due, queue, unfinished, stamp, moved, finished, removing}
+use Rattle.iscsi_requests.specs.Transfers.{asks_of, asking, r2ts_of, asked}
+use Rattle.iscsi_requests.specs.Functions.{drained_functions}
+use Rattle.iscsi_requests.specs.Needed.{is_needed, AreAlike}
+use Rattle.iscsi_requests.specs.State.{AreDistinct, IsLawful}
 use Rattle.iscsi_session.specs.Steps.{Step, Work, served, ready, settled}
 
 -- each request is taken once

@@ -4,11 +4,11 @@ use Rattle.scsi_unit.specs.Units.{UnitStates}
 use Rattle.iscsi_session.specs.Comings.{TargetUnits, CameAs}
 use Rattle.iscsi_pdu.specs.Answer.{spelling}
 use Rattle.iscsi_pdu.specs.declared.answer.Answer.{Answer}
-use Rattle.iscsi_session.specs.Requests.{Past, frame_of, stamp, finished}
+use Rattle.iscsi_requests.specs.Requests.{Past, frame_of, stamp, finished}
 use Rattle.iscsi_session.specs.Acts.{ordered, acted, act_answers, ends}
 use Rattle.iscsi_session.specs.declared.act.Act.{Act}
 use Rattle.iscsi_session.specs.declared.act.Act.TheVariants.{Idle, Taken, Ended}
-use Rattle.iscsi_session.specs.State.{SessionState, IsLawful, Stands, remembered}
+use Rattle.iscsi_requests.specs.State.{SessionState, IsLawful, Stands, remembered}
 use Rattle.iscsi_session.specs.Answers.{command_answers}
 use Rattle.scsi_sense.specs.Done.{Outcome}
 use Rattle.iscsi_session.specs.Steps.{Step, is_step, is_of, Work, settled, answered_command}

@@ -4,10 +4,10 @@ use Rattle.scsi_sense.specs.Done.{Outcome}
 use Rattle.scsi_unit.specs.Units.{numbers_of}
 use Rattle.iscsi_session.specs.Comings.{TargetUnits, lend, next_coming}
 use Rattle.iscsi_pdu.specs.Frames.{Frame}
-use Rattle.iscsi_session.specs.Requests.{Past, frame_of, held, due, queue, finished, stamp, answering}
-use Rattle.iscsi_session.specs.Transfers.{payload_of, is_whole_of, asking, asked}
-use Rattle.iscsi_session.specs.Functions.{drained_functions, answered_function}
-use Rattle.iscsi_session.specs.Judging.{verdict, judged, violates}
+use Rattle.iscsi_requests.specs.Requests.{Past, frame_of, held, due, queue, finished, stamp, answering}
+use Rattle.iscsi_requests.specs.Transfers.{payload_of, is_whole_of, asking, asked}
+use Rattle.iscsi_requests.specs.Functions.{drained_functions, answered_function}
+use Rattle.iscsi_requests.specs.Judging.{verdict, judged, violates}
 use Rattle.iscsi_session.specs.Acts.{acted, ordered, ends}
 use Rattle.iscsi_session.specs.Answers.{command_answers}
 use Rattle.iscsi_session.specs.Commands.{carried_out}

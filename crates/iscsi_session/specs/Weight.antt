@@ -2,12 +2,12 @@
 use Rattle.std.specs.Prelude.{◌≡◌, ◌==◌, All, ℕ, ◌+◌, ◌*◌, ◌≤◌, List, [], length, filter, filter_map, Bool, true}
 use Rattle.std.specs.List.{list_any}
 use Rattle.iscsi_pdu.specs.Header.{header_length, initiator_task_tag}
-use Rattle.iscsi_session.specs.Requests.{Past, due, unfinished, functions}
-use Rattle.iscsi_session.specs.Functions.{immediate_in}
-use Rattle.iscsi_session.specs.Judging.{most_immediate}
-use Rattle.iscsi_session.specs.Drained.{Drained}
-use Rattle.iscsi_session.specs.State.{TaskLists, SessionState, IsLawful, remembered}
-use Rattle.iscsi_session.specs.Draining.{function_tag}
+use Rattle.iscsi_requests.specs.Requests.{Past, due, unfinished, functions}
+use Rattle.iscsi_requests.specs.Functions.{immediate_in}
+use Rattle.iscsi_requests.specs.Judging.{most_immediate}
+use Rattle.iscsi_requests.specs.Drained.{Drained}
+use Rattle.iscsi_requests.specs.State.{TaskLists, SessionState, IsLawful, remembered}
+use Rattle.iscsi_requests.specs.Draining.{function_tag}
 
 -- the weight in bytes of each request that is held or unfinished: its frame, and the buffer of its data
 abbrev pub request_weight : ℕ

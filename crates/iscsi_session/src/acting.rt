@@ -6,13 +6,13 @@ ghost use Rattle.scsi_unit.specs.Units.{numbers_of};
 ghost use Rattle.iscsi_session.specs.Comings.{TargetUnits};
 ghost use Rattle.iscsi_pdu.specs.Answer.{spelling};
 ghost use Rattle.iscsi_pdu.specs.Frames as pdu;
-ghost use Rattle.iscsi_session.specs.Requests.{Past, is_command, is_function as is_function_in, frame_of, due, stamp, answering};
+ghost use Rattle.iscsi_requests.specs.Requests.{Past, is_command, is_function as is_function_in, frame_of, due, stamp, answering};
 ghost use Rattle.iscsi_session.specs.Acts.{closes, logout_answer, ping_answers};
 ghost use Rattle.iscsi_session.specs.Room.{room_to_act};
-ghost use Rattle.iscsi_session.specs.State.{Stands, standing, waiting};
+ghost use Rattle.iscsi_requests.specs.State.{Stands, standing, waiting};
 ghost use Rattle.iscsi_session.specs.Steps.{Taking, act_all};
 ghost use Rattle.iscsi_session.specs.Runs.{Runs, ActsAs, ActsFirst, output};
-ghost use Rattle.iscsi_session.specs.Texts.{is_text as is_text_in};
+ghost use Rattle.iscsi_requests.specs.Texts.{is_text as is_text_in};
 
 use crate::act::Act;
 use crate::answers::rejected;
@@ -24,17 +24,11 @@ use iscsi_pdu::{
     Answer, Frame, Header, LogoutResponse, LogoutResult, MOST_DATA, NopIn, Opcode, RejectReason,
     Stamp,
 };
+use iscsi_requests::is_command;
 use target_limits::Memory;
 
 /// The most bytes that the answer to a NOP-Out or a Logout takes, not counting the ping data.
 const ROOM_TO_ACT: usize = 99;
-
-/// Returns whether a frame is a SCSI Command.
-pub(crate) fn is_command(frame: &Frame) -> bool
-    ensures { result ≡ is_command frame.now }
-{
-    matches!(frame.header.opcode(), Opcode::ScsiCommand)
-}
 
 impl Session {
     /// Executes the requests that are due, one after the other, until there is none or one ends the session. Returns

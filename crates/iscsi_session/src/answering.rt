@@ -5,9 +5,9 @@ ghost use Rattle.scsi_unit.specs.DiskCommands.{most_given};
 ghost use Rattle.iscsi_pdu.specs.Answer.{spelling};
 ghost use Rattle.iscsi_pdu.specs.Frames as pdu;
 ghost use Rattle.iscsi_login.specs.Values.{AreInRange};
-ghost use Rattle.iscsi_session.specs.Requests.{Past, queue};
+ghost use Rattle.iscsi_requests.specs.Requests.{Past, queue};
 ghost use Rattle.iscsi_session.specs.Room.{room_for};
-ghost use Rattle.iscsi_session.specs.State.{Stands};
+ghost use Rattle.iscsi_requests.specs.State.{Stands};
 ghost use Rattle.iscsi_session.specs.Runs.{AnswersAs};
 
 use crate::answers::put_answers;

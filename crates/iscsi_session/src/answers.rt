@@ -8,7 +8,7 @@ ghost use Rattle.iscsi_pdu.specs.Frames as pdu;
 ghost use Rattle.iscsi_login.specs.Values.{AreInRange};
 ghost use Rattle.iscsi_session.specs.Answers.{expected_length, data_sent, scsi_answer, command_answers, residual_of};
 ghost use Rattle.iscsi_pdu.specs.declared.answer.Answer.{Answer as AnyAnswer};
-ghost use Rattle.iscsi_session.specs.Judging.{reject};
+ghost use Rattle.iscsi_requests.specs.Judging.{reject};
 ghost use Rattle.scsi_unit.specs.DiskCommands.{most_given};
 ghost use Rattle.iscsi_session.specs.Room.{room_for};
 
@@ -144,21 +144,4 @@ pub(crate) fn rejected(reason: RejectReason, stamp: Stamp, header: Header) -> An
         stamp,
         header,
     })
-}
-
-/// Returns an R2T as an answer (RFC 7143 §11.8).
-fn asking(r2t: R2t) -> Answer<'static>
-    ensures value { result ≡ AnyAnswer.R2t r2t }
-    ensures short { length (spelling result) ≤ 48 }
-{
-    Answer::R2t(r2t)
-}
-
-/// Writes an R2T into room that was reserved for it.
-pub(crate) fn put_r2t(out: &mut Outbox, r2t: R2t)
-    requires { 48 ≤ out.old.spare }
-    ensures written { out.new.items ≡ out.old.items ++ spelling (AnyAnswer.R2t r2t) }
-    ensures spare { out.old.spare ≤ out.new.spare + 48 }
-{
-    out.put(&asking(r2t));
 }

@@ -2,20 +2,20 @@
 
 ghost use Rattle.std.specs.Prelude.{◌≡◌, ◌++◌, ◌∷◌, ◌<◌, ℕ, List, None, Some, true, false, OnOk, OnErr};
 ghost use Rattle.iscsi_pdu.specs.Frames as pdu;
-ghost use Rattle.iscsi_session.specs.Requests.{Past, frame_of, due, is_function};
+ghost use Rattle.iscsi_requests.specs.Requests.{Past, frame_of, due, is_function};
 ghost use Rattle.iscsi_session.specs.Acts.{ended};
-ghost use Rattle.iscsi_session.specs.Functions.{own_reach};
-ghost use Rattle.iscsi_session.specs.Draining.{awaits_in};
-ghost use Rattle.iscsi_session.specs.State.{Stands, waiting};
+ghost use Rattle.iscsi_requests.specs.Functions.{own_reach};
+ghost use Rattle.iscsi_requests.specs.Draining.{awaits_in};
+ghost use Rattle.iscsi_requests.specs.State.{Stands, waiting};
 ghost use Rattle.iscsi_session.specs.Comings.{TargetUnits};
 ghost use Rattle.iscsi_session.specs.Steps.{Answering, tell_due};
 ghost use Rattle.iscsi_session.specs.Runs.{Runs, output};
 
-use crate::abort_scope::Reach;
 use crate::session::Session;
 use crate::task_management::answer_to;
 use iscsi_outbox::Outbox;
 use iscsi_pdu::{HEADER_LENGTH, TaskResult};
+use iscsi_requests::Reach;
 use target_limits::Memory;
 
 impl Session {

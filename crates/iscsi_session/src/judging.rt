@@ -5,19 +5,18 @@ ghost use Rattle.iscsi_pdu.specs.Answer.{spelling};
 ghost use Rattle.iscsi_pdu.specs.Frames as pdu;
 ghost use Rattle.iscsi_pdu.specs.Header.{initiator_task_tag};
 ghost use Rattle.iscsi_login.specs.Values.{AreInRange};
-ghost use Rattle.iscsi_session.specs.Requests.{Past, is_command as is_command_in, is_function as is_function_in, accepted, answering, stamp};
-ghost use Rattle.iscsi_session.specs.Transfers.{command_with, fed};
-ghost use Rattle.iscsi_session.specs.Judging.{verdict, request_verdict, is_refused, is_fresh, is_full, is_live, is_over, is_taken, is_faulty, task_verdict, judged, judged_answers, reject};
-ghost use Rattle.iscsi_session.specs.Draining.{judged_in, is_live_in};
-ghost use Rattle.iscsi_session.specs.State.{Stands, is_vacant_for, function_place, IsAcceptable, IsLawfulTask};
+ghost use Rattle.iscsi_requests.specs.Requests.{Past, is_command as is_command_in, is_function as is_function_in, accepted, answering, stamp};
+ghost use Rattle.iscsi_requests.specs.Transfers.{command_with, fed};
+ghost use Rattle.iscsi_requests.specs.Judging.{verdict, request_verdict, is_refused, is_fresh, is_full, is_live, is_over, is_taken, is_faulty, task_verdict, judged, judged_answers, reject};
+ghost use Rattle.iscsi_requests.specs.Draining.{judged_in, is_live_in};
+ghost use Rattle.iscsi_requests.specs.State.{Stands, is_vacant_for, function_place, IsAcceptable, IsLawfulTask};
 
-use crate::acting::is_command;
 use crate::answers::rejected;
 use crate::session::{RESERVED_TAG, Session};
 use crate::task_management::is_function;
-use crate::verdict::Verdict;
 use iscsi_outbox::Outbox;
 use iscsi_pdu::{Frame, Header, Opcode, RejectReason};
+use iscsi_requests::{Verdict, is_command};
 use iscsi_transfer::command_fault;
 use target_limits::Memory;
 
@@ -67,7 +66,7 @@ impl Session {
     }
 
     /// Returns whether the session is a discovery session, and does not serve this frame.
-    #[tactic(auto, unfolding(crate::specs::Judging::is_refused))]
+    #[tactic(auto, unfolding(iscsi_requests::specs::Judging::is_refused))]
     fn is_refused(&self, frame: &Frame) -> bool
         ensures { result ≡ is_refused self.now.params frame.now }
     {
@@ -83,7 +82,7 @@ impl Session {
     }
 
     /// Returns the verdict on a frame that the session serves.
-    #[tactic(auto, using(crate::proofs::Verdicts::verdict_at), unfolding(crate::specs::Judging::verdict_by))]
+    #[tactic(auto, using(crate::proofs::Verdicts::verdict_at), unfolding(iscsi_requests::specs::Judging::verdict_by))]
     fn judge_request(&self, frame: &Frame) -> Verdict
         ensures verdict { (past : Past) → Stands past self.now → result ≡ request_verdict past frame.now }
         ensures vacant { result ≡ Verdict.Accepted → is_vacant_for self.now.tasks frame.now ≡ true }

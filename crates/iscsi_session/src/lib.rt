@@ -14,33 +14,25 @@
 //!   command that has not come.
 //! - [`Session::settle`] performs the commands in the queue, up to the first whose data is not whole.
 //!
-//! What each call does is defined on the session's past (`specs/Requests.antt`). A past is a few plain lists, in which
+//! What each call does is defined on the session's past (`iscsi_requests`). A past is a few plain lists, in which
 //! a request is named by its place among those that came. A call takes a session from one past to another, by steps
 //! (`specs/Steps.antt`): all of them, or those before an allocation that failed. [`laws`] has what holds of every past.
 #![tactic(auto)]
 
-mod abort_scope;
-mod aborted;
 mod act;
 mod acting;
 mod answering;
 mod answers;
 mod data_ins;
-mod drained_transfers;
 mod draining;
 mod judging;
 pub mod laws;
 mod making_room;
-mod placeholders;
-mod r2ts;
-mod request_queue;
 mod serving;
 mod session;
 mod task_management;
 mod texts;
-mod transfers;
-mod verdict;
 
-pub use abort_scope::{Reach, attention_of, is_for_all_sessions};
+pub use iscsi_requests::{Reach, attention_of, is_for_all_sessions};
 pub use session::Session;
 pub use target_limits::Memory;

@@ -5,17 +5,16 @@ ghost use Rattle.iscsi_pdu.specs.Header.{data_length};
 ghost use Rattle.iscsi_pdu.specs.Segment.{most_data};
 ghost use Rattle.iscsi_pdu.specs.declared.answer.Answer.{Answer};
 ghost use Rattle.iscsi_transfer.specs.Counted.{brought};
-ghost use Rattle.iscsi_session.specs.Needed.{is_needed};
-ghost use Rattle.iscsi_session.specs.Requests.{Past, begun, bearing, stamp, answering};
-ghost use Rattle.iscsi_session.specs.State.{remembered, Stands, whole_at, place_for, is_waiting};
+ghost use Rattle.iscsi_requests.specs.Needed.{is_needed};
+ghost use Rattle.iscsi_requests.specs.Requests.{Past, begun, bearing, stamp, answering};
+ghost use Rattle.iscsi_requests.specs.State.{remembered, Stands, whole_at, place_for, is_waiting};
 
-use crate::request_queue::RequestQueue;
 use crate::task_management::Functions;
-use crate::transfers::Transfers;
 use iscsi_exchange::Exchange;
 use iscsi_login::SessionParams;
 use iscsi_order::Stat;
 use iscsi_pdu::{Frame, Header, Stamp};
+use iscsi_requests::{RequestQueue, Transfers};
 use std::alloc::Global;
 use std::marker::Model;
 use target_limits::Memory;
@@ -40,7 +39,7 @@ pub struct Session {
 }
 
 impl Model for Session {
-    ghost use Rattle.iscsi_session.specs.State.{SessionState};
+    ghost use Rattle.iscsi_requests.specs.State.{SessionState};
 
     ghost Value = { SessionState };
 
@@ -75,7 +74,7 @@ impl Session {
     pub fn is_idle(&self) -> bool
         ensures { result ≡ true → self.now.transfers.drains ≡ [] }
     {
-        self.tasks.is_empty() && self.transfers.drains.is_empty()
+        self.tasks.is_empty() && self.transfers.drains_none()
     }
 
     /// Returns whose session it is, with which target, and the values in force.

@@ -5,16 +5,13 @@ ghost use Rattle.iscsi_pdu.specs.Answer.{spelling};
 ghost use Rattle.iscsi_pdu.specs.Frames as pdu;
 ghost use Rattle.iscsi_pdu.specs.TaskManagement.{ref_cmd_sn};
 ghost use Rattle.iscsi_order.specs.Window as order;
-ghost use Rattle.iscsi_session.specs.Requests.{Past, frame_of, due, numbers as numbers_in, removing, is_function as is_function_in};
-ghost use Rattle.iscsi_session.specs.Functions.{own_reach, reached, awaited, is_plug as is_plug_in, refers_back, abort_finds, plugs as plugs_in, abort_result, function_result, function_answer};
+ghost use Rattle.iscsi_requests.specs.Requests.{Past, frame_of, due, numbers as numbers_in, removing, is_function as is_function_in};
+ghost use Rattle.iscsi_requests.specs.Functions.{own_reach, reached, awaited, refers_back, abort_finds, plugs as plugs_in, abort_result, function_result, function_answer};
 ghost use Rattle.iscsi_session.specs.Acts.{ended, behind};
 ghost use Rattle.iscsi_session.specs.Runs.{ActsAs, output};
-ghost use Rattle.iscsi_session.specs.State.{Stands, function_place, immediate_functions, function_removed, is_vacant, waiting};
+ghost use Rattle.iscsi_requests.specs.State.{Stands, function_place, immediate_functions, function_removed, is_vacant, waiting};
 
-use crate::abort_scope::{Reach, Scope};
-use crate::aborted::Aborted;
 use crate::act::Act;
-use crate::placeholders::PLUGGED;
 use crate::session::Session;
 use iscsi_order::{CommandNumbers, is_before};
 use iscsi_outbox::Outbox;
@@ -22,6 +19,7 @@ use iscsi_pdu::{
     Answer, Frame, HEADER_LENGTH, Header, Opcode, Stamp, TaskFunction, TaskManagementResponse,
     TaskResult,
 };
+use iscsi_requests::{Aborted, Reach, Scope};
 use std::alloc::Global;
 use std::marker::Model;
 use target_limits::Memory;
@@ -31,13 +29,6 @@ pub(crate) fn is_function(frame: &Frame) -> bool
     ensures { result ≡ is_function_in frame.now }
 {
     matches!(frame.header.opcode(), Opcode::TaskManagement)
-}
-
-/// Returns whether a frame is the placeholder for a number that was plugged.
-pub(crate) fn is_plug(frame: &Frame) -> bool
-    ensures { result ≡ is_plug_in frame.now }
-{
-    matches!(frame.header.opcode(), Opcode::Other(PLUGGED))
 }
 
 /// Returns whether the number that a function refers to is before its own.
@@ -238,7 +229,7 @@ impl Session {
     }
 
     /// Returns whether a function plugs the number that it refers to: it is the ABORT TASK of a task that has not come.
-    #[tactic(auto, unfolding(crate::specs::Functions::plugs))]
+    #[tactic(auto, unfolding(iscsi_requests::specs::Functions::plugs))]
     fn plugs(&self, reach: &Reach) -> bool
         ensures past { (past : Past) → Stands past self.now → result ≡ plugs_in past reach.now }
         ensures vacant { IsTrue result → is_vacant self.now.tasks (ref_cmd_sn reach.now.function) ≡ true }
@@ -271,7 +262,7 @@ impl Session {
     }
 
     /// Returns the response to a function (RFC 7143 §11.6.1).
-    #[tactic(auto, unfolding(crate::specs::Functions::function_result))]
+    #[tactic(auto, unfolding(iscsi_requests::specs::Functions::function_result))]
     fn function_result(&self, reach: &Reach) -> TaskResult
         ensures { (past : Past) → Stands past self.now → result ≡ function_result past reach.now }
     {

@@ -5,10 +5,10 @@ ghost use Rattle.iscsi_pdu.specs.Answer.{spelling};
 ghost use Rattle.iscsi_pdu.specs.Segment.{most_data};
 ghost use Rattle.iscsi_exchange.specs.ExchangeState.{ExchangeState};
 ghost use Rattle.iscsi_exchange.specs.Exchange.{IsShort, hears};
-ghost use Rattle.iscsi_session.specs.Requests.{Past, frame_of, due};
-ghost use Rattle.iscsi_session.specs.Texts.{is_text as is_text_in, text_answer};
+ghost use Rattle.iscsi_requests.specs.Requests.{Past, frame_of, due};
+ghost use Rattle.iscsi_requests.specs.Texts.{is_text as is_text_in, text_answer};
 ghost use Rattle.iscsi_session.specs.Room.{room_to_tell};
-ghost use Rattle.iscsi_session.specs.State.{Stands, waiting};
+ghost use Rattle.iscsi_requests.specs.State.{Stands, waiting};
 ghost use Rattle.iscsi_session.specs.Runs.{ActsAs, output};
 
 use crate::act::Act;

@@ -1,9 +1,9 @@
 use Rattle.std.proofs.Common.{ℕ, true, false, refl, sym, ap, ◌∙◌}
 use Rattle.iscsi_order.specs.Window as order
 use Rattle.iscsi_pdu.specs.TaskManagement.{ref_cmd_sn}
-use Rattle.iscsi_session.specs.Requests.{numbers}
-use Rattle.iscsi_session.specs.Functions.{FunctionReach, refers_back}
-use Rattle.iscsi_session.specs.State.{is_some_plug, held_numbered}
+use Rattle.iscsi_requests.specs.Requests.{numbers}
+use Rattle.iscsi_requests.specs.Functions.{FunctionReach, refers_back}
+use Rattle.iscsi_requests.specs.State.{is_some_plug, held_numbered}
 use Rattle.iscsi_session.proofs.Answered.{seen}
 use Rattle.iscsi_session.proofs.Parts.{window_stands}
 use Rattle.iscsi_session.proofs.Ending.{finds_is}

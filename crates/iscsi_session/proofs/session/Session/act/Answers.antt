@@ -1,9 +1,9 @@
 use Rattle.std.proofs.Common.{◌≡◌, ◌++◌, [], ◌∷◌, ℕ, List, drop, true, false, refl, sym, ap, subst, ◌∙◌, arith}
 use Rattle.std.proofs.lemmas.Result.{IfOk-weaker}
-use Rattle.iscsi_session.specs.Requests.{is_command, is_function, frame_of}
+use Rattle.iscsi_requests.specs.Requests.{is_command, is_function, frame_of}
 use Rattle.iscsi_session.specs.Acts.{act_answers}
-use Rattle.iscsi_session.specs.Texts.{is_text}
-use Rattle.iscsi_session.specs.State.{SessionState, standing, waiting}
+use Rattle.iscsi_requests.specs.Texts.{is_text}
+use Rattle.iscsi_requests.specs.State.{SessionState, standing, waiting}
 use Rattle.iscsi_session.specs.Runs.{ActsAs, output}
 use Rattle.iscsi_session.proofs.Answered.{seen, none_due, due_first, none_acts, first_acts, command_kind, goes_on_act, command_answers_none, none_ordered, none_spelled, stands_queued, command_there, text_there, function_there, no_text_there, no_function_there}
 use Rattle.iscsi_session.proofs.Kept.{command_no_function}

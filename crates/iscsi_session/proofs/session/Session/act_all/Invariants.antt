@@ -2,7 +2,7 @@ use Rattle.std.proofs.Common.{◌≡◌, ◌++◌, ℕ, List}
 use Rattle.scsi_unit.specs.Units.{numbers_of}
 use Rattle.iscsi_session.specs.Comings.{TargetUnits}
 use Rattle.iscsi_session.specs.Runs.{output}
-use Rattle.iscsi_session.specs.State.{waiting}
+use Rattle.iscsi_requests.specs.State.{waiting}
 use Rattle.iscsi_session.proofs.Settled.{RanActs}
 use Rattle.iscsi_session.proofs.session.Session.act_all.Given as goal
 

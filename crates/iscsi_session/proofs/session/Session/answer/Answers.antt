@@ -2,8 +2,8 @@ use Rattle.std.proofs.Common.{◌++◌, List, refl, sym, ap, subst, ◌∙◌}
 use Rattle.std.specs.Prelude.{flat_map}
 use Rattle.iscsi_pdu.specs.Answer.{spelling}
 use Rattle.iscsi_pdu.specs.declared.answer.Answer.{Answer}
-use Rattle.iscsi_session.specs.Requests.{moved, answering}
-use Rattle.iscsi_session.specs.State.{Stands}
+use Rattle.iscsi_requests.specs.Requests.{moved, answering}
+use Rattle.iscsi_requests.specs.State.{Stands}
 use Rattle.iscsi_session.proofs.Parts.{parts}
 use Rattle.iscsi_session.proofs.Answered.{IsOther, kind_of, seen, came_as, other_came, finished_here, some_due, goes_on_act, ping_same, logout_act, logout_same, other_is, one_spelled, none_spelled, none_ordered, stands_plain, stands_silent}
 use Rattle.iscsi_session.proofs.session.Session.answer.Goals as goal

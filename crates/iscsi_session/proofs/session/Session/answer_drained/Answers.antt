@@ -5,10 +5,10 @@ use Rattle.iscsi_pdu.specs.Header.{initiator_task_tag}
 use Rattle.iscsi_pdu.specs.declared.answer.Answer.{Answer}
 use Rattle.iscsi_pdu.specs.declared.stamp.Stamp.{Stamp}
 use Rattle.iscsi_pdu.specs.declared.task_management_response.TaskResult.TheVariants.{Complete}
-use Rattle.iscsi_session.specs.Requests.{stamp}
-use Rattle.iscsi_session.specs.Functions.{drained_functions, function_answer, told, told_answers, answered_by, told_by}
-use Rattle.iscsi_session.specs.Draining.{drains_without}
-use Rattle.iscsi_session.specs.State.{SessionState, Stands, function_removed, function_place}
+use Rattle.iscsi_requests.specs.Requests.{stamp}
+use Rattle.iscsi_requests.specs.Functions.{drained_functions, function_answer, told, told_answers, answered_by, told_by}
+use Rattle.iscsi_requests.specs.Draining.{drains_without}
+use Rattle.iscsi_requests.specs.State.{SessionState, Stands, function_removed, function_place}
 use Rattle.iscsi_session.proofs.Parts.{on_err_known}
 use Rattle.iscsi_session.proofs.Answered.{one_spelled}
 use Rattle.iscsi_session.proofs.Telling.{telling_none, telling_here, told_same}

@@ -4,15 +4,16 @@ use Rattle.iscsi_pdu.specs.Frames.{Frame}
 use Rattle.iscsi_pdu.specs.declared.stamp.Stamp.{Stamp}
 use Rattle.iscsi_pdu.specs.declared.answer.Answer.{Answer}
 use Rattle.iscsi_order.specs.Stat.{stat_sn}
-use Rattle.iscsi_session.specs.Functions.{FunctionReach, own_reach, awaited, function_answer}
-use Rattle.iscsi_session.specs.Draining.{awaits_in}
+use Rattle.iscsi_requests.specs.Functions.{FunctionReach, own_reach, awaited, function_answer}
+use Rattle.iscsi_requests.specs.Draining.{awaits_in}
 use Rattle.iscsi_session.proofs.Waits.{awaits_is, some_of, none_of, acted_waits}
-use Rattle.iscsi_session.specs.Requests.{Past, frame_of, statuses, stamp}
+use Rattle.iscsi_requests.specs.Requests.{Past, frame_of, statuses, stamp}
 use Rattle.iscsi_session.specs.Acts.{reach_of, ended, behind, act_answers}
-use Rattle.iscsi_session.specs.State.{SessionState, Stands, waiting}
+use Rattle.iscsi_requests.specs.State.{SessionState, Stands, waiting}
 use Rattle.iscsi_session.proofs.Kept.{function_no_command}
 use Rattle.iscsi_session.proofs.Parts.{parts, stands_stat}
-use Rattle.iscsi_session.proofs.Answered.{seen, function_kind, goes_on_act, none_spelled, function_waits, first_drops, same_head, statuses_behind, stamp_is, function_bears, function_same, function_ordered, one_spelled, some_due}
+use Rattle.iscsi_requests.proofs.Heads.{same_head}
+use Rattle.iscsi_session.proofs.Answered.{seen, function_kind, goes_on_act, none_spelled, function_waits, first_drops, statuses_behind, stamp_is, function_bears, function_same, function_ordered, one_spelled, some_due}
 use Rattle.iscsi_session.proofs.session.Session.answer_function.Goals as goal
 
 pub returns-in_default-clause-acts : goal.returns-in_default-clause-acts

@@ -1,11 +1,12 @@
 use Rattle.std.proofs.Common.{◌≡◌, ◌∷◌, List, ℕ, drop, true, ap, subst, ◌∙◌, arith}
 use Rattle.iscsi_pdu.specs.Frames.{Frame}
 use Rattle.iscsi_exchange.specs.Exchange.{hears}
-use Rattle.iscsi_session.specs.Requests.{Past, frame_of, frames_of, due}
-use Rattle.iscsi_session.specs.Texts.{is_text}
+use Rattle.iscsi_requests.specs.Requests.{Past, frame_of, frames_of, due}
+use Rattle.iscsi_requests.specs.Texts.{is_text}
 use Rattle.iscsi_session.specs.Runs.{ActsAs, output}
-use Rattle.iscsi_session.specs.State.{SessionState, Stands, standing}
-use Rattle.iscsi_session.proofs.Answered.{seen, first_due, same_head, some_due, stands_other_kind, text_no_command}
+use Rattle.iscsi_requests.specs.State.{SessionState, Stands, standing}
+use Rattle.iscsi_requests.proofs.Heads.{same_head}
+use Rattle.iscsi_session.proofs.Answered.{seen, first_due, some_due, stands_other_kind, text_no_command}
 use Rattle.iscsi_session.proofs.session.Session.answer_text.Goals as goal
 use Rattle.std.proofs.lemmas.Grind.{common_steps}
 

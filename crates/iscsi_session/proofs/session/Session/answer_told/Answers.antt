@@ -3,9 +3,9 @@ use Rattle.iscsi_pdu.specs.Answer.{spelling}
 use Rattle.iscsi_pdu.specs.declared.answer.Answer.{Answer}
 use Rattle.iscsi_pdu.specs.declared.stamp.Stamp.{Stamp}
 use Rattle.iscsi_exchange.specs.Exchange.{ToldState, hears}
-use Rattle.iscsi_session.specs.Requests.{frame_of, moved, answering, stamp}
-use Rattle.iscsi_session.specs.Texts.{text_answer}
-use Rattle.iscsi_session.specs.State.{SessionState, Stands}
+use Rattle.iscsi_requests.specs.Requests.{frame_of, moved, answering, stamp}
+use Rattle.iscsi_requests.specs.Texts.{text_answer}
+use Rattle.iscsi_requests.specs.State.{SessionState, Stands}
 use Rattle.iscsi_session.proofs.Parts.{text_kind}
 use Rattle.iscsi_session.proofs.Answered.{text_here, text_same, text_bears, goes_on_act, some_due, one_spelled, none_ordered, stands_plain, text_no_function}
 use Rattle.iscsi_session.proofs.session.Session.answer_told.Goals as goal

@@ -3,8 +3,8 @@ use Rattle.std.specs.Prelude.{flat_map, is_some}
 use Rattle.std.proofs.lemmas.Bool.{eq-eqb}
 use Rattle.iscsi_pdu.specs.Answer.{spelling}
 use Rattle.iscsi_pdu.specs.declared.answer.Answer.{Answer}
-use Rattle.iscsi_session.specs.Transfers.{asking, asked_by, r2t_answers, r2ts_by}
-use Rattle.iscsi_session.specs.State.{SessionState, Stands, r2ts_at}
+use Rattle.iscsi_requests.specs.Transfers.{asking, asked_by, r2t_answers, r2ts_by}
+use Rattle.iscsi_requests.specs.State.{SessionState, Stands, r2ts_at}
 use Rattle.iscsi_session.specs.Steps.{Asking, ask, ask_due}
 use Rattle.iscsi_session.proofs.Parts.{on_err_known}
 use Rattle.iscsi_session.proofs.Asking.{asking_there, sends_all}

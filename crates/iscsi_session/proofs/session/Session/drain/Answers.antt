@@ -1,11 +1,11 @@
 use Rattle.std.proofs.Common.{◌≡◌, ◌++◌, ◌<◌, length, drop, List, sym, ap, subst, ◌∙◌, arith}
 use Rattle.std.proofs.lemmas.List.{length-map}
 use Rattle.iscsi_pdu.specs.Frames.{Frame}
-use Rattle.iscsi_session.specs.Requests.{frames_of}
-use Rattle.iscsi_session.specs.Functions.{FunctionReach, awaited}
+use Rattle.iscsi_requests.specs.Requests.{frames_of}
+use Rattle.iscsi_requests.specs.Functions.{FunctionReach, awaited}
 use Rattle.iscsi_session.specs.Acts.{reach_of}
-use Rattle.iscsi_session.specs.State.{SessionState, TaskLists, Stands, standing, without, transfers_without, void_if, waiting}
-use Rattle.iscsi_session.specs.Draining.{awaited_in, awaits_in}
+use Rattle.iscsi_requests.specs.State.{SessionState, TaskLists, Stands, standing, without, transfers_without, void_if, waiting}
+use Rattle.iscsi_requests.specs.Draining.{awaited_in, awaits_in}
 use Rattle.iscsi_session.proofs.Parts.{due_is}
 use Rattle.iscsi_session.proofs.Weights.{queues_one, waiting_without, given_frame}
 use Rattle.iscsi_session.proofs.Waits.{awaits_is, some_of, stands_waits}

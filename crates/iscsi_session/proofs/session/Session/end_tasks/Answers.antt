@@ -1,10 +1,10 @@
 use Rattle.std.proofs.Common.{◌≡◌, ◌<◌, [], ◌∷◌, length, drop, true, false, refl, sym, ap, subst, ◌∙◌, arith}
 use Rattle.iscsi_pdu.specs.Header.{initiator_task_tag}
 use Rattle.iscsi_pdu.specs.TaskManagement.{ref_cmd_sn}
-use Rattle.iscsi_session.specs.Requests.{frame_of, numbers}
-use Rattle.iscsi_session.specs.Functions.{FunctionReach, awaited, plug, plugs}
+use Rattle.iscsi_requests.specs.Requests.{frame_of, numbers}
+use Rattle.iscsi_requests.specs.Functions.{FunctionReach, awaited, plug, plugs}
 use Rattle.iscsi_session.specs.Acts.{reach_of, ended}
-use Rattle.iscsi_session.specs.State.{SessionState, TaskLists, Stands, one_fewer, plugged_behind, holding, takes_all, without, transfers_without, is_vacant}
+use Rattle.iscsi_requests.specs.State.{SessionState, TaskLists, Stands, one_fewer, plugged_behind, holding, takes_all, without, transfers_without, is_vacant}
 use Rattle.iscsi_session.proofs.Kept.{function_no_command}
 use Rattle.iscsi_session.proofs.Parts.{window_stands}
 use Rattle.iscsi_session.proofs.Answered.{first_drops, function_here}

@@ -1,5 +1,5 @@
 use Rattle.std.proofs.Common.{◌≡◌, ℕ, [], sym, ap, ◌∙◌, append-nil}
-use Rattle.iscsi_session.specs.State.{SessionState, payload_at, place_for, place_with}
+use Rattle.iscsi_requests.specs.State.{SessionState, payload_at, place_for, place_with}
 use Rattle.iscsi_pdu.specs.Frames.{Frame}
 use Rattle.iscsi_pdu.specs.Header.{initiator_task_tag}
 use Rattle.iscsi_session.specs.Commands.{carried_out}

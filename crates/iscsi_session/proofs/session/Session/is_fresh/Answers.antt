@@ -2,8 +2,8 @@ use Rattle.std.proofs.Common.{◌≡◌, false, sym, ap, ◌∙◌, subst}
 use Rattle.iscsi_pdu.specs.Header.{is_immediate, cmd_sn}
 use Rattle.iscsi_pdu.specs.Frames.{Frame}
 use Rattle.iscsi_order.specs.Window as order
-use Rattle.iscsi_session.specs.Requests.{numbers}
-use Rattle.iscsi_session.specs.State.{SessionState, Stands}
+use Rattle.iscsi_requests.specs.Requests.{numbers}
+use Rattle.iscsi_requests.specs.State.{SessionState, Stands}
 use Rattle.iscsi_session.proofs.Parts.{fresh_is, window_stands}
 use Rattle.iscsi_session.proofs.session.Session.is_fresh.Goals as goal
 

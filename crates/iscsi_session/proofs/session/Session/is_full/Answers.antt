@@ -1,5 +1,5 @@
 use Rattle.std.proofs.Common.{◌≡◌, ◌+◌, ◌-◌, ◌^◌, min, leb, ltb, not, ℕ, Bool, refl, sym, subst, ◌∙◌, arith}
-use Rattle.iscsi_session.specs.State.{SessionState, Stands, immediate_transfers, immediate_functions}
+use Rattle.iscsi_requests.specs.State.{SessionState, Stands, immediate_transfers, immediate_functions}
 use Rattle.iscsi_session.proofs.Feeding.{full_is}
 use Rattle.iscsi_session.proofs.session.Session.is_full.Goals as goal
 

@@ -1,5 +1,5 @@
 use Rattle.std.proofs.Common.{sym, subst, ◌∙◌}
-use Rattle.iscsi_session.specs.State.{SessionState, Stands}
+use Rattle.iscsi_requests.specs.State.{SessionState, Stands}
 use Rattle.iscsi_session.proofs.Feeding.{live_is, live_first, live_second}
 use Rattle.iscsi_session.proofs.session.Session.is_live.Goals as goal
 

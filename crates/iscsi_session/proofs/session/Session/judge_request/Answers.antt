@@ -2,8 +2,8 @@ use Rattle.std.proofs.Common.{◌≡◌, sym, ap, ◌∙◌, subst}
 use Rattle.iscsi_pdu.specs.Header.{opcode_of, opcode_number}
 use Rattle.iscsi_pdu.specs.Frames.{Frame}
 use Rattle.iscsi_pdu.specs.declared.header.Opcode.TheVariants.{DataOut}
-use Rattle.iscsi_session.specs.Judging.{verdict_by}
-use Rattle.iscsi_session.specs.State.{SessionState, Stands}
+use Rattle.iscsi_requests.specs.Judging.{verdict_by}
+use Rattle.iscsi_requests.specs.State.{SessionState, Stands}
 use Rattle.iscsi_session.proofs.Feeding.{judged_is}
 use Rattle.iscsi_session.proofs.Verdicts.{verdict_at}
 use Rattle.iscsi_session.proofs.session.Session.judge_request.Goals as goal

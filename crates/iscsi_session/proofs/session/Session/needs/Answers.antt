@@ -1,7 +1,7 @@
 use Rattle.std.proofs.Common.{ℕ, sym, ap, ◌∙◌, subst}
 use Rattle.iscsi_transfer.specs.Counted.{brought}
-use Rattle.iscsi_session.specs.State.{SessionState, Stands}
-use Rattle.iscsi_session.specs.Needed.{needs_in}
+use Rattle.iscsi_requests.specs.State.{SessionState, Stands}
+use Rattle.iscsi_requests.specs.Needed.{needs_in}
 use Rattle.iscsi_session.proofs.Needed.{needs_stands}
 use Rattle.iscsi_session.proofs.session.Session.needs.Goals as goal
 

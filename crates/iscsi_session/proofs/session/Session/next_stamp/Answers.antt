@@ -1,6 +1,6 @@
 use Rattle.std.proofs.Common.{sym, subst, arith}
-use Rattle.iscsi_session.specs.Requests.{statuses, stamp}
-use Rattle.iscsi_session.specs.State.{SessionState, Stands}
+use Rattle.iscsi_requests.specs.Requests.{statuses, stamp}
+use Rattle.iscsi_requests.specs.State.{SessionState, Stands}
 use Rattle.iscsi_session.proofs.Parts.{parts, window_stands, stands_stat}
 use Rattle.iscsi_session.proofs.session.Session.next_stamp.Goals as goal
 

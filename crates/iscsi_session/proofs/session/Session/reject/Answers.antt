@@ -2,8 +2,8 @@ use Rattle.std.proofs.Common.{◌≡◌, ◌++◌, ℕ, List, ap, ◌∙◌}
 use Rattle.iscsi_pdu.specs.Answer.{spelling}
 use Rattle.iscsi_pdu.specs.declared.answer.Answer.{Answer}
 use Rattle.iscsi_pdu.specs.declared.stamp.Stamp.{Stamp}
-use Rattle.iscsi_session.specs.Requests.{stamp}
-use Rattle.iscsi_session.specs.Judging.{reject}
+use Rattle.iscsi_requests.specs.Requests.{stamp}
+use Rattle.iscsi_requests.specs.Judging.{reject}
 use Rattle.iscsi_session.proofs.session.Session.reject.Goals as goal
 
 pub returns-clause-out : goal.returns-clause-out

@@ -1,5 +1,5 @@
 use Rattle.std.proofs.Common.{sym, subst, ◌∙◌}
-use Rattle.iscsi_session.specs.State.{SessionState, Stands}
+use Rattle.iscsi_requests.specs.State.{SessionState, Stands}
 use Rattle.iscsi_session.proofs.Removing.{stands_removing}
 use Rattle.iscsi_session.proofs.Ending.{some_reached}
 use Rattle.iscsi_session.proofs.session.Session.remove.Goals as goal

@@ -4,7 +4,7 @@ use Rattle.iscsi_login.specs.declared.session_params.SessionParams.{SessionParam
 use Rattle.std.proofs.lemmas.Bool.{ne_eqb}
 use Rattle.iscsi_pdu.specs.Frames.{Frame}
 use Rattle.iscsi_pdu.specs.Header.{initiator_task_tag}
-use Rattle.iscsi_session.specs.State.{SessionState, Stands}
+use Rattle.iscsi_requests.specs.State.{SessionState, Stands}
 use Rattle.iscsi_session.proofs.Parts.{parts}
 use Rattle.iscsi_session.proofs.Answered.{ping_written, ping_data}
 use Rattle.iscsi_session.proofs.session.Session.return_ping.Goals as goal

@@ -1,5 +1,5 @@
 use Rattle.std.proofs.Common.{arith}
-use Rattle.iscsi_session.specs.Requests.{stamp}
+use Rattle.iscsi_requests.specs.Requests.{stamp}
 use Rattle.iscsi_session.proofs.Parts.{parts, window_stands}
 use Rattle.iscsi_session.proofs.session.Session.stamp.Goals as goal
 

@@ -1,6 +1,0 @@
-use Rattle.std.proofs.Common.{arith}
-use Rattle.iscsi_session.proofs.Voiding.{voids_then, keys_more}
-use Rattle.iscsi_session.proofs.placeholders.void_held.Goals as goal
-
-pub loop-key-preserved : goal.loop-key-preserved
-loop-key-preserved c = grind (arith, keys_more, voids_then)

@@ -1,7 +1,0 @@
-use Rattle.std.proofs.Common.{take}
-use Rattle.iscsi_session.specs.RequestQueue.{Voids, keys_in}
-use Rattle.iscsi_session.proofs.placeholders.void_held.Given as goal
-
--- those so far are voided
-abbrev pub invariant-loop-key : goal.invariant-loop-key
-invariant-loop-key l = Voids l.reach (keys_in (take l.key-index l.keys)) l.initial.requests l.requests

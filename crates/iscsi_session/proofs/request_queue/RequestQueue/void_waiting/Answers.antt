@@ -1,6 +1,0 @@
-use Rattle.std.proofs.Common.{arith}
-use Rattle.iscsi_session.proofs.Voiding.{voids_then, voided_lines}
-use Rattle.iscsi_session.proofs.request_queue.RequestQueue.void_waiting.Goals as goal
-
-pub returns : goal.returns
-returns c = grind (arith, voids_then, voided_lines)
