@@ -13,8 +13,8 @@ use Rattle.scsi_tape.specs.CameOut.{TapeCame, tape_touch, is_tape_possible}
 use Rattle.scsi_tape.specs.CameOut as tape_way
 use Rattle.scsi_tape.proofs.Trusted.{sure_came}
 use Rattle.scsi_unit.specs.Device.{DeviceState, Disk, Tape, StoreState, store_of, IsSteady}
-use Rattle.scsi_unit.specs.DiskCame.{DiskCame, DiskTouch, is_disk_possible, can_fail}
-use Rattle.scsi_unit.specs.DiskCame as disk_way
+use Rattle.scsi_disk.specs.DiskCame.{DiskCame, DiskTouch, is_disk_possible, can_fail}
+use Rattle.scsi_disk.specs.DiskCame as disk_way
 use Rattle.scsi_unit.specs.CameOut.{CameOut, AsDefined, on_disk, on_tape, disk_came, tape_came, Touch, Nothing, OnDisk, OnTape, touches, way}
 use Rattle.scsi_unit.specs.CameOut.{disk_store, tape_store, store_after}
 use Rattle.scsi_unit.specs.State.{UnitState}

@@ -2,14 +2,9 @@ pub mod Lists
 pub mod Numbers
 pub mod Places
 pub mod CameOut
-pub mod DiskCame
-pub mod DiskDone
-pub mod DiskWrites
 pub mod Performed
 pub mod Found
 pub mod Sound
 pub mod TapeDone
-pub mod Room
-pub mod Rooms
 pub mod Results
 pub mod UnitParts

@@ -13,7 +13,7 @@ use Rattle.scsi_mode.specs.declared.list_fault.ListFault.{ListFault}
 use Rattle.scsi_mode.specs.declared.parameters.Parameters.{Parameters}
 use Rattle.scsi_unit.specs.Device.{DeviceState, Disk, Tape}
 use Rattle.scsi_tape.specs.CameOut.{TapeCame}
-use Rattle.scsi_unit.specs.DiskCame.{DiskCame}
+use Rattle.scsi_disk.specs.DiskCame.{DiskCame}
 use Rattle.scsi_unit.specs.CameOut.{CameOut, Touch, disk_came, tape_came}
 use Rattle.scsi_unit.specs.State.{UnitState}
 use Rattle.scsi_unit.specs.Checks.{judged}

@@ -11,11 +11,12 @@ use Rattle.scsi_cdb.specs.declared.command.DiskCommand.TheVariants.{Read, ReadCa
 use Rattle.scsi_cdb.specs.declared.command.DiskCommand.TheVariants.{SynchronizeCache, WriteSame, CompareAndWrite}
 use Rattle.scsi_cdb.specs.declared.tape.TapeCommand.{TapeCommand}
 use Rattle.scsi_tape.specs.State.{TapeUnitState}
-use Rattle.scsi_unit.specs.Device.{DiskUnit, Disk, Tape, StoreState, store_of}
-use Rattle.scsi_unit.specs.DiskCame.{DiskCame, Shown, shown_by, disk_after}
-use Rattle.scsi_unit.specs.DiskCame as disk_way
+use Rattle.scsi_disk.specs.DiskDevice.{DiskUnit}
+use Rattle.scsi_unit.specs.Device.{Disk, Tape, StoreState, store_of}
+use Rattle.scsi_disk.specs.DiskCame.{DiskCame, Shown, shown_by, disk_after}
+use Rattle.scsi_disk.specs.DiskCame as disk_way
 use Rattle.scsi_unit.specs.CameOut.{CameOut, AsDefined, on_disk, tape_came, Touch, disk_store, store_after}
-use Rattle.scsi_unit.specs.DiskCommands.{IsDiskDone, touch_of, disk_defined, written_where, shown}
+use Rattle.scsi_disk.specs.DiskCommands.{IsDiskDone, touch_of, disk_defined, written_where, shown}
 use Rattle.scsi_unit.specs.TapeCommands.{tape_performed}
 use Rattle.scsi_unit.specs.State.{UnitState}
 use Rattle.scsi_unit.specs.Unit.{touch_by, carried_out, IsPerformed}

@@ -7,8 +7,8 @@ use Rattle.scsi_cdb.specs.declared.tape.TapeCommand.{TapeCommand}
 use Rattle.scsi_tape.specs.CameOut.{TapeCame, tape_touch, is_tape_possible}
 use Rattle.scsi_tape.specs.CameOut as tape_way
 use Rattle.scsi_unit.specs.Device.{DeviceState, Disk, Tape, StoreState, store_of}
-use Rattle.scsi_unit.specs.DiskCame.{DiskCame, DiskTouch, is_disk_possible}
-use Rattle.scsi_unit.specs.DiskCame as disk_way
+use Rattle.scsi_disk.specs.DiskCame.{DiskCame, DiskTouch, is_disk_possible}
+use Rattle.scsi_disk.specs.DiskCame as disk_way
 
 pub data CameOut : Type 0 where
   -- as its definition says

@@ -26,7 +26,7 @@ use Rattle.scsi_tape.specs.TapeSense.{target_failure}
 use Rattle.scsi_tape.specs.State.{not_ready}
 use Rattle.scsi_tape.specs.Commands.{bytes_needed as tape_needed}
 use Rattle.scsi_unit.specs.Device.{DeviceState, Disk, Tape, kind_of, fixed_length}
-use Rattle.scsi_unit.specs.DiskCommands.{range_named, bytes_needed, is_write}
+use Rattle.scsi_disk.specs.DiskCommands.{range_named, bytes_needed, is_write}
 use Rattle.scsi_unit.specs.Joined.{told}
 use Rattle.scsi_unit.specs.State.{UnitState}
 use Rattle.scsi_unit.specs.declared.refusal.Refusal.{Refusal}

@@ -11,23 +11,12 @@ use Rattle.scsi_tape.specs.State.{TapeUnitState, opened_unit}
 use Rattle.scsi_tape.specs.CameOut.{is_steady}
 use Rattle.scsi_unit.specs.declared.device.Device.{Device}
 use Rattle.scsi_unit.specs.declared.device.Device.TheVariants as device
-use Rattle.scsi_unit.specs.declared.device.DiskDevice.{DiskDevice}
-
--- a disk: its blocks and its store; own: whether no write of it has failed since it was opened. SWP says whether writes
--- to it are refused (SPC-4 "Control mode page")
-pub record DiskUnit : Type 0 where
-  pub disk : DiskState
-  pub is_ready : Bool
-  pub write_protect : Bool
+use Rattle.scsi_disk.specs.DiskDevice.{DiskUnit, disk_view}
 
 -- own: a unit keeps data on a disk, or on a tape
 pub data DeviceState : Type 0 where
   Disk : (disk : DiskUnit) → DeviceState
   Tape : (tape : TapeUnitState) → DeviceState
-
--- the disk without its place in memory
-abbrev pub disk_view : {S : Type 0} → DiskDevice S → DiskUnit
-disk_view disk = record { disk = disk.disk; is_ready = disk.is_ready; write_protect = disk.write_protect }
 
 abbrev pub device_view : {S : Type 0} → Device S → DeviceState
 device_view (device.Disk disk) = Disk (disk_view disk)

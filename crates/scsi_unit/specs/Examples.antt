@@ -13,13 +13,14 @@ use Rattle.scsi_inquiry.specs.StandardData.{standard_data}
 use Rattle.scsi_inquiry.specs.Luns.{rising}
 use Rattle.scsi_inquiry.specs.declared.peripheral.Peripheral.TheVariants as peripheral
 use Rattle.scsi_mode.specs.ParameterList.{is_page, after_page, has_page, after_pages, after_descriptor, after_header, selected}
-use Rattle.scsi_unit.specs.Device.{DiskUnit, DeviceState, Disk, Tape, opened_tape}
-use Rattle.scsi_unit.specs.DiskCame.{ReadFailed}
+use Rattle.scsi_disk.specs.DiskDevice.{DiskUnit}
+use Rattle.scsi_unit.specs.Device.{DeviceState, Disk, Tape, opened_tape}
+use Rattle.scsi_disk.specs.DiskCame.{ReadFailed}
 use Rattle.scsi_unit.specs.CameOut.{on_disk, touches}
 use Rattle.scsi_tape.specs.TapeSense.{target_failure, end_of_data}
 use Rattle.scsi_tape.specs.State.{opened_unit}
 use Rattle.scsi_unit.specs.Checks.{judged, out_of_range}
-use Rattle.scsi_unit.specs.DiskCommands.{capacity_10, capacity_16, unrecovered_read}
+use Rattle.scsi_disk.specs.DiskCommands.{capacity_10, capacity_16, unrecovered_read}
 use Rattle.scsi_unit.specs.Joined.{told, raised_for_others, newly_joined}
 use Rattle.scsi_unit.specs.Identity.{inquiry_outcome, luns_outcome, sense_outcome, without_unit, reported_luns}
 use Rattle.scsi_unit.specs.State.{UnitState}

@@ -11,7 +11,8 @@ use Rattle.scsi_reserve.specs.Out.{registered, preempted, taken_over, out_of}
 use Rattle.scsi_reserve.specs.ReadIn.{reservation_data}
 use Rattle.scsi_reserve.specs.declared.reservation_type.ReservationType.{ReservationType}
 use Rattle.scsi_reserve.specs.declared.reservation_type.ReservationType.TheVariants.{ExclusiveAccess, WriteExclusiveRegistrantsOnly}
-use Rattle.scsi_unit.specs.Device.{DiskUnit, Disk}
+use Rattle.scsi_disk.specs.DiskDevice.{DiskUnit}
+use Rattle.scsi_unit.specs.Device.{Disk}
 use Rattle.scsi_tape.specs.TapeSense.{target_failure}
 use Rattle.scsi_unit.specs.Checks.{judged}
 use Rattle.scsi_unit.specs.Joined.{told, newly_joined, raised_for}

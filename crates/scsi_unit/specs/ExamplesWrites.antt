@@ -6,12 +6,13 @@ use Rattle.scsi_sense.specs.Nexus.{NexusName}
 use Rattle.media_block.specs.Blocks.{blocks_of}
 use Rattle.scsi_cdb.specs.Fault.{invalid_field}
 use Rattle.scsi_reserve.specs.Table.{empty_table}
-use Rattle.scsi_unit.specs.Device.{DiskUnit, Disk}
-use Rattle.scsi_unit.specs.DiskCame.{Dishonest, ReadFailed, WriteFailed}
+use Rattle.scsi_disk.specs.DiskDevice.{DiskUnit}
+use Rattle.scsi_unit.specs.Device.{Disk}
+use Rattle.scsi_disk.specs.DiskCame.{Dishonest, ReadFailed, WriteFailed}
 use Rattle.scsi_unit.specs.CameOut.{on_disk, touches}
 use Rattle.scsi_tape.specs.TapeSense.{target_failure}
 use Rattle.scsi_unit.specs.Checks.{judged, out_of_range, write_protected}
-use Rattle.scsi_unit.specs.DiskCommands.{miscompare, unrecovered_read, write_error}
+use Rattle.scsi_disk.specs.DiskCommands.{miscompare, unrecovered_read, write_error}
 use Rattle.scsi_unit.specs.Joined.{told}
 use Rattle.scsi_unit.specs.State.{UnitState}
 use Rattle.scsi_unit.specs.Unit.{performed_as, perform_at, touch_at, unit_done}

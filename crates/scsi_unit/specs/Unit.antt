@@ -20,9 +20,9 @@ use Rattle.scsi_mode.specs.ParameterList.{fault_sense, selected}
 use Rattle.scsi_mode.specs.declared.list_fault.ListFault.{ListFault}
 use Rattle.scsi_mode.specs.declared.parameters.Parameters.{Parameters}
 use Rattle.scsi_unit.specs.Device.{DeviceState, Disk, Tape, kind_of, parameters_of, with_parameters, store_of}
-use Rattle.scsi_unit.specs.DiskCame.{DiskCame, shown_by, disk_after}
+use Rattle.scsi_disk.specs.DiskCame.{DiskCame, shown_by, disk_after}
 use Rattle.scsi_unit.specs.CameOut.{CameOut, AsDefined, Touch, disk_came, tape_came, Nothing, OnDisk, OnTape, way, store_after}
-use Rattle.scsi_unit.specs.DiskCommands.{shown, disk_defined, disk_told, touch_of}
+use Rattle.scsi_disk.specs.DiskCommands.{shown, disk_defined, disk_told, touch_of}
 use Rattle.scsi_unit.specs.TapeCommands.{tape_performed}
 use Rattle.scsi_unit.specs.Joined.{with_nexus, without_nexus, told, raised_for, raised_for_others, raised_for_all}
 use Rattle.scsi_unit.specs.Identity.{inquiry_outcome, luns_outcome, sense_outcome, pending_sense, without_unit}

@@ -3,42 +3,13 @@
 ghost use Rattle.std.specs.Prelude.{◌≡◌};
 ghost use Rattle.scsi_unit.specs.Device.{kind_of, device_view, parameters_of, with_parameters, fixed_length};
 ghost use Rattle.scsi_unit.specs.Checks.{has_range, is_protected, range_of, needs_medium, unready};
-ghost use Rattle.scsi_unit.specs.DiskCommands.{range_named};
 
-use media_block::Disk;
 use media_store::Store;
-use scsi_cdb::{AnyRange, Command, DiskCommand, Kind, Need};
+use scsi_cdb::{AnyRange, Command, Kind, Need};
+use scsi_disk::{DiskDevice, range_named};
 use scsi_mode::Parameters;
 use scsi_sense::{Condition, Sense};
 use scsi_tape::TapeUnit;
-
-/// A disk with its mode parameters.
-#[derive(Drop)]
-pub(crate) struct DiskDevice<S: Store> {
-    pub disk: Disk<S>,
-    /// Whether no write of it has failed since it was opened.
-    pub is_ready: bool,
-    /// SWP: writes are refused (SPC-4 "Control mode page").
-    pub write_protect: bool,
-}
-
-/// Returns the blocks that a command names.
-fn range_named(command: &DiskCommand) -> Option<AnyRange>
-    ensures { result ≡ range_named command.now }
-{
-    let (first, count) = match command {
-        DiskCommand::ReadCapacity10 | DiskCommand::ReadCapacity16 { .. } => return None,
-        DiskCommand::Verify(range) | DiskCommand::SynchronizeCache(range) => {
-            (range.first(), range.count())
-        }
-        DiskCommand::Read(range)
-        | DiskCommand::VerifyData(range)
-        | DiskCommand::Write { range, .. } => (range.first(), range.count()),
-        DiskCommand::WriteSame(range) => (range.first(), range.count()),
-        DiskCommand::CompareAndWrite { range, .. } => (range.first(), range.count()),
-    };
-    Some(AnyRange::new(first, count))
-}
 
 /// Returns whether an operation with this need needs the medium.
 fn needs_medium(need: Need) -> bool

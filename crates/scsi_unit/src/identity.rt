@@ -5,11 +5,11 @@ ghost use Rattle.scsi_sense.specs.Done.{good_with, check_condition};
 ghost use Rattle.scsi_cdb.specs.Fault.{invalid_field};
 ghost use Rattle.scsi_inquiry.specs.StandardData.{standard_data};
 ghost use Rattle.scsi_inquiry.specs.ProductData.{most_serial, page_of};
-ghost use Rattle.scsi_unit.specs.DiskCommands.{most_given};
+ghost use Rattle.scsi_disk.specs.DiskCommands.{most_given};
 ghost use Rattle.scsi_unit.specs.Identity.{page_outcome, inquiry_outcome, luns_outcome, sense_outcome, unsupported, without_unit};
 
-use crate::given::done_with_front;
 use scsi_cdb::{Command, FieldFault, Kind, ReportLunsFields, Row, UnitCommand};
+use scsi_disk::done_with_front;
 use scsi_inquiry::{Peripheral, VpdPage, luns, page, standard};
 use scsi_sense::{Condition, Done, Sense};
 use std::alloc::Global;

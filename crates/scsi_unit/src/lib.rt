@@ -39,11 +39,7 @@
 //! If an allocation fails, nothing changes. The data of a write is passed to the store from where it lies.
 #![tactic(auto)]
 
-mod buffers;
 mod device;
-mod disk_commands;
-mod disk_writes;
-mod given;
 mod identity;
 mod joined;
 mod lun;

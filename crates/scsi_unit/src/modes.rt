@@ -2,12 +2,12 @@
 
 ghost use Rattle.std.specs.Prelude.{◌≡◌, ◌≤◌, length, IfOk};
 ghost use Rattle.scsi_mode.specs.ModeData.{mode_data};
-ghost use Rattle.scsi_unit.specs.DiskCommands.{most_given};
+ghost use Rattle.scsi_disk.specs.DiskCommands.{most_given};
 ghost use Rattle.scsi_unit.specs.Unit.{mode_sense_outcome};
 
-use crate::given::done_with_front;
 use crate::identity::field_refused;
 use scsi_cdb::ModeSenseFields;
+use scsi_disk::done_with_front;
 use scsi_mode::{Parameters, sense};
 use scsi_sense::Done;
 use std::alloc::Global;

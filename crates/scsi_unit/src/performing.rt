@@ -4,12 +4,11 @@ ghost use Rattle.std.specs.Prelude.{◌≡◌, ◌≤◌, [], length, take, IsTr
 ghost use Rattle.scsi_mode.specs.ParameterList.{selected};
 ghost use Rattle.scsi_unit.specs.Device.{parameters_of, store_of};
 ghost use Rattle.scsi_unit.specs.Checks.{judged, has_range, range_of, needed, data_sense, writes};
-ghost use Rattle.scsi_unit.specs.DiskCommands.{bytes_needed, most_given};
+ghost use Rattle.scsi_disk.specs.DiskCommands.{bytes_needed, most_given};
 ghost use Rattle.scsi_unit.specs.Unit.{mode_selected, unit_done, carried_out, refused_with, performed_as, touch_by, touch_at, IsPerformed};
 ghost use Rattle.scsi_unit.specs.Joined.{told};
 ghost use Rattle.scsi_unit.specs.Identity.{sense_outcome, pending_sense};
 
-use crate::buffers::Buffers;
 use crate::device::Device;
 use crate::identity::{inquiry, report_luns, sense_data};
 use crate::joined::{pending, tell};
@@ -22,6 +21,7 @@ use data_parts::Data;
 use media_block::BLOCK_LENGTH;
 use media_store::Store;
 use scsi_cdb::{Cdb, Command, DiskCommand, FieldFault, ModeSelectFields, Row, UnitCommand};
+use scsi_disk::Buffers;
 use scsi_mode::{ListFault, select};
 use scsi_sense::{Attention, Condition, Done, Nexus, Sense};
 use target_limits::Memory;

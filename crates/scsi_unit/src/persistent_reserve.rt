@@ -2,13 +2,13 @@
 
 ghost use Rattle.std.specs.Prelude.{◌≡◌, ◌≤◌, [], length, IfOk, OnErr};
 ghost use Rattle.scsi_unit.specs.Device.{store_of};
-ghost use Rattle.scsi_unit.specs.DiskCommands.{most_given};
+ghost use Rattle.scsi_disk.specs.DiskCommands.{most_given};
 ghost use Rattle.scsi_unit.specs.PersistentReserve.{reserve_in_outcome, ended_outcome, reserved_out};
 
-use crate::given::done_with_front;
 use crate::unit::Unit;
 use media_store::Store;
 use scsi_cdb::{ReserveInFields, ReserveOutFields};
+use scsi_disk::done_with_front;
 use scsi_reserve::{Ended, Table};
 use scsi_sense::{Done, Nexus, Sense};
 use std::alloc::Global;

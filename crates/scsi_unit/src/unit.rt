@@ -2,11 +2,10 @@
 
 ghost use Rattle.std.specs.Prelude.{◌≡◌, ◌≤◌, length, false, IfOk, OnOk, OnErr};
 ghost use Rattle.scsi_unit.specs.Device.{opened, opened_tape};
-ghost use Rattle.scsi_unit.specs.DiskCommands.{most_given};
+ghost use Rattle.scsi_disk.specs.DiskCommands.{most_given};
 ghost use Rattle.scsi_unit.specs.Unit.{free_unit, joined_unit, left_unit, raised_unit, raised_unit_for_all, where_named, names_unit, perform_as, touch_with, IsPerformed};
 
-use crate::buffers::Buffers;
-use crate::device::{Device, DiskDevice};
+use crate::device::Device;
 use crate::identity::without_unit;
 use crate::joined::{JoinedList, join, leave};
 use crate::lun::Lun;
@@ -15,6 +14,7 @@ use data_parts::Data;
 use media_block::Disk;
 use media_store::Store;
 use media_tape::Tape;
+use scsi_disk::{Buffers, DiskDevice};
 use scsi_reserve::Table;
 use scsi_sense::{Attention, Done, Nexus};
 use scsi_tape::TapeUnit;

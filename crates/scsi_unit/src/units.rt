@@ -2,14 +2,13 @@
 
 ghost use Rattle.std.specs.Prelude.{◌≡◌, ◌<◌, ◌≤◌, length, map, false, IfSome, IfOk, OnOk, OnErr};
 ghost use Rattle.scsi_unit.specs.CameOut.{CameOut, AsDefined};
-ghost use Rattle.scsi_unit.specs.DiskCommands.{most_given};
+ghost use Rattle.scsi_disk.specs.DiskCommands.{most_given};
 ghost use Rattle.scsi_unit.specs.Unit.{joined_unit};
 ghost use Rattle.scsi_unit.specs.Lun.{lun_number as number_of_lun};
 ghost use Rattle.scsi_unit.specs.Units.{join, leave, raised_at, raised_for_all_at, raised_everywhere, numbers_of, come_out, perform as performed, unit_of, AreSound, AreSure, AreAnswered, IsTrusted};
 ghost use Rattle.scsi_unit.specs.Identity.{reported_luns, is_row_of_target};
 ghost use Rattle.scsi_cdb.specs.Operation.{row_of};
 
-use crate::buffers::{Buffers, give_back};
 use crate::identity::{report_luns, without_unit};
 use crate::joined::join as join_list;
 use crate::lun::Lun;
@@ -18,6 +17,7 @@ use bytes::BytesMut;
 use data_parts::{Data, SpareBuffers};
 use media_store::Store;
 use scsi_cdb::{ReportLunsFields, Row};
+use scsi_disk::{Buffers, give_back};
 use scsi_sense::{Attention, Done, Nexus};
 use std::alloc::Global;
 use std::marker::Model;

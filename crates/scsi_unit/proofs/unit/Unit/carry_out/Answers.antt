@@ -1,7 +1,8 @@
 use Rattle.std.proofs.Common.{◌≡◌, sym, ap, refl, ◌∙◌}
 use Rattle.std.proofs.lemmas.Result.{IfOk-weaker}
 use Rattle.scsi_sense.specs.Done.{check_condition}
-use Rattle.scsi_unit.specs.Device.{Disk, Tape, disk_view}
+use Rattle.scsi_disk.specs.DiskDevice.{disk_view}
+use Rattle.scsi_unit.specs.Device.{Disk, Tape}
 use Rattle.scsi_unit.specs.State.{UnitState}
 use Rattle.scsi_unit.proofs.Performed.{performed_defined, disk_did, no_disk}
 use Rattle.scsi_unit.proofs.unit.Unit.carry_out.Goals.{in-Disk-device, in-Tape-device}

@@ -1,6 +1,7 @@
 use Rattle.std.proofs.Common.{◌≡◌, true, false, refl, sym, ap, ◌∙◌}
 use Rattle.scsi_sense.specs.Done.{check_condition}
-use Rattle.scsi_unit.specs.Device.{Disk, Tape, disk_view}
+use Rattle.scsi_disk.specs.DiskDevice.{disk_view}
+use Rattle.scsi_unit.specs.Device.{Disk, Tape}
 use Rattle.scsi_unit.specs.State.{UnitState}
 use Rattle.scsi_unit.specs.TapeCommands.{loads}
 use Rattle.scsi_unit.proofs.TapeDone.{tape_did_to}

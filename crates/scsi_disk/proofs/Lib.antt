@@ -1,0 +1,5 @@
+mod DiskCame
+mod DiskDone
+mod DiskWrites
+mod Room
+mod Rooms

@@ -1,0 +1,29 @@
+use Rattle.std.proofs.Common.{◌≡◌, length, ap, ◌∙◌, sym, arith}
+use Rattle.std.proofs.lemmas.List.{length-map, map-append}
+use Rattle.std.specs.Vec.{vec_capacity}
+use Rattle.scsi_disk.specs.Buffers.{rooms}
+use Rattle.scsi_disk.proofs.Rooms.{taken_short, taken_long}
+use Rattle.scsi_disk.proofs.buffers.Buffers.take.Goals as goal
+use Rattle.scsi_disk.proofs.buffers.Buffers.take.Goals.{then-is_from_short+in_ok-pop, else-is_from_short+in_ok-buffer}
+
+pub returns-clause-taken : goal.returns-clause-taken
+returns-clause-taken c =
+    let short = c.self.inside.short in
+    let long = c.self.inside.long in
+    let all_short : length (rooms short.items) ≡ c.len.result =
+    omega (arith, length-map short.items (λ each. each.1)) in
+    let all_long : length (rooms long.items) ≡ c.len-2.result =
+    omega (arith, length-map long.items (λ each. each.1)) in
+    elim c.if-is_from_short.branch [
+      | then-is_from_short+in_ok-pop w ↦ rw (← c.self.view_is, w.self-inside-is)
+          (taken_short c.args.room (rooms short.items) (rooms long.items) (rooms w.pop.new.self.items)
+          (vec_capacity short) (vec_capacity long) (vec_capacity w.pop.new.self) w.in_ok-pop.had
+          (rw (all_short, all_long) (sym c.is_from_short.ensures ∙ w.if-is_from_short.true))
+          (ap rooms w.in_ok-pop.ensures.items ∙ map-append (λ each. each.1) w.pop.new.self.items _)
+          w.in_ok-pop.ensures.capacity)
+      | else-is_from_short+in_ok-buffer w ↦ rw (← c.self.view_is, w.self-inside-is)
+          (taken_long c.args.room (rooms short.items) (rooms long.items) (rooms w.take_least.new.kept.items)
+          (vec_capacity short) (vec_capacity long) (vec_capacity w.take_least.new.kept) w.in_ok-buffer.had
+          (rw (all_short, all_long) (sym c.is_from_short.ensures ∙ w.if-is_from_short.false))
+          w.in_ok-buffer.ensures.taken w.in_ok-buffer.ensures.places)
+    ]

@@ -1,0 +1,11 @@
+pub use Rattle.media_store.specs.Failures
+pub use Rattle.media_block.specs.Blocks
+pub use Rattle.scsi_sense.specs.Sense
+pub use Rattle.scsi_sense.specs.Done
+pub use Rattle.scsi_cdb.specs.Range
+pub use Rattle.scsi_cdb.specs.Command
+pub mod DiskDevice
+pub mod DiskCame
+pub mod DiskCommands
+pub mod DiskWrites
+pub mod Buffers
