@@ -1,5 +1,5 @@
 -- A window whose held numbers have keys, and which of its places have one.
-use Rattle.std.proofs.Common.{◌≡◌, ℕ, ◌+◌, ◌-◌, ◌^◌, ◌%◌, ◌<◌, List, [], ◌∷◌, ◌++◌, length, map, take, drop, get_or, set, Bool, true, false, not, ◌&&◌, Option, Some, None, refl, sym, ap, ◌∙◌, arith}
+use Rattle.std.proofs.Common.{◌≡◌, ℕ, zero, suc, ◌+◌, ◌-◌, ◌^◌, ◌%◌, ◌<◌, List, [], ◌∷◌, ◌++◌, length, map, take, drop, get_or, set, Bool, true, false, not, ◌&&◌, ◌||◌, true≢false, Option, Some, None, refl, sym, ap, ◌∙◌, arith}
 use Rattle.std.specs.Prelude.{is_some, nat_lt}
 use Rattle.std.specs.List.{prefix_len}
 use Rattle.std.proofs.lemmas.Bool.{lt-ltb, ltb-true}
@@ -45,6 +45,14 @@ pub keyed : (next unfinished n key : ℕ) (keys : List (Option ℕ)) → n < 2 ^
     → record { next = next; unfinished = unfinished; keys = set keys (ahead next n) (Some key) } ≡ with_key n key
     (record { next = next; unfinished = unfinished; keys = keys })
 keyed next unfinished n key keys fits small is = rw (is, ahead_is next n fits small) refl
+
+-- what stands after the first place stays as it is if that gets a key
+pub still_none : (is_ahead : Bool) (place key : ℕ) (keys nones : List (Option ℕ)) → (is_ahead ≡ false → drop 1 keys ≡ nones)
+    → (is_ahead || nat_lt 0 place) ≡ false → drop 1 (set keys place (Some key)) ≡ nones
+still_none true place key keys nones was e = absurd (true≢false e)
+still_none false zero key [] nones was e = was refl
+still_none false zero key (k ∷ keys) nones was e = was refl
+still_none false (suc place) key keys nones was e = absurd (true≢false (sym (lt-ltb 0 (suc place) (omega arith)) ∙ e))
 
 -- the first is dropped
 pub turns : (next unfinished key : ℕ) (keys : List (Option ℕ)) → 0 < length keys → get_or keys 0 None ≡ Some key

@@ -1,6 +1,6 @@
 //! The window of a session's command numbers.
 
-ghost use Rattle.std.specs.Prelude.{◌≡◌, ◌<◌, ◌-◌, is_some, slice_index_or, length, map, replicate, None, if◌then◌else◌};
+ghost use Rattle.std.specs.Prelude.{◌≡◌, ◌<◌, ◌-◌, ◌++◌, false, is_some, slice_index_or, slice_set, length, map, take, drop, replicate, None, if◌then◌else◌};
 ghost use Rattle.std.specs.List.{prefix_len};
 ghost use Rattle.iscsi_order.specs.Window.{Past, begun, is_new as is_new_in, arrived, arrival_of, handed_over, next_of, finished_one, numbers_of};
 ghost use Rattle.iscsi_order.specs.WindowState.{Stands, marked, is_vacant, key_at, with_key, turned};
@@ -40,17 +40,19 @@ pub struct Window {
     unfinished: usize,
     /// The keys of the numbers from `next` on; `None` for a number that has not come.
     held: [Option<usize>; WINDOW],
+    /// Whether a number after `next` may have come. Where all come in order, no key is ever moved.
+    is_ahead: bool,
 }
 
 impl Model for Window {
-    ghost use Rattle.std.specs.Prelude.{map, is_some};
+    ghost use Rattle.std.specs.Prelude.{◌≡◌, false, map, is_some, drop, replicate, None};
     ghost use Rattle.iscsi_order.specs.WindowState.{WindowKeys, IsWithin};
 
     ghost Value = { WindowKeys };
 
     ghost view = { λ w. record { next = w.next; unfinished = w.unfinished; keys = w.held } };
 
-    ghost invariant = { λ w. IsWithin w.unfinished (map is_some w.held) };
+    ghost invariant = { λ w. IsWithin w.unfinished (map is_some w.held) × (w.is_ahead ≡ false → drop 1 w.held ≡ replicate 31 None) };
 }
 
 impl Window {
@@ -64,6 +66,7 @@ impl Window {
             next: first,
             unfinished: 0,
             held: [None; WINDOW],
+            is_ahead: false,
         }
     }
 
@@ -80,6 +83,7 @@ impl Window {
             return Arrival::Ignored;
         }
         self.held[ahead] = Some(key);
+        self.is_ahead |= ahead > 0;
         Arrival::New
     }
 
@@ -101,8 +105,7 @@ impl Window {
         ensures turned { self.new ≡ turned self.old }
     {
         let key = self.held[0]?;
-        self.held[0] = None;
-        self.held.rotate_left(1);
+        turn(&mut self.held, self.is_ahead);
         self.next = self.next.wrapping_add(1);
         self.unfinished += 1;
         Some(key)
@@ -155,4 +158,16 @@ fn front(held: &[Option<usize>]) -> usize
     ensures { result ≡ prefix_len (λ key. is_some key) held.now }
 {
     held.iter().take_while(|key| key.is_some()).count()
+}
+
+/// Removes the first key, and moves those after it one place to the front, if there may be any.
+fn turn(held: &mut [Option<usize>; WINDOW], is_ahead: bool)
+    requires { is_ahead ≡ false → drop 1 held.old ≡ replicate 31 None }
+    ensures turned { held.new ≡ drop 1 (slice_set held.old 0 None) ++ take 1 (slice_set held.old 0 None) }
+    ensures none { is_ahead ≡ false → drop 1 held.new ≡ replicate 31 None }
+{
+    held[0] = None;
+    if is_ahead {
+        held.rotate_left(1);
+    }
 }

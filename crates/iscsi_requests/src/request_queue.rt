@@ -1,6 +1,6 @@
 //! The requests of a session that are not finished, and their numbers.
 
-ghost use Rattle.std.specs.Prelude.{◌≡◌, ◌≤◌, ◌<◌, ◌+◌, ◌-◌, ◌++◌, ◌∷◌, List, [], true, length, map, filter, drop, option_map, vec_capacity, IfSome, IfNone, IfOk, OnOk, OnErr, if◌then◌else◌};
+ghost use Rattle.std.specs.Prelude.{◌≡◌, ◌≤◌, ◌<◌, ◌+◌, ◌-◌, ◌++◌, ◌∷◌, List, [], true, length, map, filter, drop, remove, slice_index_or, option_map, vec_capacity, vec_len, IfSome, IfNone, IfOk, OnOk, OnErr, if◌then◌else◌};
 ghost use Rattle.iscsi_order.specs.Window as order;
 ghost use Rattle.iscsi_order.specs.WindowState as window;
 ghost use Rattle.iscsi_pdu.specs.Frames as pdu;
@@ -45,6 +45,22 @@ impl Model for RequestQueue {
     ghost view = { λ t. lists_of t.requests t.window t.due.items t.queue.items };
 
     ghost invariant = { λ t. AreLines t.requests (keys_in t.window.keys) t.due.items t.queue.items };
+}
+
+/// Removes the first key of a line, and returns it. Mostly it is alone.
+fn take_first(line: &mut Vec<usize>) -> usize
+    requires { 0 < length line.old.items }
+    ensures value { result ≡ slice_index_or line.old.items 0 result }
+    ensures items { line.new.items ≡ remove line.old.items 0 }
+    ensures len { vec_len line.new + 1 ≡ vec_len line.old }
+{
+    if line.len() > 1 {
+        return line.remove(0);
+    }
+    match line.pop() {
+        Some(key) => key,
+        None => 0,
+    }
 }
 
 /// Hands over the keys of all numbers that come before the first missing one, in order. There must be room for them.
@@ -214,7 +230,7 @@ impl RequestQueue {
     {
         self.queue.reserve(1)?;
         if !self.due.is_empty() {
-            let key = self.due.remove(0);
+            let key = take_first(&mut self.due);
             self.queue.push_reserved(key);
         }
         Ok(())
@@ -230,7 +246,7 @@ impl RequestQueue {
         if self.due.is_empty() {
             return None;
         }
-        let key = self.due.remove(0);
+        let key = take_first(&mut self.due);
         let frame = self.requests.remove(key);
         Some(frame)
     }
@@ -266,7 +282,7 @@ impl RequestQueue {
         if self.queue.is_empty() {
             return None;
         }
-        let key = self.queue.remove(0);
+        let key = take_first(&mut self.queue);
         let frame = self.requests.remove(key);
         self.finish_number(&frame);
         Some(frame)

@@ -6,7 +6,7 @@ use Rattle.iscsi_order.specs.WindowState.{WindowKeys, Stands, marked, is_vacant,
 use Rattle.iscsi_order.specs.declared.window.Arrival.TheVariants.{New, Ignored}
 use Rattle.iscsi_order.proofs.Held.{within_set}
 use Rattle.iscsi_order.proofs.Standing.{arrives, ignored}
-use Rattle.iscsi_order.proofs.Keys.{ahead, marked_at, not_vacant, vacant, keyed}
+use Rattle.iscsi_order.proofs.Keys.{ahead, marked_at, not_vacant, vacant, keyed, still_none}
 use Rattle.iscsi_order.proofs.window.Window.arrive.Goals as goal
 use Rattle.iscsi_order.proofs.window.Window.arrive.Goals.{then-ahead-self-via-then-ahead-self, then-ahead-self-via-else-ahead-self+then-is_some}
 
@@ -42,9 +42,11 @@ pub returns-then-ahead-self-clause-key : goal.returns-then-ahead-self-clause-key
 returns-then-ahead-self-clause-key c = rw (old c) refl
 
 pub invariant_of-self : goal.invariant_of-self
-invariant_of-self c =
-    rw (map-set is_some c.self.inside.held (ahead c.self.inside.next c.args.n) (Some c.args.key))
-    (within_set c.self.inside.unfinished (ahead c.self.inside.next c.args.n) (map is_some c.self.inside.held) (omega arith) c.self.invariant)
+invariant_of-self c = (
+  rw (map-set is_some c.self.inside.held (ahead c.self.inside.next c.args.n) (Some c.args.key))
+      (within_set c.self.inside.unfinished (ahead c.self.inside.next c.args.n) (map is_some c.self.inside.held) (omega arith) c.self.invariant.0),
+  still_none c.self.inside.is_ahead _ c.args.key c.self.inside.held _ c.self.invariant.1,
+)
 
 pub returns-clause-arrival : goal.returns-clause-arrival
 returns-clause-arrival c past s =

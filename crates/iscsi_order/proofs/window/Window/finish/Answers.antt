@@ -5,7 +5,7 @@ use Rattle.iscsi_order.proofs.Standing.{finishes, some_unfinished}
 use Rattle.iscsi_order.proofs.window.Window.finish.Goals as goal
 
 pub invariant_of-self : goal.invariant_of-self
-invariant_of-self c = within_fewer _ _ c.if-self-gt0.true c.self.invariant
+invariant_of-self c = (within_fewer _ _ c.if-self-gt0.true c.self.invariant.0, c.self.invariant.1)
 
 pub returns-then-self-gt0-clause-stands : goal.returns-then-self-gt0-clause-stands
 returns-then-self-gt0-clause-stands c past s fewer =

@@ -12,4 +12,4 @@ overflow_cast-ahead c = let le = prefix_len-le-length (λ (key : Option ℕ). is
 pub returns : goal.returns
 returns c past s =
     let known = subst (λ (w : WindowKeys). Stands past (marked w)) (sym c.self.view_is) s in
-    rw (c.front-ahead.ensures, prefix_marked c.self.inside.held, expected past _ _ _ known, last past _ _ _ known c.self.invariant.few) refl
+    rw (c.front-ahead.ensures, prefix_marked c.self.inside.held, expected past _ _ _ known, last past _ _ _ known c.self.invariant.0.few) refl

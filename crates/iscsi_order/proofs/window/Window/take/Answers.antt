@@ -18,9 +18,11 @@ returns-in_err-key-clause-stands c past s =
     rw (none_taken past _ _ _ known (marked_at c.self.inside.held 0 ∙ ap is_some c.in_err-key.was)) s
 
 pub invariant_of-self : goal.invariant_of-self
-invariant_of-self c =
-    rw (c.rotate_left.ensures.after, turned_marks c.self.inside.held (omega arith))
-    (within_more _ _ (omega (arith, length-map c.self.inside.held is_some)) (marked_at c.self.inside.held 0 ∙ ap is_some c.in_ok-key.was) c.self.invariant)
+invariant_of-self c = (
+  rw (c.turn.ensures.turned, turned_marks c.self.inside.held (omega arith))
+      (within_more _ _ (omega (arith, length-map c.self.inside.held is_some)) (marked_at c.self.inside.held 0 ∙ ap is_some c.in_ok-key.was) c.self.invariant.0),
+  c.turn.ensures.none,
+)
 
 pub returns-clause-number : goal.returns-clause-number
 returns-clause-number c past s =
@@ -30,5 +32,5 @@ returns-clause-number c past s =
 pub returns-clause-stands : goal.returns-clause-stands
 returns-clause-stands c past s =
     let known = subst (λ (w : WindowKeys). Stands past (marked w)) (sym c.self.view_is) s in
-    rw (c.rotate_left.ensures.after, turned_marks c.self.inside.held (omega arith)) (hands past _ _ _ known (marked_at c.self.inside.held 0
+    rw (c.turn.ensures.turned, turned_marks c.self.inside.held (omega arith)) (hands past _ _ _ known (marked_at c.self.inside.held 0
     ∙ ap is_some c.in_ok-key.was)).stands

@@ -10,9 +10,9 @@ invariant_of-self c =
       once = λ k.
           let others = times k (keys_in c.self.inside.window.keys) + times k c.self.inside.queue.items in
           let left = once-remove c.self.inside.requests c.remove-frame.new.self c.remove-frame.result c.self.inside.due.items 0
-          c.remove-key.result k others c.remove-frame.ensures.updates within c.remove-key.ensures.value c.remove-frame.ensures.value
+          c.take_first-key.result k others c.remove-frame.ensures.updates within c.take_first-key.ensures.value c.remove-frame.ensures.value
           (omega (arith, c.self.invariant.once k)) in
-          rw c.remove-key.ensures.items (omega (arith, left));
+          rw c.take_first-key.ensures.items (omega (arith, left));
     }
 
 pub returns : goal.returns
