@@ -1,14 +1,15 @@
 -- The rows as the code goes through them, and its events.
-use Rattle.std.proofs.Common.{◌≡◌, ℕ, ◌+◌, ◌<◌, List, [], ◌∷◌, ◌++◌, length, map, take, drop, set, get_or, sym, ap, ◌∙◌, arith, Vec, Global}
+use Rattle.std.proofs.Common.{◌≡◌, ℕ, ◌+◌, ◌<◌, List, [], ◌∷◌, ◌++◌, length, map, take, drop, set, get_or, ◌&&◌, refl, sym, ap, ◌∙◌, drop-cons, add-one, arith, Vec, Global}
 use mathlib.Core.List.{map-map}
 use Rattle.std.proofs.Math.Seq.{take-append_seam}
 use Rattle.std.proofs.lemmas.List.{length-map, map-append, map-set, get_or-map, take_more}
-use Rattle.iscsi_target.specs.History.{plain}
+use Rattle.iscsi_world.specs.History.{plain, may_come, open_after, may_follow}
 use Rattle.iscsi_target.specs.Events.{event_view, events_view, plain_history}
-use Rattle.iscsi_target.specs.Runs.{RowState, seen}
+use Rattle.iscsi_world.specs.Runs.{RowState}
+use Rattle.iscsi_target.specs.Rows.{seen}
 use Rattle.iscsi_target.specs.declared.event.Event.{Event}
 use Rattle.iscsi_target.specs.declared.run.Row.{Row}
-use Rattle.iscsi_target.proofs.Lists.{map_over_next}
+use Rattle.iscsi_world.proofs.Lists.{map_over_next}
 
 -- a loop that makes f of each row, at the next of them
 pub rows_next : (f : RowState → RowState) (rows initial : List Row) (i : ℕ) (item after : Row) → length rows ≡ length initial → i < length rows
@@ -49,3 +50,16 @@ pub events_more : (es : List Event) (i : ℕ) (e : Event) → i < length es → 
 events_more es i e lt is =
     ap events_view (take_more es i e lt) ∙ map-append event_view (take i es) (get_or es i e ∷ [])
     ∙ ap (λ (x : Event). events_view (take i es) ++ event_view x ∷ []) (sym is)
+
+-- ---- the events that are left
+
+-- the next of them
+next_event : (es : List Event) (i : ℕ) (e : Event) → i < length es → e ≡ get_or es i e → events_view (drop i es) ≡ event_view e ∷ events_view (drop (i + 1) es)
+next_event es i e lt is =
+    let cut : drop i es ≡ get_or es i e ∷ drop (i + 1) es = rw (add-one, drop-cons es i e) refl in
+    ap events_view cut ∙ ap (λ (x : Event). event_view x ∷ events_view (drop (i + 1) es)) (sym is)
+
+pub follows : (es : List Event) (i : ℕ) (e : Event) (before : List ℕ) → i < length es → e ≡ get_or es i e
+    → may_follow before (events_view (drop i es)) ≡ (may_come before (event_view e)
+    && may_follow (open_after before (event_view e)) (events_view (drop (i + 1) es)))
+follows es i e before lt is = ap (may_follow before) (next_event es i e lt is)

@@ -1,6 +1,6 @@
 -- Events, without the place of their bytes in memory.
 use Rattle.std.specs.Prelude.{List, map}
-use Rattle.iscsi_target.specs.History as history
+use Rattle.iscsi_world.specs.History as history
 use Rattle.iscsi_target.specs.declared.event.Event.{Event}
 use Rattle.iscsi_target.specs.declared.event.Event.TheVariants as events
 

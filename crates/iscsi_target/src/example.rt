@@ -1,7 +1,7 @@
 //! The example of the crate's page. Nothing calls it: it is here to be proved.
 
 ghost use Rattle.std.specs.Prelude.{◌≡◌, ◌<◌, false, OnOk};
-ghost use Rattle.iscsi_target.specs.Machine.{is_open_at};
+ghost use Rattle.iscsi_world.specs.Machine.{is_open_at};
 
 use crate::target::Target;
 use media_store::Store;

@@ -1,9 +1,9 @@
 //! Histories: the lists of events that a caller may produce.
 
 ghost use Rattle.std.specs.Prelude.{◌≡◌, ℕ, List, true};
-ghost use Rattle.iscsi_target.specs.History.{may_come, open_after, well_formed as is_well_formed};
+ghost use Rattle.iscsi_world.specs.History.{may_come, open_after, well_formed as is_well_formed};
 ghost use Rattle.iscsi_target.specs.Events.{event_view, events_view};
-ghost use Rattle.iscsi_target.specs.Runs.{IsTable};
+ghost use Rattle.iscsi_world.specs.Runs.{IsTable};
 
 use crate::event::Event;
 use target_limits::CONNECTIONS;

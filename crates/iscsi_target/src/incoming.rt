@@ -4,17 +4,16 @@ ghost use Rattle.std.specs.Prelude.{◌≡◌, ◌<◌, ◌++◌, [], true, fals
 ghost use Rattle.std.specs.Result.{IsErrOf};
 ghost use Rattle.iscsi_pdu.specs.Frames.{has_frame, is_long};
 ghost use Rattle.iscsi_login.specs.LoginState.{IsTargetBelow};
-ghost use Rattle.iscsi_target.specs.HalfRead.{KeepsPieceAt};
-ghost use Rattle.iscsi_target.specs.History.{arrivals};
-ghost use Rattle.iscsi_target.specs.Machine.{GivesFrame, link_at, with_link, is_logging_in, is_reading};
-ghost use Rattle.iscsi_target.specs.Serving.{TakesFrame, TakesOne, TakesAll, first_starved};
+ghost use Rattle.iscsi_world.specs.HalfRead.{KeepsPieceAt};
+ghost use Rattle.iscsi_world.specs.History.{arrivals};
+ghost use Rattle.iscsi_world.specs.Machine.{GivesFrame, link_at, with_link, is_logging_in, is_reading};
+ghost use Rattle.iscsi_world.specs.Serving.{TakesFrame, TakesOne, TakesAll, first_starved};
 
-use crate::fault::Starved;
-use crate::phase::Phase;
 use crate::serve::earlier_of;
 use crate::target::Target;
 use data_parts::SpareBuffers;
 use iscsi_pdu::{Frame, Opcode, PduFault};
+use iscsi_world::{Phase, Starved};
 use media_store::Store;
 use target_limits::Memory;
 
@@ -47,7 +46,7 @@ impl<S: Store> Target<S> {
     }
 
     /// Lends the spare buffers of a target's units. Without a target there are none.
-    #[tactic(auto, using(crate::proofs::Sent::same_units))]
+    #[tactic(auto, using(iscsi_world::proofs::Sent::same_units))]
     fn lend_buffers(&mut self, target: Option<usize>) -> SpareBuffers
         requires { IsTargetBelow (length self.old.units) target }
         ensures { self.new ≡ self.old }
@@ -60,7 +59,7 @@ impl<S: Store> Target<S> {
     }
 
     /// Returns the spare buffers to the target's units.
-    #[tactic(auto, using(crate::proofs::Sent::same_units))]
+    #[tactic(auto, using(iscsi_world::proofs::Sent::same_units))]
     fn return_buffers(&mut self, target: Option<usize>, spares: SpareBuffers)
         requires { IsTargetBelow (length self.old.units) target }
         ensures { self.new ≡ self.old }
@@ -132,7 +131,7 @@ impl<S: Store> Target<S> {
         requires reads { is_reading (link_at self.old c).phase ≡ true }
         ensures { TakesFrame c frame (first_starved result) self.old self.new }
     {
-        match &self.connections.at(c).phase {
+        match self.connections.at(c).phase() {
             Phase::Free | Phase::Closing => Ok(()),
             Phase::Login(_) => self.enter(c, &frame),
             Phase::FullFeature(_) => self.serve(c, frame),
@@ -140,7 +139,7 @@ impl<S: Store> Target<S> {
     }
 
     /// Takes a frame before full feature phase: a Login request is answered, any other frame is a violation.
-    #[tactic(auto, unfolding(crate::specs::World::is_login))]
+    #[tactic(auto, unfolding(iscsi_world::specs::World::is_login))]
     fn enter(&mut self, c: usize, frame: &Frame) -> Result<(), Starved>
         requires in_range { c < 64 }
         requires logs_in { is_logging_in (link_at self.old c).phase ≡ true }

@@ -1,10 +1,10 @@
 //! Laws of the definitions. The functions do nothing: their contracts are the laws.
 
-ghost use Rattle.iscsi_target.specs.History.{ArrivalsInPieces};
-ghost use Rattle.iscsi_target.specs.Isolation.{TargetsAreIsolated, TargetsSeeTheirOwn, StrangersAreAlone, EventsAreLocal};
-ghost use Rattle.iscsi_target.specs.Bounded.{CallsKeepBounded};
-ghost use Rattle.iscsi_target.specs.Moment.{SessionsAreAtRest};
-ghost use Rattle.iscsi_target.specs.Laws.{AnswersStay, SureIsSound, SoundTargetsWereSound, SessionsFinishAsTaken, OthersStay, OthersGoOn};
+ghost use Rattle.iscsi_world.specs.History.{ArrivalsInPieces};
+ghost use Rattle.iscsi_world.specs.Isolation.{TargetsAreIsolated, TargetsSeeTheirOwn, StrangersAreAlone, EventsAreLocal};
+ghost use Rattle.iscsi_world.specs.Bounded.{CallsKeepBounded};
+ghost use Rattle.iscsi_world.specs.Moment.{SessionsAreAtRest};
+ghost use Rattle.iscsi_world.specs.Laws.{AnswersStay, SureIsSound, SoundTargetsWereSound, SessionsFinishAsTaken, OthersStay, OthersGoOn};
 
 /// States that the cutting of a connection's bytes into pieces does not matter. The frames that become whole are
 /// those of the joined bytes, in order, followed by at most one header that names too much data.
@@ -25,28 +25,28 @@ pub fn sure_is_sound()
 
 /// States that a target that is sound after a call was sound before it, where the call says so of each of its targets
 /// (clause `each`). What the call says of any target (`always`) then holds where it is sound.
-#[tactic(auto, using(crate::proofs::Reflected::sound_targets_were_sound))]
+#[tactic(auto, using(iscsi_world::proofs::Reflected::sound_targets_were_sound))]
 pub fn sound_targets_were_sound()
     ensures { SoundTargetsWereSound }
 {}
 
 /// States that each session that goes on takes each request at most once. What is finished was taken, in the order in
 /// which it was taken. This holds of every history, wherever allocations failed.
-#[tactic(auto, using(crate::proofs::Lawful::sessions_finish_as_taken))]
+#[tactic(auto, using(iscsi_world::proofs::Lawful::sessions_finish_as_taken))]
 pub fn sessions_finish_as_taken()
     ensures { SessionsFinishAsTaken }
 {}
 
 /// States that after each event nothing is due in any session that goes on. No taken request still has to act, and no
 /// R2T has to be sent. No Task Management Function Request has to be answered, and no command can be done.
-#[tactic(auto, using(crate::proofs::Moment::sessions_are_at_rest))]
+#[tactic(auto, using(iscsi_world::proofs::Moment::sessions_are_at_rest))]
 pub fn sessions_are_at_rest()
     ensures { SessionsAreAtRest }
 {}
 
 /// States that the end of a session or connection changes no answer and no session of another connection. A session
 /// ends after a violation, a step that failed or a Logout.
-#[tactic(auto, using(crate::proofs::Lawful::others_stay))]
+#[tactic(auto, using(iscsi_world::proofs::Lawful::others_stay))]
 pub fn others_stay()
     ensures { OthersStay }
 {}
@@ -54,7 +54,7 @@ pub fn others_stay()
 /// States that a violation ends only its own session. Whatever bytes come on a connection, and whatever their event
 /// does, each other connection that was read goes on being read. The exceptions are a failed allocation for it, and a
 /// login that reinstates its session.
-#[tactic(auto, using(crate::proofs::Sparing::others_go_on))]
+#[tactic(auto, using(iscsi_world::proofs::Sparing::others_go_on))]
 pub fn others_go_on()
     ensures { OthersGoOn }
 {}
@@ -75,14 +75,14 @@ pub fn targets_are_isolated()
 /// States that an event is local. Its effect on its own connection and on a target depends only on three things: that
 /// target's units and connections, what came on the connection before, and the event. An event elsewhere has no
 /// effect there.
-#[tactic(auto, using(crate::proofs::Isolation::events_are_local))]
+#[tactic(auto, using(iscsi_world::proofs::Isolation::events_are_local))]
 pub fn events_are_local()
     ensures { EventsAreLocal }
 {}
 
 /// States that no connection of a new target makes it hold more than it may. The same holds after connections open
 /// and end, and after waiting bytes are sent. A clause of `feed` says the same of `feed`.
-#[tactic(auto, using(crate::proofs::Wanting::calls_keep_bounded))]
+#[tactic(auto, using(iscsi_world::proofs::Wanting::calls_keep_bounded))]
 pub fn calls_keep_bounded()
     ensures { CallsKeepBounded }
 {}

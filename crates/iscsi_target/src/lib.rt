@@ -27,7 +27,7 @@
 //!
 //! Promised, and proved:
 //!
-//! - A [`Target`] answers what a plainly defined machine answers, the World of `specs/World.antt` (clauses `stands`,
+//! - A [`Target`] answers what a plainly defined machine answers, the World of `iscsi_world/specs/World.antt` (clauses `stands`,
 //!   `always`). This holds for every list of openings, pieces of bytes and closings on up to 64 connections. It holds
 //!   as long as the stores of its units are honest and no call of one has failed.
 //! - If allocations fail, each connection for which one failed closes between two steps. Each request was done and
@@ -39,29 +39,22 @@
 #![tactic(auto)]
 
 mod config;
-mod connection;
-mod connections;
 mod event;
 mod example;
-mod fault;
 mod history;
 mod incoming;
 pub mod laws;
 mod logging_in;
-mod number_set;
-mod phase;
 mod run;
 mod sending;
 mod serve;
-mod session_calls;
-mod sessions;
 mod target;
 mod task_management;
 
 pub use config::Config;
 pub use event::Event;
-pub use fault::Starved;
 pub use history::well_formed;
+pub use iscsi_world::Starved;
 pub use run::Outputs;
 pub use scsi_unit::{Serial, Unit, Units};
 pub use target::Target;

@@ -3,11 +3,11 @@
 ghost use Rattle.std.specs.Prelude.{◌≡◌, ◌<◌, true, length, IfSome, OnOk, OnErr};
 ghost use Rattle.iscsi_login.specs.LoginState.{LoginState, IsTargetBelow};
 ghost use Rattle.iscsi_login.specs.Values.{AreInRange};
-ghost use Rattle.iscsi_target.specs.Machine.{link_at, closed, joined_session, shut_older, begun, logged_in, is_logging_in, is_reading};
-ghost use Rattle.iscsi_target.specs.declared.phase.Phase.TheVariants.{Login};
+ghost use Rattle.iscsi_world.specs.Machine.{link_at, closed, joined_session, shut_older, begun, logged_in, is_logging_in, is_reading};
+ghost use Rattle.iscsi_world.specs.declared.phase.Phase.TheVariants.{Login};
 
-use crate::sessions::{named, older};
 use crate::target::Target;
+use iscsi_connection::{named, older};
 use iscsi_login::SessionParams;
 use iscsi_pdu::{Answer, Frame};
 use media_store::Store;
@@ -15,7 +15,7 @@ use target_limits::Memory;
 
 impl<S: Store> Target<S> {
     /// Answers a Login request. If an allocation fails, the caller closes the connection.
-    #[tactic(auto, unfolding(crate::specs::Machine::logged_in))]
+    #[tactic(auto, unfolding(iscsi_world::specs::Machine::logged_in))]
     pub(crate) fn log_in(&mut self, c: usize, request: &Frame) -> Result<(), Memory>
         requires in_range { c < 64 }
         requires logs_in { is_logging_in (link_at self.old c).phase ≡ true }
@@ -49,7 +49,7 @@ impl<S: Store> Target<S> {
 
     /// Begins full feature phase, and joins the nexus to the units of its target, if it has one. If an allocation
     /// fails, nothing changes.
-    #[tactic(auto, unfolding(crate::specs::World::changed_units))]
+    #[tactic(auto, unfolding(iscsi_world::specs::World::changed_units))]
     fn begin_session(
         &mut self,
         c: usize,

@@ -2,20 +2,20 @@
 
 ghost use Rattle.std.specs.Prelude.{All, ◌≡◌, ℕ, List, [], ◌∷◌, ◌++◌, true, length, map, IfOk, OnOk};
 ghost use Rattle.iscsi_target.specs.Known.{known_in};
-ghost use Rattle.iscsi_target.specs.History.{History, well_formed as is_well_formed, open_after, plain};
+ghost use Rattle.iscsi_world.specs.History.{History, well_formed as is_well_formed, open_after, plain};
 ghost use Rattle.iscsi_target.specs.Events.{event_view, events_view, plain_history};
-ghost use Rattle.iscsi_target.specs.History as history;
-ghost use Rattle.iscsi_target.specs.World.{Setting};
-ghost use Rattle.iscsi_target.specs.Output.{outputs as outputs_of, media_in, media};
-ghost use Rattle.iscsi_target.specs.Isolation.{GivesItsOwn};
-ghost use Rattle.iscsi_target.specs.Stands.{Stands};
-ghost use Rattle.iscsi_target.specs.Runs.{Runs, RunsThrough, MayCome, AreOpen, seen, finished, ended};
-ghost use Rattle.iscsi_target.specs.Machine.{WhereSound, IsSoundAt, IsSure};
+ghost use Rattle.iscsi_world.specs.History as history;
+ghost use Rattle.iscsi_world.specs.World.{Setting};
+ghost use Rattle.iscsi_world.specs.Output.{outputs as outputs_of, media_in, media};
+ghost use Rattle.iscsi_world.specs.Isolation.{GivesItsOwn};
+ghost use Rattle.iscsi_world.specs.Stands.{Stands};
+ghost use Rattle.iscsi_world.specs.Runs.{Runs, RunsThrough, MayCome, AreOpen, finished, ended};
+ghost use Rattle.iscsi_target.specs.Rows.{seen};
+ghost use Rattle.iscsi_world.specs.Machine.{WhereSound, IsSoundAt, IsSure};
 ghost use Rattle.scsi_unit.specs.Units.{AreSure};
 
 use crate::config::Config;
 use crate::event::Event;
-use crate::fault::Starved;
 use crate::target::Target;
 use media_store::Store;
 use scsi_unit::Units;
@@ -30,12 +30,6 @@ pub type Outputs = Vec<Vec<u8>>;
 pub(crate) struct Row {
     connection: Option<usize>,
     bytes: Vec<u8>,
-}
-
-impl From<Starved> for Memory {
-    fn from(_e: Starved) -> Memory {
-        Memory
-    }
 }
 
 impl Row {

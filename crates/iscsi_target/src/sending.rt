@@ -3,15 +3,15 @@
 ghost use Rattle.std.specs.Prelude.{◌≡◌, ◌<◌, ◌≤◌, ◌+◌, ◌++◌, ℕ, true, length, take, IfSome, IfNone, OnOk};
 ghost use Rattle.iscsi_login.specs.LoginState.{IsTargetBelow};
 ghost use Rattle.iscsi_outbox.specs.Offered.{EndsPdu};
-ghost use Rattle.iscsi_target.specs.Bounded.{Bounded};
-ghost use Rattle.iscsi_target.specs.History.{History};
-ghost use Rattle.iscsi_target.specs.World.{Setting};
-ghost use Rattle.iscsi_target.specs.Machine.{ReflectsSoundness, IsSure, sent_link, link_at, with_link, is_silent, is_open_at};
-ghost use Rattle.iscsi_target.specs.Stands.{Stands, with_sent};
+ghost use Rattle.iscsi_world.specs.Bounded.{Bounded};
+ghost use Rattle.iscsi_world.specs.History.{History};
+ghost use Rattle.iscsi_world.specs.World.{Setting};
+ghost use Rattle.iscsi_world.specs.Machine.{ReflectsSoundness, IsSure, sent_link, link_at, with_link, is_silent, is_open_at};
+ghost use Rattle.iscsi_world.specs.Stands.{Stands, with_sent};
 
-use crate::connection::MOST_ROOM_KEPT;
 use crate::target::Target;
 use bytes::BytesMut;
+use iscsi_connection::MOST_ROOM_KEPT;
 use media_store::Store;
 use target_limits::{CONNECTIONS, Memory};
 
@@ -75,7 +75,7 @@ impl<S: Store> Target<S> {
     }
 
     /// Returns the target of a connection's session, if it has one. It is one of this target's.
-    #[tactic(auto, using(crate::proofs::Sent::target_below))]
+    #[tactic(auto, using(iscsi_world::proofs::Sent::target_below))]
     pub(crate) fn home(&self, c: usize) -> Option<usize>
         requires { c < 64 }
         ensures below { IsTargetBelow (length self.now.units) result }
@@ -99,7 +99,7 @@ impl<S: Store> Target<S> {
     }
 
     /// Gives a buffer back to the units of a target, if both are given.
-    #[tactic(auto, using(crate::proofs::Sent::same_units))]
+    #[tactic(auto, using(iscsi_world::proofs::Sent::same_units))]
     fn give_back(&mut self, target: Option<usize>, buffer: Option<BytesMut>)
         requires { IsTargetBelow (length self.old.units) target }
         ensures { self.new ≡ self.old }
@@ -161,7 +161,7 @@ impl<S: Store> Target<S> {
     }
 
     /// Frees the buffers that the units of a target keep.
-    #[tactic(auto, using(crate::proofs::Sent::same_units))]
+    #[tactic(auto, using(iscsi_world::proofs::Sent::same_units))]
     fn trim_units(&mut self, target: usize)
         requires { target < length self.old.units }
         ensures { self.new ≡ self.old }

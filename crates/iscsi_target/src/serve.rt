@@ -4,15 +4,15 @@
 ghost use Rattle.std.specs.Prelude.{◌≡◌, ◌<◌, [], Some, true, length};
 ghost use Rattle.iscsi_login.specs.LoginState.{IsTargetBelow};
 ghost use Rattle.scsi_unit.specs.Units.{numbers_of};
-ghost use Rattle.iscsi_target.specs.World.{units_at};
-ghost use Rattle.iscsi_target.specs.Machine.{link_at, with_link, target_in, is_in_session};
-ghost use Rattle.iscsi_target.specs.Serving.{TakesFrame, Settles, SettlesFor, SettlesOne, StaysWithin, first_starved, first_of};
-ghost use Rattle.iscsi_target.specs.SessionCalls.{ServesSession, SettlesSession, ChangesOne};
+ghost use Rattle.iscsi_world.specs.World.{units_at};
+ghost use Rattle.iscsi_world.specs.Machine.{link_at, with_link, target_in, is_in_session};
+ghost use Rattle.iscsi_world.specs.Serving.{TakesFrame, Settles, SettlesFor, SettlesOne, StaysWithin, first_starved, first_of};
+ghost use Rattle.iscsi_world.specs.SessionCalls.{ServesSession, SettlesSession, ChangesOne};
 
-use crate::fault::Starved;
 use crate::target::Target;
 use crate::task_management::luns_of;
 use iscsi_pdu::{Frame, Header};
+use iscsi_world::Starved;
 use media_store::Store;
 use target_limits::Memory;
 

@@ -4,23 +4,21 @@ ghost use Rattle.std.specs.Prelude.{◌≡◌, ◌<◌, ◌≤◌, ◌+◌, ◌+
 ghost use Rattle.std.specs.Result.{IsErrOf};
 ghost use Rattle.iscsi_pdu.specs.Frames.{has_frame, is_long};
 ghost use Rattle.iscsi_pdu.specs.Header.{header_length};
-ghost use Rattle.iscsi_target.specs.Bounded.{AddsAtMost, Bounded};
-ghost use Rattle.iscsi_target.specs.History.{Open, Bytes, Gone, Mark, History, arrivals, plain, marked};
-ghost use Rattle.iscsi_target.specs.World.{Setting, present, world};
-ghost use Rattle.iscsi_target.specs.Machine.{LinkState, ReflectsSoundness, WhereSound, IsSure, Feeds, KeepsPart, free_link, opened_link, new_machine, link_at, with_link, closed, joined_session, shut_older, begun, logged_in, is_logging_in, GivesFrame, is_reading, is_settled, is_with, target_in, is_open_at, is_closing, want_of};
-ghost use Rattle.iscsi_target.specs.declared.phase.Phase.TheVariants.{Login};
+ghost use Rattle.iscsi_world.specs.Bounded.{AddsAtMost, Bounded};
+ghost use Rattle.iscsi_world.specs.History.{Open, Bytes, Gone, Mark, History, arrivals, plain, marked};
+ghost use Rattle.iscsi_world.specs.World.{Setting, present, world};
+ghost use Rattle.iscsi_world.specs.Machine.{LinkState, ReflectsSoundness, WhereSound, IsSure, Feeds, KeepsPart, free_link, opened_link, new_machine, link_at, with_link, closed, joined_session, shut_older, begun, logged_in, is_logging_in, GivesFrame, is_reading, is_settled, is_with, target_in, is_open_at, is_closing, want_of};
+ghost use Rattle.iscsi_world.specs.declared.phase.Phase.TheVariants.{Login};
 ghost use Rattle.iscsi_login.specs.LoginState.{LoginState, IsTargetBelow};
 ghost use Rattle.iscsi_target.specs.Known.{known_in};
 ghost use Rattle.iscsi_login.specs.Values.{AreInRange};
-ghost use Rattle.iscsi_target.specs.Stands.{Stands, StandsAfter, IsStarved, with_sent};
-ghost use Rattle.iscsi_target.specs.Serving.{Takes, TakesOne, TakesAll, Preserves, first_starved, ended_unless, starved_by};
+ghost use Rattle.iscsi_world.specs.Stands.{Stands, StandsAfter, IsStarved, with_sent};
+ghost use Rattle.iscsi_world.specs.Serving.{Takes, TakesOne, TakesAll, Preserves, first_starved, ended_unless, starved_by};
 
 use crate::config::Config;
-use crate::connection::Connection;
-use crate::connections::Connections;
-use crate::fault::Starved;
-use crate::phase::Phase;
+use iscsi_connection::{Connection, Connections};
 use iscsi_login::{Directory, is_same_target};
+use iscsi_world::{Phase, Starved};
 use media_store::Store;
 use scsi_unit::Units;
 use std::alloc::Global;
@@ -48,7 +46,7 @@ pub struct Target<S: Store> {
 impl<S: Store> Model for Target<S> {
     ghost use Rattle.std.specs.Prelude.{◌≡◌, length};
     ghost use Rattle.std.specs.List.{All};
-    ghost use Rattle.iscsi_target.specs.Machine.{LinkState, Machine, IsWithin};
+    ghost use Rattle.iscsi_world.specs.Machine.{LinkState, Machine, IsWithin};
 
     ghost Value = { Machine };
 
@@ -162,7 +160,7 @@ impl<S: Store> Target<S> {
         requires open { is_open_at self.now c ≡ true }
         ensures { result ≡ is_closing (link_at self.now c).phase }
     {
-        self.connections.at(c).phase.is_closing()
+        self.connections.at(c).phase().is_closing()
     }
 
     /// Returns whether the connection was opened and has not ended.
@@ -170,7 +168,7 @@ impl<S: Store> Target<S> {
         requires { c < 64 }
         ensures { result ≡ is_open_at self.now c }
     {
-        !self.connections.at(c).phase.is_free()
+        !self.connections.at(c).phase().is_free()
     }
 
     /// Returns how many bytes to read next: those missing of a header, or of its frame. Returns 0 if the connection
@@ -181,7 +179,7 @@ impl<S: Store> Target<S> {
         ensures { result ≡ want_of (link_at self.now c) }
     {
         let connection = self.connections.at(c);
-        if connection.phase.is_closing() || connection.is_full() {
+        if connection.phase().is_closing() || connection.is_full() {
             return 0;
         }
         connection.want()
@@ -193,7 +191,7 @@ impl<S: Store> Target<S> {
         ensures value { result ≡ is_reading (link_at self.now c).phase }
         ensures count { length self.now.links ≡ 64 }
     {
-        self.connections.at(c).phase.reads()
+        self.connections.at(c).phase().reads()
     }
 
     /// Returns the target of the connection's session, if it has one.
@@ -224,14 +222,14 @@ impl<S: Store> Target<S> {
     }
 
     /// Closes the connection and ends its session.
-    #[tactic(auto, unfolding(crate::specs::Machine::closed, crate::specs::World::changed_units))]
+    #[tactic(auto, unfolding(iscsi_world::specs::Machine::closed, iscsi_world::specs::World::changed_units))]
     pub(crate) fn close(&mut self, c: usize)
         requires { c < 64 }
         ensures closed { self.new ≡ closed self.old c }
         ensures count { length self.old.links ≡ 64 }
     {
         let connection = self.connections.at_mut(c);
-        if let Phase::FullFeature(session) = &connection.phase {
+        if let Phase::FullFeature(session) = connection.phase() {
             let params = session.params();
             if let Some(target) = params.target {
                 let units = &mut self.units[target];

@@ -1,25 +1,22 @@
 //! The effect of a session's Task Management Functions on the rest of its target (RFC 7143 §11.5.1). The other
 //! sessions lose the commands that they reach, and the units raise unit attentions. Nothing here allocates.
 
-ghost use Rattle.std.specs.Prelude.{◌≡◌, ℕ, ◌<◌, List, [], Some, None, true, length};
+ghost use Rattle.std.specs.Prelude.{◌≡◌, ◌<◌, Some, None, length};
 ghost use Rattle.std.specs.List.{fold};
 ghost use Rattle.iscsi_pdu.specs.Header.{lun_field};
-ghost use Rattle.scsi_unit.specs.Units.{AreSound, AreSure, numbers_of};
+ghost use Rattle.scsi_unit.specs.Units.{numbers_of};
 ghost use Rattle.iscsi_login.specs.LoginState.{IsTargetBelow};
-ghost use Rattle.iscsi_session.specs.Comings.{Coming, lend};
-ghost use Rattle.iscsi_session.specs.Runs.{output, Runs};
-ghost use Rattle.iscsi_session.specs.Weight.{IsAtRest, Eases};
-ghost use Rattle.iscsi_target.specs.World.{units_at, changed_units, function_of, told_by, losing, lose_one, reset_by, reset as reset_in, carry_out, carry_out_for};
-ghost use Rattle.iscsi_target.specs.History.{connections};
-ghost use Rattle.iscsi_target.specs.Machine.{link_at};
-ghost use Rattle.iscsi_target.specs.Serving.{StaysWithin, CarriesOut};
-ghost use Rattle.iscsi_target.specs.SessionCalls.{LosesInSession, ChangesOne};
+ghost use Rattle.iscsi_world.specs.World.{units_at, changed_units, function_of, lose_one, reset_by, reset as reset_in, carry_out, carry_out_for};
+ghost use Rattle.iscsi_world.specs.History.{connections};
+ghost use Rattle.iscsi_world.specs.Machine.{link_at};
+ghost use Rattle.iscsi_world.specs.Serving.{StaysWithin, CarriesOut};
+ghost use Rattle.iscsi_world.specs.SessionCalls.{LosesInSession, ChangesOne};
 
 use crate::target::Target;
 use iscsi_pdu::{Header, TaskFunction};
-use iscsi_session::{Reach, Session, attention_of, is_for_all_sessions};
+use iscsi_session::is_for_all_sessions;
 use media_store::Store;
-use scsi_sense::{Attention, Nexus};
+use scsi_sense::Attention;
 use scsi_unit::Units;
 use target_limits::CONNECTIONS;
 
@@ -36,16 +33,6 @@ pub(crate) fn luns_of<S: Store>(all: &[Units<S>], target: Option<usize>) -> &[u8
     }
 }
 
-/// Raises the unit attention of a nexus that lost commands by CLEAR TASK SET.
-fn tell<S: Store>(units: &mut Units<S>, nexus: &Nexus, function: &Header)
-    ensures { units.new ≡ told_by (function_of function.now) (lun_field function.now) nexus.now units.old }
-{
-    let attention = Attention::CommandsClearedByAnotherInitiator;
-    if let Some(Attention::CommandsClearedByAnotherInitiator) = attention_of(function) {
-        units.raise(nexus, function.lun(), attention);
-    }
-}
-
 /// Raises the unit attention of a reset for every nexus.
 fn reset<S: Store>(units: &mut Units<S>, function: &Header)
     ensures { units.new ≡ reset_by (function_of function.now) (lun_field function.now) units.old }
@@ -55,26 +42,6 @@ fn reset<S: Store>(units: &mut Units<S>, function: &Header)
         TaskFunction::LogicalUnitReset => units.raise_for_all(function.lun(), attention),
         TaskFunction::TargetWarmReset => units.raise_everywhere(attention),
         _ => {}
-    }
-}
-
-/// Removes the commands of a session that the function of another session reaches. If it lost any to CLEAR TASK SET,
-/// its nexus gets the unit attention.
-pub(crate) fn lose<S: Store>(session: &mut Session, units: &mut Units<S>, function: &Header)
-    ensures runs { (waiting : List ℕ) (comings : List Coming) → Runs (λ fails place. losing function.now) None true session.old session.new
-        (output waiting []) (output waiting []) (lend units.old comings) (lend units.new comings) }
-    ensures back { AreSound units.new → AreSound units.old }
-    ensures sure { AreSure units.old → AreSure units.new }
-    ensures eases { (waiting : List ℕ) → IsAtRest session.old → Eases session.old session.new waiting waiting }
-    ensures params { session.new.params ≡ session.old.params }
-{
-    let has_lost = session.remove(&Reach {
-        function: *function,
-        luns: units.luns(),
-        is_own: false,
-    });
-    if has_lost {
-        tell(units, &session.params().nexus, function);
     }
 }
 
@@ -104,7 +71,7 @@ impl<S: Store> Target<S> {
 
     /// Carries out a function: the other sessions of the target lose what it reaches, and a reset raises its unit
     /// attention.
-    #[tactic(auto, unfolding(crate::specs::World::carry_out))]
+    #[tactic(auto, unfolding(iscsi_world::specs::World::carry_out))]
     fn carry_out(&mut self, c: usize, target: usize, function: &Header)
         requires { target < length self.old.units }
         ensures carries { CarriesOut (λ w. carry_out c target w function.now) self.old self.new }
@@ -168,7 +135,7 @@ impl<S: Store> Target<S> {
     }
 
     /// Raises the unit attention of a reset for every nexus, at the units of a target.
-    #[tactic(auto, unfolding(crate::specs::World::changed_units))]
+    #[tactic(auto, unfolding(iscsi_world::specs::World::changed_units))]
     fn reset_units(&mut self, target: usize, function: &Header)
         requires { target < length self.old.units }
         ensures { self.new ≡ record self.old {

@@ -1,5 +1,5 @@
 use Rattle.std.proofs.Common.{arith}
-use Rattle.iscsi_target.proofs.Tables.{gone_table}
+use Rattle.iscsi_world.proofs.Tables.{gone_table}
 use Rattle.iscsi_target.proofs.history.come.Goals as goal
 
 pub returns-else-not-table-c-clause-after : goal.returns-else-not-table-c-clause-after

@@ -1,7 +1,7 @@
 use Rattle.std.proofs.Common.{◌≡◌, ℕ, List, drop}
-use Rattle.iscsi_target.specs.History.{may_follow, well_formed}
+use Rattle.iscsi_world.specs.History.{may_follow, well_formed}
 use Rattle.iscsi_target.specs.Events.{events_view}
-use Rattle.iscsi_target.specs.Runs.{IsTable}
+use Rattle.iscsi_world.specs.Runs.{IsTable}
 use Rattle.iscsi_target.proofs.history.well_formed.Given as goal
 
 -- the events that are left decide

@@ -1,4 +1,4 @@
-use Rattle.iscsi_target.proofs.Keeping.{answers_stay}
+use Rattle.iscsi_world.proofs.Keeping.{answers_stay}
 use Rattle.iscsi_target.proofs.laws.answers_stay.Goals as goal
 
 pub returns : goal.returns

@@ -1,4 +1,4 @@
-use Rattle.iscsi_target.proofs.Isolation.{targets_are_isolated, targets_see_their_own, strangers_are_alone}
+use Rattle.iscsi_world.proofs.Isolation.{targets_are_isolated, targets_see_their_own, strangers_are_alone}
 use Rattle.iscsi_target.proofs.laws.targets_are_isolated.Goals as goal
 
 pub returns-clause-selected : goal.returns-clause-selected

@@ -1,5 +1,5 @@
 use Rattle.std.proofs.Common.{◌<◌, length, arith}
-use Rattle.iscsi_target.specs.Runs.{ended}
+use Rattle.iscsi_world.specs.Runs.{ended}
 use Rattle.iscsi_target.proofs.Rows.{rows_next}
 use Rattle.iscsi_target.proofs.run.end.Goals as goal
 

@@ -1,5 +1,6 @@
 use Rattle.std.proofs.Common.{◌≡◌, ◌++◌, map, take, drop}
-use Rattle.iscsi_target.specs.Runs.{seen, ended}
+use Rattle.iscsi_world.specs.Runs.{ended}
+use Rattle.iscsi_target.specs.Rows.{seen}
 use Rattle.iscsi_target.proofs.run.end.Given as goal
 
 -- those so far are ended

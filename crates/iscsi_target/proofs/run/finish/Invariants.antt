@@ -1,5 +1,6 @@
 use Rattle.std.proofs.Common.{◌≡◌, ◌++◌, map, take, drop}
-use Rattle.iscsi_target.specs.Runs.{seen, finished}
+use Rattle.iscsi_world.specs.Runs.{finished}
+use Rattle.iscsi_target.specs.Rows.{seen}
 use Rattle.iscsi_target.proofs.run.finish.Given as goal
 
 -- those so far are finished

@@ -1,6 +1,7 @@
 use Rattle.std.proofs.Common.{◌≡◌, ℕ, List, length, map, ap, ◌∙◌, Vec, Global}
 use Rattle.std.proofs.lemmas.Result.{IfOk-weaker}
-use Rattle.iscsi_target.specs.Runs.{seen, finished}
+use Rattle.iscsi_world.specs.Runs.{finished}
+use Rattle.iscsi_target.specs.Rows.{seen}
 use Rattle.iscsi_target.specs.declared.run.Row.{Row}
 use Rattle.iscsi_target.proofs.Rows.{bytes_after, all_written}
 use Rattle.iscsi_target.proofs.run.outputs.Goals as goal

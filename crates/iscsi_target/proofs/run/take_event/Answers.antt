@@ -1,14 +1,15 @@
 use Rattle.std.proofs.Common.{◌≡◌, ℕ, List, [], ◌∷◌, ◌++◌, length, map, take, drop, sym, ap, ◌∙◌, subst}
 use Rattle.std.proofs.lemmas.List.{map-append}
-use Rattle.iscsi_target.specs.History.{Open, Bytes, Gone}
+use Rattle.iscsi_world.specs.History.{Open, Bytes, Gone}
 use Rattle.iscsi_target.specs.Events.{event_view}
-use Rattle.iscsi_target.specs.Runs.{MayCome, seen, open_row, ended}
+use Rattle.iscsi_world.specs.Runs.{MayCome, open_row, ended}
+use Rattle.iscsi_target.specs.Rows.{seen}
 use Rattle.iscsi_target.specs.declared.run.Row.{Row}
-use Rattle.iscsi_target.proofs.Reflected.{sound_back}
+use Rattle.iscsi_world.proofs.Reflected.{sound_back}
 use Rattle.iscsi_target.proofs.Rows.{all_written}
-use Rattle.iscsi_target.proofs.Running.{open_runs, bytes_runs, gone_runs}
-use Rattle.iscsi_target.proofs.Through.{open_through, bytes_through, gone_through}
-use Rattle.iscsi_target.proofs.Tracking.{opened_tracks, fed_tracks, gone_tracks}
+use Rattle.iscsi_world.proofs.Running.{open_runs, bytes_runs, gone_runs}
+use Rattle.iscsi_world.proofs.Through.{open_through, bytes_through, gone_through}
+use Rattle.iscsi_world.proofs.Tracking.{opened_tracks, fed_tracks, gone_tracks}
 use Rattle.iscsi_target.proofs.run.take_event.Goals as goal
 
 pub returns-in_ok-push-in-Open : goal.returns-in_ok-push-in-Open

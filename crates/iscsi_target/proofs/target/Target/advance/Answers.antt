@@ -1,7 +1,7 @@
 use Rattle.std.proofs.Common.{◌≡◌, ◌+◌, ℕ, length, sym, ap, ◌∙◌, subst, arith}
 use Rattle.iscsi_login.specs.LoginState.{IsTargetBelow}
-use Rattle.iscsi_target.specs.Machine.{Machine}
-use Rattle.iscsi_target.proofs.Sent.{with_part, sent_none, sent_next, still_wait}
+use Rattle.iscsi_world.specs.Machine.{Machine}
+use Rattle.iscsi_world.proofs.Sent.{with_part, sent_none, sent_next, still_wait}
 use Rattle.iscsi_target.proofs.target.Target.advance.Goals as goal
 
 pub loop-unsent-init : goal.loop-unsent-init

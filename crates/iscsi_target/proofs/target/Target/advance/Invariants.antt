@@ -1,5 +1,5 @@
 use Rattle.std.proofs.Common.{◌≡◌, ◌+◌, ℕ}
-use Rattle.iscsi_target.proofs.Sent.{with_part}
+use Rattle.iscsi_world.proofs.Sent.{with_part}
 use Rattle.iscsi_target.proofs.target.Target.advance.Given as goal
 
 -- so many of them are taken

@@ -1,9 +1,9 @@
 use Rattle.std.proofs.Common.{length, refl, subst, sym}
 use Rattle.std.proofs.lemmas.List.{length-set}
 use Rattle.iscsi_login.specs.LoginState.{IsTargetBelow}
-use Rattle.iscsi_target.specs.Machine.{Machine}
-use Rattle.iscsi_target.proofs.Begun.{begun_within}
-use Rattle.iscsi_target.proofs.Lending.{lent_holds}
+use Rattle.iscsi_world.specs.Machine.{Machine}
+use Rattle.iscsi_world.proofs.Begun.{begun_within}
+use Rattle.iscsi_world.proofs.Lending.{lent_holds}
 use Rattle.iscsi_target.proofs.target.Target.begin_session.Goals as goal
 
 pub invariant_of-self : goal.invariant_of-self

@@ -1,6 +1,6 @@
 use Rattle.std.proofs.Common.{Some, None, sym, ◌∙◌, arith}
-use Rattle.iscsi_target.proofs.Carrying.{carried_reset, not_carried}
-use Rattle.iscsi_target.proofs.Within.{within_none, within_then}
+use Rattle.iscsi_world.proofs.Carrying.{carried_reset, not_carried}
+use Rattle.iscsi_world.proofs.Within.{within_none, within_then}
 use Rattle.iscsi_target.proofs.target.Target.carry_out.Goals as goal
 
 pub reset-requires : goal.reset-requires

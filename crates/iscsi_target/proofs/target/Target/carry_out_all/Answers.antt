@@ -1,6 +1,6 @@
 use Rattle.std.proofs.Common.{Some, None, arith}
-use Rattle.iscsi_target.proofs.Carrying.{carried_none, carried_next, carried_all}
-use Rattle.iscsi_target.proofs.Within.{within_none, within_then}
+use Rattle.iscsi_world.proofs.Carrying.{carried_none, carried_next, carried_all}
+use Rattle.iscsi_world.proofs.Within.{within_none, within_then}
 use Rattle.iscsi_target.proofs.target.Target.carry_out_all.Goals as goal
 
 pub loop-function-init : goal.loop-function-init

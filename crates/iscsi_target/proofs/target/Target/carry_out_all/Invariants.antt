@@ -1,7 +1,7 @@
 use Rattle.std.proofs.Common.{◌<◌, length, take, Some, None}
 use Rattle.std.specs.List.{fold}
-use Rattle.iscsi_target.specs.World.{carry_out}
-use Rattle.iscsi_target.specs.Serving.{StaysWithin, CarriesOut}
+use Rattle.iscsi_world.specs.World.{carry_out}
+use Rattle.iscsi_world.specs.Serving.{StaysWithin, CarriesOut}
 use Rattle.iscsi_target.proofs.target.Target.carry_out_all.Given as goal
 
 -- those so far are carried out

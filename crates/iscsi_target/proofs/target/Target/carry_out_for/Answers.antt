@@ -1,6 +1,6 @@
 use Rattle.std.proofs.Common.{None}
-use Rattle.iscsi_target.proofs.Carrying.{carried_none}
-use Rattle.iscsi_target.proofs.Within.{within_none}
+use Rattle.iscsi_world.proofs.Carrying.{carried_none}
+use Rattle.iscsi_world.proofs.Within.{within_none}
 use Rattle.iscsi_target.proofs.target.Target.carry_out_for.Goals as goal
 
 pub returns-in-Some : goal.returns-in-Some

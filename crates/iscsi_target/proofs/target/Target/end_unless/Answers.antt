@@ -1,5 +1,5 @@
 use Rattle.std.proofs.Common.{length, sym, ap, ◌∙◌, arith}
-use Rattle.iscsi_target.specs.Machine.{Machine}
+use Rattle.iscsi_world.specs.Machine.{Machine}
 use Rattle.iscsi_target.proofs.target.Target.end_unless.Goals as goal
 use Rattle.std.proofs.lemmas.Grind.{common_steps}
 

@@ -1,12 +1,12 @@
 use Rattle.std.proofs.Common.{rules, ◌≡◌, ◌<◌, length, true, false, Some, sym, ap, ◌∙◌, arith}
-use Rattle.iscsi_target.specs.World.{is_login}
-use Rattle.iscsi_target.specs.Machine.{link_at}
-use Rattle.iscsi_target.proofs.Apart.{part_login}
-use Rattle.iscsi_target.proofs.Asking.{login_there, still_reading}
-use Rattle.iscsi_target.proofs.Doing.{does_starved}
-use Rattle.iscsi_target.proofs.Frames.{takes_closed, takes_login, takes_starved}
-use Rattle.iscsi_target.proofs.Heavier.{closed_loads, logged_in_loads}
-use Rattle.iscsi_target.proofs.Moving.{own_self, closed_moves, starved_moves, logged_in_moves, moves_as, moves_starved}
+use Rattle.iscsi_world.specs.World.{is_login}
+use Rattle.iscsi_world.specs.Machine.{link_at}
+use Rattle.iscsi_world.proofs.Apart.{part_login}
+use Rattle.iscsi_world.proofs.Asking.{login_there, still_reading}
+use Rattle.iscsi_world.proofs.Doing.{does_starved}
+use Rattle.iscsi_world.proofs.Frames.{takes_closed, takes_login, takes_starved}
+use Rattle.iscsi_world.proofs.Heavier.{closed_loads, logged_in_loads}
+use Rattle.iscsi_world.proofs.Moving.{own_self, closed_moves, starved_moves, logged_in_moves, moves_as, moves_starved}
 use Rattle.iscsi_target.proofs.target.Target.enter.Goals as goal
 
 pub returns-in-Ok : goal.returns-in-Ok

@@ -1,15 +1,15 @@
 use Rattle.std.proofs.Common.{◌≡◌, ◌<◌, [], length, true, None, refl, sym, ap, ◌∙◌, arith, rules}
 use Rattle.std.proofs.lemmas.Bool.{eqb-true}
 use Rattle.std.proofs.lemmas.List.{nil_from_length}
-use Rattle.iscsi_target.specs.Machine.{Machine, ReflectsSoundness, link_at, closed, is_closing, is_reading}
-use Rattle.iscsi_target.specs.World.{world}
-use Rattle.iscsi_target.proofs.Apart.{part_none, part_as, part_closed, part_halved, part_then}
-use Rattle.iscsi_target.proofs.Feeding.{comes_idle, comes_empty, all_came, ok_came, err_came, none_after, starved_after, starved_came, kept_is, closed_kept, fed_few, kept_feeds, kept_reads}
-use Rattle.iscsi_target.proofs.Moving.{own_self, closed_closing, closing_if, closed_moves, feeds_then, moves_as}
-use Rattle.iscsi_target.proofs.Reflected.{sound_back}
-use Rattle.iscsi_target.proofs.Sound.{closed_back, at_as, at_units, closed_sure, sure_as}
-use Rattle.iscsi_target.proofs.Standing.{stands_as}
-use Rattle.iscsi_target.proofs.Wanting.{fed_bounded, closed_bounded, bounded_as}
+use Rattle.iscsi_world.specs.Machine.{Machine, ReflectsSoundness, link_at, closed, is_closing, is_reading}
+use Rattle.iscsi_world.specs.World.{world}
+use Rattle.iscsi_world.proofs.Apart.{part_none, part_as, part_closed, part_halved, part_then}
+use Rattle.iscsi_world.proofs.Feeding.{comes_idle, comes_empty, all_came, ok_came, err_came, none_after, starved_after, starved_came, kept_is, closed_kept, fed_few, kept_feeds, kept_reads}
+use Rattle.iscsi_world.proofs.Moving.{own_self, closed_closing, closing_if, closed_moves, feeds_then, moves_as}
+use Rattle.iscsi_world.proofs.Reflected.{sound_back}
+use Rattle.iscsi_world.proofs.Sound.{closed_back, at_as, at_units, closed_sure, sure_as}
+use Rattle.iscsi_world.proofs.Standing.{stands_as}
+use Rattle.iscsi_world.proofs.Wanting.{fed_bounded, closed_bounded, bounded_as}
 use Rattle.iscsi_target.proofs.target.Target.feed.Goals as goal
 
 pub returns-then-is_empty-clause-stands : goal.returns-then-is_empty-clause-stands

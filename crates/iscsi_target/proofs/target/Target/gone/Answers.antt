@@ -1,10 +1,10 @@
 use Rattle.std.proofs.Common.{List, length, refl, subst, sym, ap, ◌∙◌, arith}
-use Rattle.iscsi_target.specs.Machine.{LinkState, Machine, IsWithin, with_link, closed, free_link}
-use Rattle.iscsi_target.proofs.Lending.{Holds, lent_holds}
-use Rattle.iscsi_target.proofs.Moving.{closed_count}
-use Rattle.iscsi_target.proofs.Sound.{closed_back, at_as, at_units, closed_sure, sure_as}
-use Rattle.iscsi_target.proofs.Standing.{gone_stands, stands_machine}
-use Rattle.iscsi_target.proofs.Wanting.{bounded_links, gone_bounded}
+use Rattle.iscsi_world.specs.Machine.{LinkState, Machine, IsWithin, with_link, closed, free_link}
+use Rattle.iscsi_world.proofs.Lending.{Holds, lent_holds}
+use Rattle.iscsi_world.proofs.Moving.{closed_count}
+use Rattle.iscsi_world.proofs.Sound.{closed_back, at_as, at_units, closed_sure, sure_as}
+use Rattle.iscsi_world.proofs.Standing.{gone_stands, stands_machine}
+use Rattle.iscsi_world.proofs.Wanting.{bounded_links, gone_bounded}
 use Rattle.iscsi_target.proofs.target.Target.gone.Goals as goal
 
 pub invariant_of-self : goal.invariant_of-self

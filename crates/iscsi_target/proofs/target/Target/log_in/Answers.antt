@@ -7,10 +7,10 @@ use Rattle.iscsi_login.specs.Lookup.{Lookup, lookup_in}
 use Rattle.iscsi_login.specs.Login.{reply_of}
 use Rattle.iscsi_login.specs.Session.{named_by}
 use Rattle.iscsi_login.specs.declared.session_params.SessionParams.{SessionParams}
-use Rattle.iscsi_target.specs.World.{lookup_for}
-use Rattle.iscsi_target.specs.Machine.{LinkState, Machine, link_at, closed, IsWithin, logged_in, sessions}
-use Rattle.iscsi_target.proofs.Asking.{enters, no_session, waits, closed_asked, reads_asked, begun_alike, begun_by_request, on_err}
-use Rattle.iscsi_target.proofs.Lending.{lent_holds}
+use Rattle.iscsi_world.specs.World.{lookup_for}
+use Rattle.iscsi_world.specs.Machine.{LinkState, Machine, link_at, closed, IsWithin, logged_in, sessions}
+use Rattle.iscsi_world.proofs.Asking.{enters, no_session, waits, closed_asked, reads_asked, begun_alike, begun_by_request, on_err}
+use Rattle.iscsi_world.proofs.Lending.{lent_holds}
 use Rattle.iscsi_target.proofs.target.Target.log_in.Goals as goal
 
 pub returns-in_err-response-clause-err : goal.returns-in_err-response-clause-err

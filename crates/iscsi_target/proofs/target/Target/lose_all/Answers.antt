@@ -1,8 +1,8 @@
 use Rattle.std.proofs.Common.{◌≡◌, Some, None, subst, arith}
-use Rattle.iscsi_target.specs.History.{connection_limit}
-use Rattle.iscsi_target.specs.Serving.{CarriesOut}
-use Rattle.iscsi_target.proofs.Carrying.{lost_below, none_lost, lost_next}
-use Rattle.iscsi_target.proofs.Within.{within_none, within_then}
+use Rattle.iscsi_world.specs.History.{connection_limit}
+use Rattle.iscsi_world.specs.Serving.{CarriesOut}
+use Rattle.iscsi_world.proofs.Carrying.{lost_below, none_lost, lost_next}
+use Rattle.iscsi_world.proofs.Within.{within_none, within_then}
 use Rattle.iscsi_target.proofs.target.Target.lose_all.Goals as goal
 
 pub loop-d-init : goal.loop-d-init

@@ -1,6 +1,6 @@
 use Rattle.std.proofs.Common.{◌<◌, length, Some, None}
-use Rattle.iscsi_target.specs.Serving.{StaysWithin, CarriesOut}
-use Rattle.iscsi_target.proofs.Carrying.{lost_below}
+use Rattle.iscsi_world.specs.Serving.{StaysWithin, CarriesOut}
+use Rattle.iscsi_world.proofs.Carrying.{lost_below}
 use Rattle.iscsi_target.proofs.target.Target.lose_all.Given as goal
 
 -- the sessions of the connections below the next one have lost what is reached

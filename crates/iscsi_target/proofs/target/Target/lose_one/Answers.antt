@@ -1,9 +1,9 @@
 use Rattle.std.proofs.Common.{Some, sym, ◌∙◌, arith}
 use Rattle.std.proofs.lemmas.Bool.{ne_eqb}
-use Rattle.iscsi_target.specs.Machine.{link_at}
-use Rattle.iscsi_target.proofs.Carrying.{loses_own, loses_none, loses_called}
-use Rattle.iscsi_target.proofs.SessionCalls.{session_with, is_called, called_moves, called_apart}
-use Rattle.iscsi_target.proofs.Within.{within_none}
+use Rattle.iscsi_world.specs.Machine.{link_at}
+use Rattle.iscsi_world.proofs.Carrying.{loses_own, loses_none, loses_called}
+use Rattle.iscsi_world.proofs.SessionCalls.{session_with, is_called, called_moves, called_apart}
+use Rattle.iscsi_world.proofs.Within.{within_none}
 use Rattle.iscsi_target.proofs.target.Target.lose_one.Goals as goal
 
 pub returns-then-d-c : goal.returns-then-d-c

@@ -3,9 +3,9 @@ use Rattle.std.specs.Prelude.{string_bytes}
 use Rattle.std.proofs.lemmas.List.{length-map, length-replicate}
 use Rattle.std.proofs.lemmas.List.Elements.{All-replicate}
 use Rattle.iscsi_target.specs.Known.{known_in}
-use Rattle.iscsi_target.specs.Machine.{LinkState, IsWithin, free_link, new_machine}
-use Rattle.iscsi_target.proofs.Standing.{new_stands, stands_machine}
-use Rattle.iscsi_target.proofs.Wanting.{bounded_links, new_bounded}
+use Rattle.iscsi_world.specs.Machine.{LinkState, IsWithin, free_link, new_machine}
+use Rattle.iscsi_world.proofs.Standing.{new_stands, stands_machine}
+use Rattle.iscsi_world.proofs.Wanting.{bounded_links, new_bounded}
 use Rattle.iscsi_target.proofs.target.Target.new.Goals as goal
 
 pub invariant_of-result : goal.invariant_of-result

@@ -1,8 +1,8 @@
 use Rattle.std.proofs.Common.{length, refl, sym, ap, arith}
-use Rattle.iscsi_target.specs.Machine.{Machine, with_link, opened_link}
-use Rattle.iscsi_target.proofs.Sound.{at_units, sure_as}
-use Rattle.iscsi_target.proofs.Standing.{open_stands, stands_machine}
-use Rattle.iscsi_target.proofs.Wanting.{bounded_links, opened_bounded}
+use Rattle.iscsi_world.specs.Machine.{Machine, with_link, opened_link}
+use Rattle.iscsi_world.proofs.Sound.{at_units, sure_as}
+use Rattle.iscsi_world.proofs.Standing.{open_stands, stands_machine}
+use Rattle.iscsi_world.proofs.Wanting.{bounded_links, opened_bounded}
 use Rattle.iscsi_target.proofs.target.Target.open.Goals as goal
 
 pub returns-clause-now : goal.returns-clause-now

@@ -1,6 +1,6 @@
 use Rattle.std.proofs.Common.{Some, None, refl, sym}
-use Rattle.iscsi_target.proofs.Carrying.{carried_on, reset_machine, reset_does, reset_stays}
-use Rattle.iscsi_target.proofs.Within.{within_as}
+use Rattle.iscsi_world.proofs.Carrying.{carried_on, reset_machine, reset_does, reset_stays}
+use Rattle.iscsi_world.proofs.Within.{within_as}
 use Rattle.iscsi_target.proofs.target.Target.reset.Goals as goal
 
 pub returns : goal.returns

@@ -1,22 +1,21 @@
 use Rattle.std.proofs.Common.{◌≡◌, ◌<◌, List, [], length, take, sym, ap, ◌∙◌, subst}
 use Rattle.std.proofs.lemmas.List.{take_all}
 use Rattle.iscsi_target.specs.Known.{known_in}
-use Rattle.iscsi_target.specs.History.{open_after}
+use Rattle.iscsi_world.specs.History.{open_after}
 use Rattle.iscsi_target.specs.Events.{event_view, events_view, plain_history}
 use Rattle.scsi_unit.specs.Units.{UnitStates}
-use Rattle.iscsi_target.specs.Output.{outputs, media, media_in}
-use Rattle.iscsi_target.specs.World.{Setting}
-use Rattle.iscsi_target.specs.Stands.{Stands}
+use Rattle.iscsi_world.specs.Output.{outputs, media, media_in}
+use Rattle.iscsi_world.specs.World.{Setting}
+use Rattle.iscsi_world.specs.Stands.{Stands}
 use Rattle.iscsi_target.specs.declared.event.Event.{Event}
-use Rattle.iscsi_target.proofs.Choices.{and_true}
-use Rattle.iscsi_target.proofs.Tables.{follows}
-use Rattle.iscsi_target.proofs.Rows.{history_more, events_more}
-use Rattle.iscsi_target.proofs.Sound.{sure_as}
-use Rattle.iscsi_target.proofs.Standing.{units_stand}
-use Rattle.iscsi_target.proofs.Running.{new_runs, finished_outputs}
-use Rattle.iscsi_target.proofs.Through.{new_through}
-use Rattle.iscsi_target.proofs.Tracking.{comes, none_open}
-use Rattle.iscsi_target.proofs.Isolation.{gives_its_own}
+use Rattle.iscsi_world.proofs.Choices.{and_true}
+use Rattle.iscsi_target.proofs.Rows.{history_more, events_more, follows}
+use Rattle.iscsi_world.proofs.Sound.{sure_as}
+use Rattle.iscsi_world.proofs.Standing.{units_stand}
+use Rattle.iscsi_world.proofs.Running.{new_runs, finished_outputs}
+use Rattle.iscsi_world.proofs.Through.{new_through}
+use Rattle.iscsi_world.proofs.Tracking.{comes, none_open}
+use Rattle.iscsi_world.proofs.Isolation.{gives_its_own}
 use Rattle.iscsi_target.proofs.target.Target.run.Goals as goal
 
 pub loop-event-init : goal.loop-event-init

@@ -2,10 +2,11 @@ use Rattle.std.proofs.Common.{◌≡◌, ℕ, List, true, map, take, drop}
 use Rattle.std.specs.Prelude.{All}
 use Rattle.scsi_unit.specs.Units.{AreSure}
 use Rattle.iscsi_target.specs.Known.{known_in}
-use Rattle.iscsi_target.specs.History.{may_follow}
+use Rattle.iscsi_world.specs.History.{may_follow}
 use Rattle.iscsi_target.specs.Events.{events_view, plain_history}
-use Rattle.iscsi_target.specs.Machine.{WhereSound, IsSure}
-use Rattle.iscsi_target.specs.Runs.{seen, AreOpen, Runs, RunsThrough}
+use Rattle.iscsi_world.specs.Machine.{WhereSound, IsSure}
+use Rattle.iscsi_world.specs.Runs.{AreOpen, Runs, RunsThrough}
+use Rattle.iscsi_target.specs.Rows.{seen}
 use Rattle.iscsi_target.proofs.target.Target.run.Given as goal
 
 -- the events so far were taken, and the others may follow

@@ -1,8 +1,8 @@
 use Rattle.std.proofs.Common.{sym, ap, ◌∙◌, arith}
-use Rattle.iscsi_target.specs.Machine.{Machine, link_at, with_link, sent_link}
-use Rattle.iscsi_target.proofs.Sound.{at_units}
-use Rattle.iscsi_target.proofs.Standing.{sent_stands, stands_machine}
-use Rattle.iscsi_target.proofs.Wanting.{bounded_links, sent_bounded}
+use Rattle.iscsi_world.specs.Machine.{Machine, link_at, with_link, sent_link}
+use Rattle.iscsi_world.proofs.Sound.{at_units}
+use Rattle.iscsi_world.proofs.Standing.{sent_stands, stands_machine}
+use Rattle.iscsi_world.proofs.Wanting.{bounded_links, sent_bounded}
 use Rattle.iscsi_target.proofs.target.Target.sent.Goals as goal
 
 pub returns-clause-always : goal.returns-clause-always

@@ -2,17 +2,17 @@ use Rattle.std.proofs.Common.{◌≡◌, ℕ, suc, List, length, true, Option, S
 use Rattle.iscsi_login.specs.LoginState.{IsTargetBelow}
 use Rattle.iscsi_login.specs.Session.{is_same_target}
 use Rattle.scsi_unit.specs.Units.{UnitStates, AreSound, AreSure}
-use Rattle.iscsi_target.specs.World.{units_at, carry_out_for}
-use Rattle.iscsi_target.specs.Machine.{Machine, link_at, is_with}
-use Rattle.iscsi_target.specs.Serving.{Preserves, CarriesOut, first_of, first_starved}
-use Rattle.iscsi_target.proofs.Apart.{apart_then}
-use Rattle.iscsi_target.proofs.Bounding.{adds_then}
-use Rattle.iscsi_target.proofs.Doing.{does_starved}
-use Rattle.iscsi_target.proofs.Frames.{finishes}
-use Rattle.iscsi_target.proofs.Heavier.{apart_next}
-use Rattle.iscsi_target.proofs.Moving.{moves_then, moves_starved, ended_units}
-use Rattle.iscsi_target.proofs.SessionCalls.{session_in, is_called, link_only, serves_takes, called_moves, ended_moves, ended_called_apart, ended_adds}
-use Rattle.iscsi_target.proofs.Within.{within_then}
+use Rattle.iscsi_world.specs.World.{units_at, carry_out_for}
+use Rattle.iscsi_world.specs.Machine.{Machine, link_at, is_with}
+use Rattle.iscsi_world.specs.Serving.{Preserves, CarriesOut, first_of, first_starved}
+use Rattle.iscsi_world.proofs.Apart.{apart_then}
+use Rattle.iscsi_world.proofs.Bounding.{adds_then}
+use Rattle.iscsi_world.proofs.Doing.{does_starved}
+use Rattle.iscsi_world.proofs.Frames.{finishes}
+use Rattle.iscsi_world.proofs.Heavier.{apart_next}
+use Rattle.iscsi_world.proofs.Moving.{moves_then, moves_starved, ended_units}
+use Rattle.iscsi_world.proofs.SessionCalls.{session_in, is_called, link_only, serves_takes, called_moves, ended_moves, ended_called_apart, ended_adds}
+use Rattle.iscsi_world.proofs.Within.{within_then}
 use Rattle.iscsi_target.proofs.target.Target.serve.Goals as goal
 
 pub carry_out_for-requires : goal.carry_out_for-requires

@@ -1,9 +1,9 @@
 use Rattle.std.proofs.Common.{ℕ, List, length, refl, ap, ◌∙◌, subst}
 use Rattle.scsi_unit.specs.Units.{UnitStates, numbers_of}
-use Rattle.iscsi_target.specs.World.{units_at}
-use Rattle.iscsi_target.specs.Machine.{LinkState, Machine, link_at}
-use Rattle.iscsi_target.specs.SessionCalls.{ServesSession}
-use Rattle.iscsi_target.proofs.Lending.{lent_was, lent_is, lent_holds}
+use Rattle.iscsi_world.specs.World.{units_at}
+use Rattle.iscsi_world.specs.Machine.{LinkState, Machine, link_at}
+use Rattle.iscsi_world.specs.SessionCalls.{ServesSession}
+use Rattle.iscsi_world.proofs.Lending.{lent_was, lent_is, lent_holds}
 use Rattle.iscsi_target.proofs.target.Target.serve_session.Goals as goal
 
 pub invariant_of-self : goal.invariant_of-self

@@ -1,11 +1,11 @@
 use Rattle.std.proofs.Common.{◌≡◌, ℕ, ◌<◌, ◌≤◌, length, true, Some, sym, ap, ◌∙◌, subst, arith}
-use Rattle.iscsi_target.specs.History.{connection_limit}
-use Rattle.iscsi_target.specs.Machine.{Machine, link_at, is_settled}
-use Rattle.iscsi_target.specs.Serving.{first_starved}
-use Rattle.iscsi_target.proofs.Doing.{does_starved}
-use Rattle.iscsi_target.proofs.Frames.{SettledBelow, none_settled, settled_next, all_settled}
-use Rattle.iscsi_target.proofs.Skipping.{settled_skipped}
-use Rattle.iscsi_target.proofs.Within.{within_none, within_then, within_as, within_starved}
+use Rattle.iscsi_world.specs.History.{connection_limit}
+use Rattle.iscsi_world.specs.Machine.{Machine, link_at, is_settled}
+use Rattle.iscsi_world.specs.Serving.{first_starved}
+use Rattle.iscsi_world.proofs.Doing.{does_starved}
+use Rattle.iscsi_world.proofs.Frames.{SettledBelow, none_settled, settled_next, all_settled}
+use Rattle.iscsi_world.proofs.Skipping.{settled_skipped}
+use Rattle.iscsi_world.proofs.Within.{within_none, within_then, within_as, within_starved}
 use Rattle.iscsi_target.proofs.target.Target.settle.Goals as goal
 
 pub loop-c-init : goal.loop-c-init

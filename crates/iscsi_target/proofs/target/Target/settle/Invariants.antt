@@ -1,6 +1,6 @@
 use Rattle.std.proofs.Common.{◌-◌, ◌<◌, ◌≤◌, length, Some}
-use Rattle.iscsi_target.specs.Serving.{StaysWithin, first_starved}
-use Rattle.iscsi_target.proofs.Frames.{SettledBelow}
+use Rattle.iscsi_world.specs.Serving.{StaysWithin, first_starved}
+use Rattle.iscsi_world.proofs.Frames.{SettledBelow}
 use Rattle.iscsi_target.proofs.target.Target.settle.Given as goal
 
 -- the connections below the next one are settled

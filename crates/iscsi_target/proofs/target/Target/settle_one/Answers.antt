@@ -1,8 +1,8 @@
 use Rattle.std.proofs.Common.{Some, sym, ◌∙◌}
-use Rattle.iscsi_target.specs.Machine.{link_at}
-use Rattle.iscsi_target.specs.Serving.{first_starved}
-use Rattle.iscsi_target.proofs.SessionCalls.{session_with, is_called, settles_none, settles_called, called_moves, ended_moves, ended_called_apart}
-use Rattle.iscsi_target.proofs.Within.{within_none}
+use Rattle.iscsi_world.specs.Machine.{link_at}
+use Rattle.iscsi_world.specs.Serving.{first_starved}
+use Rattle.iscsi_world.proofs.SessionCalls.{session_with, is_called, settles_none, settles_called, called_moves, ended_moves, ended_called_apart}
+use Rattle.iscsi_world.proofs.Within.{within_none}
 use Rattle.iscsi_target.proofs.target.Target.settle_one.Goals as goal
 
 pub returns-then-not-is_with : goal.returns-then-not-is_with

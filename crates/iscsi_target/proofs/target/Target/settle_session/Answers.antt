@@ -1,8 +1,8 @@
 use Rattle.std.proofs.Common.{length, ap}
 use Rattle.std.proofs.lemmas.List.{length-set}
-use Rattle.iscsi_target.specs.SessionCalls.{SettlesSession}
-use Rattle.iscsi_target.specs.Machine.{Machine}
-use Rattle.iscsi_target.proofs.Lending.{lent_was, lent_is, units_were, units_are, lent_holds, lent_so}
+use Rattle.iscsi_world.specs.SessionCalls.{SettlesSession}
+use Rattle.iscsi_world.specs.Machine.{Machine}
+use Rattle.iscsi_world.proofs.Lending.{lent_was, lent_is, units_were, units_are, lent_holds, lent_so}
 use Rattle.iscsi_target.proofs.target.Target.settle_session.Goals as goal
 
 pub invariant_of-self : goal.invariant_of-self

@@ -1,7 +1,7 @@
 use Rattle.std.proofs.Common.{sym, ◌∙◌, subst}
-use Rattle.iscsi_target.specs.Machine.{Machine}
-use Rattle.iscsi_target.specs.Serving.{first_starved, TakesAll}
-use Rattle.iscsi_target.proofs.Taking.{begins, goes_on, progress_as, ends_idle, ends_whole, taken_is_shorter}
+use Rattle.iscsi_world.specs.Machine.{Machine}
+use Rattle.iscsi_world.specs.Serving.{first_starved, TakesAll}
+use Rattle.iscsi_world.proofs.Taking.{begins, goes_on, progress_as, ends_idle, ends_whole, taken_is_shorter}
 use Rattle.iscsi_target.proofs.target.Target.take_frames.Goals as goal
 
 pub loop-self-init : goal.loop-self-init

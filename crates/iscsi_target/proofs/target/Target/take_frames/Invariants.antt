@@ -1,7 +1,7 @@
 use Rattle.std.proofs.Common.{length}
-use Rattle.iscsi_target.specs.Machine.{link_at}
-use Rattle.iscsi_target.specs.Serving.{first_starved}
-use Rattle.iscsi_target.proofs.Taking.{Progress}
+use Rattle.iscsi_world.specs.Machine.{link_at}
+use Rattle.iscsi_world.specs.Serving.{first_starved}
+use Rattle.iscsi_world.proofs.Taking.{Progress}
 use Rattle.iscsi_target.proofs.target.Target.take_frames.Given as goal
 
 -- some of what is whole is taken

@@ -1,6 +1,6 @@
 use Rattle.std.proofs.Common.{refl, sym, ap, ◌∙◌}
-use Rattle.iscsi_target.specs.Machine.{Machine, closed, GivesFrame}
-use Rattle.iscsi_target.proofs.Taking.{halved_reads, takes_frame, takes_long, takes_none, takes_as}
+use Rattle.iscsi_world.specs.Machine.{Machine, closed, GivesFrame}
+use Rattle.iscsi_world.proofs.Taking.{halved_reads, takes_frame, takes_long, takes_none, takes_as}
 use Rattle.iscsi_target.proofs.target.Target.take_next.Goals as goal
 
 pub take_frame-requires-clause-reads : goal.take_frame-requires-clause-reads

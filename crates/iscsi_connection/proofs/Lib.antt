@@ -1,0 +1,2 @@
+mod NumberSet
+mod Marked

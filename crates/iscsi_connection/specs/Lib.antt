@@ -1,0 +1,13 @@
+pub use Rattle.iscsi_pdu.specs.Frames
+pub use Rattle.iscsi_pdu.specs.Answer
+pub use Rattle.scsi_unit.specs.Units
+pub use Rattle.iscsi_session.specs.Requests
+pub use Rattle.iscsi_session.specs.State
+pub use Rattle.iscsi_world.specs.History
+pub use Rattle.iscsi_world.specs.World
+pub use Rattle.iscsi_world.specs.Machine
+pub use Rattle.iscsi_world.specs.SessionCalls
+pub use Rattle.iscsi_world.specs.HalfRead
+pub mod NumberSet
+pub mod Connections
+pub mod Lending

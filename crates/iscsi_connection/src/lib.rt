@@ -1,0 +1,32 @@
+//! The connections of an iSCSI target: their bytes, their phases, and the answers that wait to be sent.
+//!
+//! ```text
+//!   keep(piece)   ┌──────────────── Connection ────────────────┐   out, skip_front
+//!   ------------> │ framer     phase                  outbox   │ ---------------->
+//!   next_frame    │ half a PDU Login, FullFeature ..  answers  │
+//!   <------------ └──┬─────────────────────────────────────────┘
+//!                    └ log_in, begin, serve, settle, lose: what a frame, or another session, does to it
+//! ```
+//!
+//! [`Connections`] holds 64 of them. Most are idle at most times, and those are passed over.
+//!
+//! Promised, and proved:
+//!
+//! - A [`Connection`] is what the definitions of `iscsi_world` say that a target remembers of one (`LinkState`), after
+//!   each call. Of a Data-Out whose data nobody needs only the number of bytes is kept, until it is whole.
+//! - If an allocation fails, what waits to be sent still waits, and frames that were whole are not lost.
+//! - No connection with commands that can be done is passed over ([`Connections::next_unsettled`]), and none with bytes
+//!   to send or that is closing ([`Connections::next_busy`]).
+//! - [`named`] and [`older`] find the session that a Login request names, and the one that a new session ends.
+#![tactic(auto)]
+
+mod connection;
+mod connections;
+mod losing;
+mod number_set;
+mod session_calls;
+mod sessions;
+
+pub use connection::{Connection, MOST_ROOM_KEPT};
+pub use connections::Connections;
+pub use sessions::{named, older};

@@ -1,0 +1,48 @@
+-- Each session of a World has a lawful past, whatever has happened.
+use Rattle.std.proofs.Common.{◌≡◌, ℕ, List, Option, Some, None, refl, ap, ◌∙◌, []}
+use Rattle.iscsi_session.specs.Requests.{Past}
+use Rattle.iscsi_session.specs.State.{IsLawful}
+use Rattle.iscsi_session.specs.Steps.{Work}
+use Rattle.iscsi_session.proofs.Removing.{lawful_removing}
+use Rattle.iscsi_session.proofs.Lawful.{taken_once, finished_as_taken, steps_are_lawful}
+use Rattle.iscsi_world.specs.History.{Gone, Mark, marked}
+use Rattle.iscsi_world.specs.World.{present, past_of, begun_event, world, fails, reach_from, losing}
+use Rattle.iscsi_world.specs.Laws.{FinishesAsTaken, SessionsFinishAsTaken, OthersStay}
+use Rattle.iscsi_world.proofs.Framed.{Fits}
+use Rattle.iscsi_world.proofs.Keeping.{world-push}
+use Rattle.iscsi_world.proofs.Linked.{present-close_other}
+use Rattle.iscsi_world.proofs.Lives.{present-end_other, present-lives}
+use Rattle.iscsi_world.proofs.EachSession.{Each, each_walk, each_past, each_world}
+use Rattle.iscsi_world.proofs.Walks.{Walk, IsAny, on-serve}
+
+abbrev AreLawful : ℕ → Past → Type 0
+AreLawful d past = IsLawful past
+
+pub lost_lawful : (header : List ℕ) (work : Work) → IsLawful work.past → IsLawful (losing header work).past
+lost_lawful header work lawful = lawful_removing (reach_from header work.units.states) work.past lawful
+
+lawful_walk : (marks : List Mark) → Walk marks (λ w v. Each AreLawful w → Each AreLawful v) (λ c frame. Fits frame) IsAny
+lawful_walk marks = each_walk AreLawful marks
+    (λ c place frame work fits lawful on. steps_are_lawful.served (fails marks c) place frame work fits lawful)
+    (λ c target place work own lawful on. steps_are_lawful.settled (fails marks c) place work lawful)
+    (λ d target header work same own lawful. lost_lawful header work lawful)
+
+-- ---- the laws
+
+finishes : (o : Option Past) → ((past : Past) → o ≡ Some past → IsLawful past) → FinishesAsTaken o
+finishes None lawful = tt
+finishes (Some past) lawful = (taken_once past.came, finished_as_taken past (lawful past refl))
+
+pub sessions_finish_as_taken : SessionsFinishAsTaken
+sessions_finish_as_taken s h c bytes = finishes (past_of (present c (world s h))) (λ past is. each_past AreLawful c (world s h) past
+    (each_world AreLawful s (λ d session. steps_are_lawful.begun session)
+    (λ marks d place frame session w at fits lawful.
+    on-serve (lawful_walk marks) d place session.params.target frame w fits (λ target own. tt) lawful) h bytes) is)
+
+pub others_stay : OthersStay
+others_stay = record {
+  closed = present-close_other;
+  gone = λ s h marks c d differ.
+      ap (present d) (world-push s h (marked marks (Gone c))) ∙ present-end_other c d (begun_event [] (world s h)) differ
+      ∙ present-lives d (begun_event [] (world s h)) (world s h) refl;
+}

@@ -1,0 +1,508 @@
+-- The whole frames of a piece are taken, one after the other.
+use Rattle.std.proofs.Common.{◌≡◌, ℕ, ◌+◌, ◌<◌, ◌≤◌, List, [], ◌∷◌, ◌++◌, length, map, drop, Bool, true, false, not, ◌&&◌, eqb, Option, Some, None, refl, sym, ap, ◌∙◌, subst, arith, inl, inr, append_assoc}
+use Rattle.std.specs.Prelude.{All, nat_lt, slice_index_or}
+use Rattle.scsi_unit.specs.Units.{UnitStates, AreSound, AreSure}
+use Rattle.std.specs.List.{fold, enumerate_from}
+use Rattle.std.proofs.lemmas.Bool.Decides.{eqb_tells, nat_tests}
+use Rattle.std.proofs.lemmas.List.{append-nil, length-append, set-get_or, get_or-set_same}
+use Rattle.iscsi_pdu.specs.Frames.{Frame, frames, rest, is_long, has_frame, first_frame, frame_length}
+use Rattle.iscsi_pdu.proofs.Frames.{no_frame, frames_none, rest_none, frames_step, rest_step, drop_shorter}
+use Rattle.iscsi_pdu.proofs.Cuts.{long_is_no_frame}
+use Rattle.iscsi_session.specs.Steps.{Judging, Taking, Asking, Answering, Doing}
+use Rattle.iscsi_login.specs.Directory.{KnownTargets}
+use Rattle.iscsi_world.specs.History.{Point, Arriving, Before, AtEnd, Mark, Arrival, Whole, TooLong, arrivals, is_within, connection_limit}
+use Rattle.iscsi_world.specs.Life.{Life, reads}
+use Rattle.iscsi_world.specs.World.{Setting, World, present, reads_life, close, reaching, arrive}
+use Rattle.iscsi_world.specs.Machine.{LinkState, Machine, Feeds, link_at, with_link, is_reading, closed, free_link, shut_link, GivesFrame}
+use Rattle.iscsi_world.specs.Bounded.{AddsAtMost}
+use Rattle.iscsi_world.specs.Stands.{link_of}
+use Rattle.iscsi_world.specs.Serving.{Serves, ActsAs, is_of_frame, has_place, place_of, is_among, first_of, with_half, KeepsHalf, Preserves, TakesFrame, Leaves, TakesOne, TakesSome, TakesAll}
+use Rattle.iscsi_world.proofs.Arrivals.{long_end, fold-places}
+use Rattle.iscsi_world.proofs.Choices.{cond_true, cond_false}
+use Rattle.iscsi_world.proofs.Linked.{link_is, reads_there, some_reads, serves_one, serves_as, serves_world, serves_reaching, closes, present-close, present-reaching, units_with}
+use Rattle.iscsi_world.proofs.Standing.{nothing_long, machine_same, half_here, half_other}
+use Rattle.iscsi_world.proofs.Marks.{Apart, Wider, all_wider}
+use Rattle.iscsi_world.proofs.Walks.{any_arrival, any_arrivals, on-arrive, on-arrivals}
+use Rattle.iscsi_world.proofs.Keeping.{goes}
+use Rattle.iscsi_world.proofs.Doing.{Act, Halves, does_nothing, does_from, does_then}
+use Rattle.iscsi_world.proofs.Comings.{comings_close}
+use Rattle.iscsi_world.proofs.Frames.{idle, arrived, starves}
+use Rattle.iscsi_world.proofs.Apart.{part_none, part_closed, part_halved, part_as, part_then}
+use Rattle.iscsi_world.proofs.Bounding.{adds_none, adds_then, adds_more}
+use Rattle.iscsi_world.proofs.Heavier.{closed_loads, halved_adds, header_whole}
+use Rattle.iscsi_world.proofs.Moving.{keeps_same, keeps_by, link_other, Changes, reading_open, own_self, feeds_then, closed_then, changes_feeds, closed_moves, starved_moves, moves_as, moves_none}
+
+-- ---- the bytes that are kept
+
+-- of a connection that reads fewer bytes are kept
+pub rehalved : (s : Setting) (sent : ℕ → ℕ) (half : ℕ → List ℕ) (w : World) (machine : Machine) (c : ℕ) (bytes : List ℕ) → c < connection_limit
+    → is_reading (link_at machine c).phase ≡ true → Serves s sent half w machine
+    → Serves s sent (with_half c bytes half) w (with_link machine c (record (link_at machine c) { half = bytes }))
+rehalved s sent half w machine c bytes lt r h =
+    let there = some_reads (present c w) (sym (reads_there s sent half w machine c lt h) ∙ r) in
+    let link = link_is s sent half w machine c lt h ∙ ap (link_of s.directory (sent c) (half c)) there.1 in
+    let now : link_of s.directory (sent c) (with_half c bytes half c) (Some there.0) ≡ record
+    (link_of s.directory (sent c) (half c) (Some there.0)) { half = bytes } =
+    ap (λ (b : List ℕ). link_of s.directory (sent c) b (Some there.0)) (half_here c bytes half)
+    ∙ ap (λ (b : List ℕ). let l : LinkState = record (link_of s.directory (sent c) (half c) (Some there.0)) { half = b } in l)
+    (cond_true (reads there.0.phase) bytes [] there.2) in
+    serves_one s sent half (with_half c bytes half) w w machine c machine.units (record (link_at machine c) { half = bytes }) lt h
+    (λ d differ. refl) (λ d differ. half_other c d bytes half differ)
+    (h.answered c lt) (h.quiet c lt) (sym (ap (λ (m : Machine). m.units) h.is ∙ units_with s sent half w))
+    (ap (link_of s.directory (sent c) (with_half c bytes half c)) there.1 ∙ now
+    ∙ ap (λ (l : LinkState). let x : LinkState = record l { half = bytes } in x) (sym link))
+
+idle_link : (directory : KnownTargets) (sent : ℕ) (a b : List ℕ) (o : Option Life) → reads_life o ≡ false
+    → link_of directory sent a o ≡ link_of directory sent b o
+idle_link directory sent a b None e = refl
+idle_link directory sent a b (Some life) e =
+    ap (λ (half : List ℕ). let l : LinkState = record (link_of directory sent a (Some life)) { half = half } in l) (cond_false (reads life.phase) a [] e
+    ∙ sym (cond_false (reads life.phase) b [] e))
+
+-- of one that does not read, none
+pub halves_idle : (s : Setting) (sent : ℕ → ℕ) (half : ℕ → List ℕ) (w : World) (machine : Machine) (c : ℕ) (bytes : List ℕ)
+    → reads_life (present c w) ≡ false → Serves s sent half w machine → Serves s sent (with_half c bytes half) w machine
+halves_idle s sent half w machine c bytes e h = record {
+  is = h.is ∙ sym (machine_same s sent sent half (with_half c bytes half) w w refl (λ d below. elim (eqb_tells d c) [
+    | inl here ↦ rw here.1 (idle_link s.directory (sent c) (with_half c bytes half c) (half c) (present c w) e)
+    | inr differ ↦ ap (λ (b : List ℕ). link_of s.directory (sent d) b (present d w)) (half_other c d bytes half differ.1)
+  ]));
+  answered = h.answered;
+  quiet = h.quiet;
+}
+
+-- ---- the first that is whole
+
+pub none_whole : (half : List ℕ) → has_frame half ≡ false → is_long half ≡ false → arrivals half ≡ []
+unfolding arrivals
+none_whole half none short = ap (λ (l : List Frame). map Whole l ++ long_end (is_long (rest half))) (frames_none half none)
+    ∙ ap long_end (ap is_long (rest_none half none) ∙ short)
+
+pub some_whole : (half more : List ℕ) (frame : Frame) → frames half ≡ frame ∷ frames more → rest more ≡ rest half → arrivals half ≡ Whole frame ∷ arrivals more
+unfolding arrivals
+some_whole half more frame first behind =
+    ap (λ (l : List Frame). map Whole l ++ long_end (is_long (rest half))) first
+    ∙ ap (λ (r : List ℕ). Whole frame ∷ (map Whole (frames more) ++ long_end (is_long r))) (sym behind)
+
+pub no_bytes : arrivals [] ≡ []
+no_bytes = none_whole [] no_frame nothing_long
+
+pub long_whole : (half : List ℕ) → is_long half ≡ true → arrivals half ≡ TooLong ∷ arrivals []
+unfolding arrivals
+long_whole half long =
+    let none = long_is_no_frame half long in
+    ap (λ (l : List Frame). map Whole l ++ long_end (is_long (rest half))) (frames_none half none) ∙ ap long_end (ap is_long (rest_none half none) ∙ long)
+    ∙ ap (λ (l : List Arrival). TooLong ∷ l) (sym no_bytes)
+
+long_some : (half : List ℕ) → is_long half ≡ true → 0 < length half
+long_some [] long = absurd (cc (long, nothing_long))
+long_some (b ∷ half) long = omega arith
+
+-- ---- it is taken
+
+pub halving : (link : LinkState) (more : List ℕ) → is_reading link.phase ≡ true → Changes link (record link { half = more })
+halving link more r = record {
+  reads = r;
+  free = reading_open link.phase r;
+  waits = ([], sym (append-nil link.waiting));
+}
+
+closed_keeps : (machine : Machine) (c : ℕ) (more : List ℕ) → c < length machine.links → KeepsHalf more (link_at (closed machine c) c)
+unfolding closed
+closed_keeps machine c more lt =
+    let here = get_or-set_same machine.links c (shut_link (link_at machine c)) free_link lt in
+    subst (KeepsHalf more) (sym here) (record { reading = λ e. absurd cc; idle = λ e. refl })
+
+closed_idle : (machine : Machine) (c : ℕ) → c < length machine.links → is_reading (link_at (closed machine c) c).phase ≡ false
+unfolding closed
+closed_idle machine c lt = ap (λ (l : LinkState). is_reading l.phase) (get_or-set_same machine.links c (shut_link (link_at machine c)) free_link lt)
+
+halved_link : (old given : Machine) (c : ℕ) (half : List ℕ) → c < connection_limit → length old.links ≡ connection_limit
+    → given ≡ with_link old c (record (link_at old c) { half = half }) → link_at given c ≡ record (link_at old c) { half = half }
+halved_link old given c half lt count is = ap (λ (m : Machine). link_at m c) is
+    ∙ get_or-set_same old.links c (record (link_at old c) { half = half }) free_link (omega (arith, lt, count))
+
+pub halved_reads : (old given : Machine) (c : ℕ) (half : List ℕ) → c < connection_limit → length old.links ≡ connection_limit
+    → given ≡ with_link old c (record (link_at old c) { half = half }) → is_reading (link_at old c).phase ≡ true
+    → is_reading (link_at given c).phase ≡ true
+halved_reads old given c half lt count is r = ap (λ (l : LinkState). is_reading l.phase) (halved_link old given c half lt count is) ∙ r
+
+-- a frame that was given
+pub takes_frame : (old given new : Machine) (c : ℕ) (frame : Frame) (starved : Option ℕ) → c < connection_limit
+    → length old.links ≡ connection_limit → is_reading (link_at old c).phase ≡ true
+    → GivesFrame frame (link_at old c).half (link_at given c).half → given ≡ with_link old c (record (link_at old c) { half = (link_at given c).half })
+    → TakesFrame c frame starved given new → TakesOne c starved old new
+takes_frame old given new c frame starved lt count r gives is taken =
+    let takes = taken.takes in
+    let moves = taken.moves in
+    let loads = taken.loads (header_whole (link_at old c).half frame _ gives.first) in
+    let more = (link_at given c).half in
+    let link = halved_link old given c more lt count is in
+    let reads_given = halved_reads old given c more lt count is r in
+    let fed : Feeds c old given = (let P : Machine → Type 0 = λ m. Feeds c old m in subst P (sym is)
+    (changes_feeds c old old.units c (record (link_at old c) { half = more }) (omega (arith, count)) (halving (link_at old c) more r) (own_self c old))) in
+    record {
+      arrival = Whole frame;
+      more = more;
+      front = some_whole (link_at old c).half more frame gives.first gives.behind;
+      behind = λ e. sym gives.behind;
+      shorter = gives.shorter;
+      kept = moves.alters.keeps c reads_given;
+      does = does_from takes takes.of_kind (λ s sent half w place marks agree ahead h.
+          takes.stands s sent (with_half c more half) w place marks agree ahead
+          (serves_as s sent (with_half c more half) w (with_link old c (record (link_at old c) { half = more })) given is
+          (rehalved s sent half w old c more lt r h)));
+      leaves = record {
+        back = λ target sound. subst (λ (us : List UnitStates). AreSound (slice_index_or us target [])) (ap (λ (m : Machine). m.units) is)
+            (moves.back target sound);
+        sure = λ sure. moves.sure (subst (λ (us : List UnitStates). All AreSure us) (sym (ap (λ (m : Machine). m.units) is)) sure);
+        feeds = feeds_then c old given new fed moves.alters.feeds;
+        closing = moves.closing;
+        part = part_then c old given new reads_given (part_as c old (with_link old c (record (link_at old c) { half = more })) given is
+            (part_halved old c more (omega (arith, count)))) taken.part;
+        eases = λ d other. subst (λ (l : LinkState). AddsAtMost 0 l (link_at new d)) (ap (λ (m : Machine). link_at m d) is
+            ∙ link_other old old.units c d (record (link_at old c) { half = more }) other) (moves.alters.eases d other);
+        keeps = λ d other. (let P : LinkState → Type 0 = λ l. is_reading l.phase ≡ true → KeepsHalf l.half (link_at new d) in
+            subst P (ap (λ (m : Machine). link_at m d) is ∙ link_other old old.units c d (record (link_at old c) { half = more }) other)
+            (moves.alters.keeps d));
+        loads = halved_adds 1 (link_at old c) (link_at new c) more (subst (λ (l : LinkState). AddsAtMost 1 l (link_at new c)) link loads);
+      };
+    }
+
+-- it is closed
+closes_leaves : (c : ℕ) (starved : Option ℕ) (old new : Machine) → c < length old.links → new ≡ closed old c → Preserves c starved old new
+    → Leaves c 1 starved old new
+closes_leaves c starved old new lt is moves = record {
+  back = moves.back;
+  sure = moves.sure;
+  feeds = moves.alters.feeds;
+  closing = moves.closing;
+  part = part_as c old (closed old c) new is (part_closed old c lt);
+  eases = moves.alters.eases;
+  loads = closed_loads 1 old new c lt is;
+  keeps = λ d other reads_. moves.alters.keeps d reads_;
+}
+
+-- a header that names too much data
+pub takes_long : (old new : Machine) (c : ℕ) → c < connection_limit → length old.links ≡ connection_limit → is_reading (link_at old c).phase ≡ true
+    → is_long (link_at old c).half ≡ true → new ≡ closed old c → TakesOne c None old new
+takes_long old new c lt count r long is =
+    let below : c < length old.links = omega (arith, count) in
+    let moves = moves_as c None old (closed old c) new is (closed_moves c old c below r (own_self c old)) in
+    record {
+      arrival = TooLong;
+      more = [];
+      front = long_whole (link_at old c).half long;
+      behind = λ e. absurd (cc (e, ap (λ (m : Machine). is_reading (link_at m c).phase) is, closed_idle old c below));
+      shorter = long_some (link_at old c).half long;
+      kept = subst (λ (m : Machine). KeepsHalf [] (link_at m c)) (sym is) (closed_keeps old c [] below);
+      does = does_nothing is_of_frame (λ s marks place w. arrive s marks c w (place, TooLong)) (with_half c []) old new
+          (λ s sent half w place marks agree h.
+          (let there = some_reads (present c w) (sym (reads_there s sent half w old c lt h) ∙ r) in
+          let v = reaching c (Arriving place ∷ []) w in
+          let at : present c v ≡ Some there.0 = present-reaching c c (Arriving place ∷ []) w ∙ there.1 in
+          let step = arrived s marks c w place TooLong (ap reads_life there.1 ∙ there.2) agree in (
+            serves_world s sent (with_half c [] half) (close c v) _ new step
+                (halves_idle s sent half (close c v) new c [] (ap reads_life (present-close c v there.0 at))
+                (serves_as s sent half (close c v) (closed old c) new is (closes s sent half v old c there.0 lt
+                (serves_reaching s sent half w old c (Arriving place ∷ []) h) at))),
+            ap (λ (u : World). u.comings) step ∙ comings_close c v,
+          )));
+      leaves = closes_leaves c None old new below is moves;
+    }
+
+-- an allocation failed before a frame was given
+pub takes_none : (old new : Machine) (c : ℕ) → c < connection_limit → length old.links ≡ connection_limit → is_reading (link_at old c).phase ≡ true
+    → has_frame (link_at old c).half ≡ true → new ≡ closed old c → TakesOne c (Some c) old new
+takes_none old new c lt count r whole is =
+    let below : c < length old.links = omega (arith, count) in
+    let moves = moves_as c (Some c) old (closed old c) new is (starved_moves c old c below r (own_self c old)) in
+    let half = (link_at old c).half in
+    let more = drop (frame_length half) half in
+    let first = starves old new c (Whole (first_frame half)) lt r is in
+    let shut_ : is_reading (link_at new c).phase ≡ false = ap (λ (m : Machine). is_reading (link_at m c).phase) is ∙ closed_idle old c below in
+    record {
+      arrival = Whole (first_frame half);
+      more = more;
+      front = some_whole half more (first_frame half) (frames_step half whole) (sym (rest_step half whole));
+      behind = λ e. absurd (cc (e, shut_));
+      shorter = drop_shorter half whole;
+      kept = subst (λ (m : Machine). KeepsHalf more (link_at m c)) (sym is) (closed_keeps old c more below);
+      does = does_from first first.of_kind (λ s sent bytes w place marks agree ahead h.
+          (let at = first.stands s sent bytes w place marks agree ahead h in
+          let v = arrive s marks c w (place, Whole (first_frame half)) in
+          (halves_idle s sent bytes v new c more (sym (reads_there s sent bytes v new c lt at.0) ∙ shut_) at.0, at.1, at.2)));
+      leaves = closes_leaves c (Some c) old new below is moves;
+    }
+
+-- ---- so many
+
+-- some arrivals of the first bytes are taken, and these bytes are left
+pub record Progress (c : ℕ) (starved : Option ℕ) (first machine : Machine) : Type 0 where
+  pub done : List Arrival
+  pub more : List ℕ
+  pub front : arrivals (link_at first c).half ≡ done ++ arrivals more
+  pub behind : is_reading (link_at machine c).phase ≡ true → rest (link_at first c).half ≡ rest more
+  pub kept : KeepsHalf more (link_at machine c)
+  pub takes : TakesSome c done more starved first machine
+  pub leaves : Leaves c (length done) starved first machine
+
+own_half : (s : Setting) (sent : ℕ → ℕ) (half : ℕ → List ℕ) (w : World) (machine : Machine) (c : ℕ) → c < connection_limit
+    → is_reading (link_at machine c).phase ≡ true → Serves s sent half w machine
+    → Serves s sent (with_half c (link_at machine c).half half) w machine
+own_half s sent half w machine c lt r h =
+    serves_as s sent (with_half c (link_at machine c).half half) w (with_link machine c
+    (record (link_at machine c) { half = (link_at machine c).half })) machine
+    (sym (ap (λ (links : List LinkState). let m : Machine = record machine { links = links } in m) (set-get_or machine.links c free_link)))
+    (rehalved s sent half w machine c (link_at machine c).half lt r h)
+
+pub begins : (machine : Machine) (c : ℕ) → c < connection_limit → is_reading (link_at machine c).phase ≡ true → Progress c None machine machine
+begins machine c lt r = record {
+  done = [];
+  more = (link_at machine c).half;
+  front = refl;
+  behind = λ e. refl;
+  kept = keeps_same (link_at machine c) r;
+  takes = does_nothing (is_among 0) (λ s marks place w. fold (arrive s marks c) w (enumerate_from place [])) (with_half c (link_at machine c).half)
+      machine machine
+      (λ s sent half w place marks agree h. (own_half s sent half w machine c lt r h, refl));
+  leaves = record {
+    back = λ target sound. sound;
+    sure = λ sure. sure;
+    feeds = (moves_none c machine).alters.feeds;
+    closing = tt;
+    part = part_none c machine;
+    eases = (moves_none c machine).alters.eases;
+    loads = adds_none 0 (link_at machine c);
+    keeps = λ d other reads_. keeps_same (link_at machine d) reads_;
+  };
+}
+
+-- ---- one more
+
+shifted : (n : ℕ) (kind : ℕ → Mark → Bool) (act : Act) (halves : Halves) (starved : Option ℕ) (given after : Machine)
+    → ActsAs kind act halves starved given after
+    → ActsAs (λ place. kind (place + n)) (λ s marks place w. act s marks (place + n) w) halves starved given after
+shifted n kind act halves starved given after d = record {
+  failed = λ place. d.failed (place + n);
+  first = λ place. d.first (place + n);
+  of_kind = λ place. d.of_kind (place + n);
+  came = d.came;
+  plain = d.plain;
+  calm = d.calm;
+  stands = λ s sent half w place marks agree ahead h. d.stands s sent half w (place + n) marks agree ahead h;
+}
+
+-- only the bytes themselves count
+pub serves_halves : (s : Setting) (sent : ℕ → ℕ) (a b : ℕ → List ℕ) (w : World) (machine : Machine) → ((d : ℕ) → a d ≡ b d)
+    → Serves s sent a w machine → Serves s sent b w machine
+serves_halves s sent a b w machine same h = record {
+  is = h.is ∙ sym (machine_same s sent sent a b w w refl (λ d below. ap (λ (bytes : List ℕ). link_of s.directory (sent d) bytes (present d w)) (sym (same d))));
+  answered = h.answered;
+  quiet = h.quiet;
+}
+
+pub half_twice : (c : ℕ) (x y : List ℕ) (half : ℕ → List ℕ) (d : ℕ) → with_half c y (with_half c x half) d ≡ with_half c y half d
+half_twice c x y half d = elim (eqb_tells d c) [
+  | inl same ↦ rw same.1 (half_here c y (with_half c x half) ∙ sym (half_here c y half))
+  | inr differ ↦ half_other c d y (with_half c x half) differ.1 ∙ half_other c d x half differ.1 ∙ sym (half_other c d y half differ.1)
+]
+
+-- a point of one frame is at its place
+within_place : (place : ℕ) (point : Point) → is_within place point ≡ has_place (λ p. eqb p place) point
+within_place place (Arriving p) = refl
+within_place place (Before (Judging p)) = refl
+within_place place (Before (Taking p i)) = refl
+within_place place (Before (Asking p)) = refl
+within_place place (Before (Answering p)) = refl
+within_place place (Before (Doing p i)) = refl
+within_place place AtEnd = refl
+
+-- what is so of places is so of the points at them
+at_places : (p q : ℕ → Bool) (b : Bool) (point : Point) → ((n : ℕ) → p n ≡ true → q n ≡ b) → has_place p point ≡ true → has_place q point ≡ b
+at_places p q b (Arriving n) each e = each n e
+at_places p q b (Before step) each e = each (place_of step) e
+at_places p q b AtEnd each e = absurd cc
+
+-- one of so many places
+abbrev is_near : ℕ → ℕ → ℕ → Bool
+is_near n place p = not (nat_lt p place) && nat_lt p (place + n)
+
+abbrev is_place : ℕ → ℕ → Bool
+is_place place p = eqb p place
+
+among_here : (n place : ℕ) → Apart (is_among n place) (is_of_frame (place + n))
+among_here n place mark e = within_place (place + n) mark.point ∙ at_places (is_near n place) (is_place (place + n)) false mark.point apart e
+  where
+    apart : (p : ℕ) → is_near n place p ≡ true → is_place (place + n) p ≡ false
+    apart p is = grind (arith, nat_tests)
+
+here_among : (n place : ℕ) → Apart (is_of_frame (place + n)) (is_among n place)
+here_among n place mark e = at_places (is_place (place + n)) (is_near n place) false mark.point apart (sym (within_place (place + n) mark.point) ∙ e)
+  where
+    apart : (p : ℕ) → is_place (place + n) p ≡ true → is_near n place p ≡ false
+    apart p is = grind (arith, nat_tests)
+
+among_more : (n m place : ℕ) → n ≤ m → Wider (is_among n place) (is_among m place)
+among_more n m place le mark e = at_places (is_near n place) (is_near m place) true mark.point wider e
+  where
+    wider : (p : ℕ) → is_near n place p ≡ true → is_near m place p ≡ true
+    wider p is = grind (arith, nat_tests)
+
+here_more : (n place : ℕ) → Wider (is_of_frame (place + n)) (is_among (n + 1) place)
+here_more n place mark e = at_places (is_place (place + n)) (is_near (n + 1) place) true mark.point wider (sym (within_place (place + n) mark.point) ∙ e)
+  where
+    wider : (p : ℕ) → is_place (place + n) p ≡ true → is_near (n + 1) place p ≡ true
+    wider p is = grind (arith, nat_tests)
+
+fold_more : (s : Setting) (marks : List Mark) (c place : ℕ) (w : World) (done : List Arrival) (arrival : Arrival)
+    → fold (arrive s marks c) w (enumerate_from place (done ++ arrival ∷ []))
+    ≡ arrive s marks c (fold (arrive s marks c) w (enumerate_from place done)) (place + length done, arrival)
+fold_more s marks c place w done arrival = fold-places (arrive s marks c) w place done (arrival ∷ [])
+
+takes_more : (c : ℕ) (a b : Option ℕ) (first machine new : Machine) (done : List Arrival) (more : List ℕ) → TakesSome c done more a first machine
+    → (one : TakesOne c b machine new)
+    → TakesSome c (done ++ one.arrival ∷ []) one.more (first_of a b) first new
+takes_more c a b first machine new done more so_far one =
+    let n = length done in
+    let count : length (done ++ one.arrival ∷ []) ≡ n + 1 = length-append done (one.arrival ∷ []) in
+    let second = shifted n is_of_frame (λ s marks place w. arrive s marks c w (place, one.arrival)) (with_half c one.more) b machine new one.does in
+    let both = does_then (is_among n) (λ place. is_of_frame (place + n)) (is_among (n + 1))
+    (λ s marks place w. fold (arrive s marks c) w (enumerate_from place done)) (λ s marks place w. arrive s marks c w (place + n, one.arrival))
+    (with_half c more) (with_half c one.more) a b first machine new (among_here n) (here_among n)
+    (λ place. among_more n (n + 1) place (omega arith)) (here_more n) one.leaves.back
+    (λ s marks place w. on-arrivals (goes s marks c) w (enumerate_from place done) (any_arrivals c (enumerate_from place done)))
+    (λ s marks place w. on-arrive (goes s marks c) w (place + n, one.arrival) (any_arrival c (place + n, one.arrival))) so_far second in
+    let P : ℕ → Type 0 = λ k. ActsAs (is_among k) (λ s marks place w. fold (arrive s marks c) w (enumerate_from place (done ++ one.arrival ∷ [])))
+    (with_half c one.more) (first_of a b) first new in
+    subst P (sym count) (does_from both both.of_kind (λ s sent half w place marks agree ahead h.
+    (let at = both.stands s sent half w place marks agree ahead h in
+    rw (fold_more s marks c place w done one.arrival) (
+      serves_halves s sent (with_half c one.more (with_half c more half)) (with_half c one.more half) _ new
+          (half_twice c more one.more half) at.0,
+      at.1,
+      at.2,
+    ))))
+
+leaves_then : (c n m : ℕ) (a b : Option ℕ) (first machine new : Machine) → is_reading (link_at machine c).phase ≡ true
+    → Leaves c n a first machine → Leaves c m b machine new → Leaves c (n + m) (first_of a b) first new
+leaves_then c n m a b first machine new r p one = record {
+  back = λ target sound. p.back target (one.back target sound);
+  sure = λ sure. one.sure (p.sure sure);
+  feeds = feeds_then c first machine new p.feeds one.feeds;
+  closing = closed_then a b c machine new p.closing one.feeds one.closing;
+  part = part_then c first machine new r p.part one.part;
+  eases = λ d other. adds_then 0 0 (link_at first d) (link_at machine d) (link_at new d) (p.eases d other) (one.eases d other);
+  loads = adds_then n m (link_at first c) (link_at machine c) (link_at new c) p.loads one.loads;
+  keeps = λ d other reads_. keeps_by (is_reading (link_at machine d).phase) (link_at first d).half (link_at machine d) (link_at new d) refl
+      (p.keeps d other reads_) (one.keeps d other) (one.feeds.still d);
+}
+
+pub goes_on : (c : ℕ) (a b : Option ℕ) (first machine new : Machine) → is_reading (link_at machine c).phase ≡ true → Progress c a first machine
+    → TakesOne c b machine new → Progress c (first_of a b) first new
+goes_on c a b first machine new r p one =
+    let half : (link_at machine c).half ≡ p.more = p.kept.reading r in
+    record {
+      done = p.done ++ one.arrival ∷ [];
+      more = one.more;
+      front = p.front ∙ ap (λ (bytes : List ℕ). p.done ++ arrivals bytes) (sym half) ∙ ap (λ (l : List Arrival). p.done ++ l) one.front
+          ∙ sym (append_assoc p.done (one.arrival ∷ []) (arrivals one.more));
+      behind = λ e. p.behind r ∙ ap rest (sym half) ∙ one.behind e;
+      kept = one.kept;
+      takes = takes_more c a b first machine new p.done p.more p.takes one;
+      leaves = subst (λ (n : ℕ). Leaves c n (first_of a b) first new) (sym (length-append p.done (one.arrival ∷ [])))
+          (leaves_then c (length p.done) 1 a b first machine new r p.leaves one.leaves);
+    }
+
+-- ---- all
+
+pub idle_all : (s : Setting) (marks : List Mark) (c : ℕ) (w : World) (all : List (ℕ × Arrival)) → reads_life (present c w) ≡ false
+    → fold (arrive s marks c) w all ≡ w
+idle_all s marks c w [] e = refl
+idle_all s marks c w (a ∷ all) e = ap (λ (v : World). fold (arrive s marks c) v all) (idle s marks c w a e) ∙ idle_all s marks c w all e
+
+-- the connection does not read any more, so what is left does nothing
+pub ends_idle : (c : ℕ) (starved : Option ℕ) (first machine : Machine) → c < connection_limit → is_reading (link_at machine c).phase ≡ false
+    → Progress c starved first machine → TakesAll c starved first machine
+ends_idle c starved first machine lt r p =
+    let half0 = (link_at first c).half in
+    let count : length p.done ≤ length (arrivals half0) = (let e = ap length p.front in omega (arith, e, length-append p.done (arrivals p.more))) in
+    record {
+      kept = record { reading = λ e. absurd (cc (e, r)); idle = p.kept.idle };
+      short = λ e. absurd (cc (e, r));
+      takes = does_from p.takes
+          (λ place. all_wider (is_among (length p.done) place) (is_among (length (arrivals half0)) place) (p.takes.failed place)
+          (among_more (length p.done) (length (arrivals half0)) place count) (p.takes.of_kind place))
+          (λ s sent half w place marks agree ahead h.
+          (let at = p.takes.stands s sent half w place marks (λ mark is. agree mark
+          (among_more (length p.done) (length (arrivals half0)) place count mark is)) ahead h in
+          let v = fold (arrive s marks c) w (enumerate_from place p.done) in
+          let idle_ : reads_life (present c v) ≡ false = sym (reads_there s sent (with_half c p.more half) v machine c lt at.0) ∙ r in
+          let whole : fold (arrive s marks c) w (enumerate_from place (arrivals half0)) ≡ v =
+          ap (λ (l : List Arrival). fold (arrive s marks c) w (enumerate_from place l)) p.front
+          ∙ fold-places (arrive s marks c) w place p.done (arrivals p.more)
+          ∙ idle_all s marks c v (enumerate_from (place + length p.done) (arrivals p.more)) idle_ in
+          rw whole (
+            serves_halves s sent (with_half c (rest half0) (with_half c p.more half)) (with_half c (rest half0) half) v machine
+                (half_twice c p.more (rest half0) half)
+                (halves_idle s sent (with_half c p.more half) v machine c (rest half0) idle_ at.0),
+            at.1,
+            at.2,
+          )));
+      leaves = record {
+        back = p.leaves.back;
+        sure = p.leaves.sure;
+        feeds = p.leaves.feeds;
+        closing = p.leaves.closing;
+        part = p.leaves.part;
+        eases = p.leaves.eases;
+        keeps = p.leaves.keeps;
+        loads = adds_more (length p.done) (length (arrivals half0)) (link_at first c) (link_at machine c) count p.leaves.loads;
+      };
+    }
+
+-- nothing whole is left
+pub nothing_by : (b : Bool) (bytes : List ℕ) → has_frame bytes ≡ b → arrivals bytes ≡ [] → has_frame bytes ≡ false
+nothing_by true bytes e none = absurd (cc (
+  none,
+  some_whole bytes (drop (frame_length bytes) bytes) (first_frame bytes) (frames_step bytes e)
+      (sym (rest_step bytes e)),
+))
+nothing_by false bytes e none = e
+
+pub short_by : (b : Bool) (bytes : List ℕ) → is_long bytes ≡ b → arrivals bytes ≡ [] → is_long bytes ≡ false
+short_by true bytes e none = absurd (cc (none, long_whole bytes e))
+short_by false bytes e none = e
+
+pub ends_whole : (c : ℕ) (starved : Option ℕ) (first machine : Machine) → is_reading (link_at machine c).phase ≡ true
+    → arrivals (link_at machine c).half ≡ [] → Progress c starved first machine → TakesAll c starved first machine
+ends_whole c starved first machine r none p =
+    let half0 = (link_at first c).half in
+    let half : (link_at machine c).half ≡ p.more = p.kept.reading r in
+    let no : arrivals p.more ≡ [] = ap arrivals (sym half) ∙ none in
+    let all : arrivals half0 ≡ p.done = p.front ∙ ap (λ (l : List Arrival). p.done ++ l) no ∙ append-nil p.done in
+    let left_ : rest half0 ≡ p.more = p.behind r ∙ rest_none p.more (nothing_by (has_frame p.more) p.more refl no) in
+    let P : List Arrival → Type 0 = λ done. TakesSome c done (rest half0) starved first machine in
+    let Q : List ℕ → Type 0 = λ more. TakesSome c p.done more starved first machine in
+    record {
+      kept = subst (λ (bytes : List ℕ). KeepsHalf bytes (link_at machine c)) (sym left_) p.kept;
+      short = λ e. ap is_long left_ ∙ short_by (is_long p.more) p.more refl no;
+      takes = subst P (sym all) (subst Q (sym left_) p.takes);
+      leaves = subst (λ (l : List Arrival). Leaves c (length l) starved first machine) (sym all) p.leaves;
+    }
+
+-- however the first starved is written
+pub takes_as : (old new : Machine) (c : ℕ) (named : ℕ) → c ≡ named → TakesOne c (Some c) old new → TakesOne c (Some named) old new
+takes_as old new c named e one = let P : ℕ → Type 0 = λ k. TakesOne c (Some k) old new in subst P e one
+
+-- fewer bytes are left than there were
+shorter_by : (b : Bool) (old new : Machine) (c : ℕ) (more : List ℕ) → is_reading (link_at new c).phase ≡ b → KeepsHalf more (link_at new c)
+    → length more < length (link_at old c).half → length (link_at new c).half < length (link_at old c).half
+shorter_by true old new c more r k lt = let same = ap length (k.reading r) in omega arith
+shorter_by false old new c more r k lt = let same = ap length (k.idle r) in omega (arith, same, lt)
+
+pub taken_is_shorter : (c : ℕ) (starved : Option ℕ) (old new : Machine) → TakesOne c starved old new → length (link_at new c).half < length (link_at old c).half
+taken_is_shorter c starved old new one = shorter_by (is_reading (link_at new c).phase) old new c one.more refl one.kept one.shorter
+
+pub progress_as : (c : ℕ) (a b : Option ℕ) (first machine : Machine) → a ≡ b → Progress c a first machine → Progress c b first machine
+progress_as c a b first machine e p = let P : Option ℕ → Type 0 = λ o. Progress c o first machine in subst P e p

@@ -1,0 +1,235 @@
+-- A piece of no more bytes than are wanted brings one frame at most, and each connection stays as light as it may be.
+use Rattle.std.proofs.Common.{◌≡◌, ℕ, ◌+◌, ◌-◌, ◌*◌, ◌<◌, ◌≤◌, max, List, [], ◌++◌, length, drop, get_or, Bool, true, false, ltb, Option, refl, sym, ap, ◌∙◌, subst, arith, inl, inr, append-nil}
+use Rattle.std.proofs.lemmas.Bool.{ltb-false, le-leb, lt-leb}
+use Rattle.std.proofs.lemmas.Bool.Decides.{eqb_tells, leb_tells}
+use Rattle.std.proofs.lemmas.List.{length-append, length-drop, get_or_append_left, nil_from_length}
+use Rattle.iscsi_pdu.specs.Header.{header_length, additional_length, data_length}
+use Rattle.iscsi_pdu.specs.Frames.{Frame, frames, rest, has_header, has_frame, is_long, first_frame, frame_length, missing, wanted}
+use Rattle.iscsi_pdu.proofs.Frames.{has_frame-from, is_long-from, frame_length-header, frames_step, rest_step}
+use Rattle.iscsi_pdu.proofs.Cuts.{frames_in_pieces}
+use Rattle.iscsi_login.specs.Directory.{KnownTargets}
+use Rattle.scsi_unit.specs.Units.{UnitStates}
+use Rattle.iscsi_session.specs.Weight.{request_weight, most_added}
+use Rattle.iscsi_session.proofs.AtRest.{few_pending}
+use Rattle.iscsi_world.specs.History.{arrivals, connection_limit}
+use Rattle.iscsi_world.specs.Machine.{LinkState, Machine, link_at, with_link, free_link, shut_link, opened_link, sent_link, closed, new_machine, is_reading, is_closing, most_waiting, want_of}
+use Rattle.iscsi_world.specs.Serving.{KeepsHalf, TakesAll}
+use Rattle.iscsi_world.specs.Bounded.{most_weight, weight_in, Rests, WeighsAtMost, IsBounded, Bounded, AddsAtMost, CallsKeepBounded}
+use Rattle.iscsi_world.specs.declared.phase.Phase.{Phase}
+use Rattle.iscsi_world.specs.declared.phase.Phase.TheVariants as phases
+use Rattle.iscsi_world.proofs.Lending.{none_linked}
+use Rattle.iscsi_world.proofs.Moving.{link_set, link_other, closed_count}
+use Rattle.iscsi_world.proofs.Taking.{none_whole, some_whole, long_whole, no_bytes, nothing_by, short_by}
+use Rattle.iscsi_world.proofs.Bounding.{adds_shut, adds_more}
+
+-- ---- frames
+
+frame_length-append : (a b : List ℕ) → header_length ≤ length a → frame_length (a ++ b) ≡ frame_length a
+unfolding frame_length
+frame_length-append a b h =
+    let additional : additional_length (a ++ b) ≡ additional_length a = ap (λ (n : ℕ). 4 * n) (get_or_append_left a b 0 4 (omega arith)) in
+    let body : data_length (a ++ b) ≡ data_length a =
+    rw (get_or_append_left a b 0 5 (omega arith), get_or_append_left a b 0 6 (omega arith), get_or_append_left a b 0 7 (omega arith)) refl in
+    omega arith
+
+-- no more bytes than their first frame has
+few_whole : (bytes : List ℕ) → length bytes ≤ frame_length bytes → length (arrivals bytes) ≤ 1
+few_whole bytes le = by_frame (has_frame bytes) (is_long bytes) refl refl
+  where
+    by_frame : (a b : Bool) → has_frame bytes ≡ a → is_long bytes ≡ b → length (arrivals bytes) ≤ 1
+    by_frame true b e f =
+        let more = drop (frame_length bytes) bytes in
+        let none : more ≡ [] = nil_from_length more (omega (arith, le, length-drop (frame_length bytes) bytes)) in
+        let is = some_whole bytes more (first_frame bytes) (frames_step bytes e) (sym (rest_step bytes e)) in
+        omega (arith, ap (λ l. length l) is, ap (λ (l : List ℕ). length (arrivals l)) none, ap (λ l. length l) no_bytes)
+    by_frame false true e f = omega (arith, ap (λ l. length l) (long_whole bytes f), ap (λ l. length l) no_bytes)
+    by_frame false false e f = omega (arith, ap (λ l. length l) (none_whole bytes e f))
+
+unfinished_frame : (half : List ℕ) → header_length ≤ length half → has_frame half ≡ false → is_long half ≡ false → length half < frame_length half
+unfinished_frame half whole none short = elim (leb_tells (frame_length half) (length half)) [
+  | inl there ↦ elim (leb_tells (data_length half) 262144) [
+    | inl taken ↦ absurd (let yes = has_frame-from half (record { header = whole; taken = taken.1; whole = there.1 }) in cc)
+    | inr much ↦ absurd (let yes = is_long-from half (record { header = whole; longer = much.1 }) in cc)
+  ]
+  | inr less ↦ less.1
+]
+
+pub wanted_few : (half piece : List ℕ) → has_frame half ≡ false → is_long half ≡ false → length piece ≤ wanted half → length (arrivals (half ++ piece)) ≤ 1
+unfolding missing
+wanted_few half piece none short le = elim (leb_tells header_length (length half)) [
+  | inl whole ↦ (
+      let less = unfinished_frame half whole.1 none short in
+      let there : has_header half ≡ true = le-leb _ _ whole.1 in
+      let is : wanted half ≡ max 1 (frame_length half - length half) = rw there refl in
+      few_whole (half ++ piece) (omega (arith, less, is, le, length-append half piece, frame_length-append half piece whole.1)))
+  | inr early ↦ (
+      let no : has_header half ≡ false = no_header half early.1 in
+      let is : wanted half ≡ max 1 (header_length - length half) = rw no refl in
+      let least = frame_length-header (half ++ piece) in
+      few_whole (half ++ piece) (omega (arith, early.1, is, le, length-append half piece, least)))
+]
+  where
+    no_header : (half : List ℕ) → length half < header_length → has_header half ≡ false
+    no_header half lt = lt-leb _ _ lt
+
+-- what is left after frames begins with none
+rest_no_frame : (bytes : List ℕ) → has_frame (rest bytes) ≡ false
+rest_no_frame bytes = by_frame (has_frame (rest bytes)) refl
+  where
+    cut : frames bytes ≡ frames bytes ++ frames (rest bytes)
+    cut = ap frames (sym (append-nil bytes)) ∙ frames_in_pieces bytes [] ∙ ap (λ (l : List ℕ). frames bytes ++ frames l) (append-nil (rest bytes))
+
+    by_frame : (b : Bool) → has_frame (rest bytes) ≡ b → has_frame (rest bytes) ≡ false
+    by_frame true e =
+        absurd (omega (
+          arith,
+          ap (λ (l : List Frame). length l) cut,
+          length-append (frames bytes) (frames (rest bytes)),
+          ap (λ (l : List Frame). length l) (frames_step (rest bytes) e),
+        ))
+    by_frame false e = e
+
+-- ---- what a connection keeps between two events
+
+-- nothing whole, and no header that names too much data
+abbrev IsPartial : List ℕ → Type 0
+IsPartial half = (has_frame half ≡ false) × (is_long half ≡ false)
+
+partial_of : (half : List ℕ) → arrivals half ≡ [] → IsPartial half
+partial_of half none = (nothing_by (has_frame half) half refl none, short_by (is_long half) half refl none)
+
+kept_partial : (b : Bool) (half : List ℕ) (link : LinkState) → is_reading link.phase ≡ b → KeepsHalf half link
+    → (is_reading link.phase ≡ true → arrivals half ≡ []) → arrivals link.half ≡ []
+kept_partial true half link reads_ kept none = ap arrivals (kept.reading reads_) ∙ none reads_
+kept_partial false half link reads_ kept none = ap arrivals (kept.idle reads_) ∙ no_bytes
+
+-- ---- as heavy as it may be
+
+least_of : (waiting : ℕ) (phase : Phase) → Rests phase → weight_in waiting phase ≤ waiting + 40 * request_weight
+least_of waiting (phases.FullFeature session) r = omega (arith, few_pending session r)
+least_of waiting _ r = omega arith
+
+weighs_by : (b : Bool) (old new : LinkState) (piece : List ℕ) → ltb most_waiting (length old.waiting) ≡ b → IsPartial old.half → is_closing old.phase ≡ false
+    → length piece ≤ want_of old → AddsAtMost (length (arrivals (old.half ++ piece))) old new → WeighsAtMost most_weight old → WeighsAtMost most_weight new
+weighs_by true old new piece much half open_ le adds w =
+    let none : want_of old ≡ 0 = rw (open_, much) refl in
+    let empty : piece ≡ [] = nil_from_length piece (omega (arith, le, none)) in
+    let all : arrivals (old.half ++ piece) ≡ [] = ap (λ (l : List ℕ). arrivals (old.half ++ l)) empty ∙ ap arrivals (append-nil old.half)
+    ∙ none_whole old.half half.0 half.1 in
+    let a = adds w.rests in
+    let fits = a.fits in
+    let was = w.fits in
+    record { fits = omega (arith, fits, was, ap (λ l. length l * most_added) all); rests = a.rests }
+weighs_by false old new piece few half open_ le adds w =
+    let is : want_of old ≡ wanted old.half = rw (open_, few) refl in
+    let one = wanted_few old.half piece half.0 half.1 (omega (arith, le, is)) in
+    let a = adds w.rests in
+    let fits = a.fits in
+    record {
+      fits = omega (arith, fits, one, ltb-false most_waiting (length old.waiting) few, least_of (length old.waiting) old.phase w.rests);
+      rests = a.rests;
+    }
+
+reading_no_closing : (phase : Phase) → is_reading phase ≡ true → is_closing phase ≡ false
+reading_no_closing phases.Closing e = absurd cc
+reading_no_closing _ e = refl
+
+pub eased : (old new : LinkState) → AddsAtMost 0 old new → WeighsAtMost most_weight old → WeighsAtMost most_weight new
+eased old new adds w = let a = adds w.rests in let fits = a.fits in let was = w.fits in record { fits = omega (arith, fits, was); rests = a.rests }
+
+-- another connection keeps its bytes, or none
+other_partial : (b : Bool) (old new : LinkState) → is_reading old.phase ≡ b → (is_reading old.phase ≡ true → KeepsHalf old.half new)
+    → (is_reading old.phase ≡ false → new ≡ old) → arrivals old.half ≡ [] → arrivals new.half ≡ []
+other_partial true old new reads_ keeps still none = kept_partial (is_reading new.phase) old.half new refl (keeps reads_) (λ on. none)
+other_partial false old new reads_ keeps still none = ap (λ (l : LinkState). arrivals l.half) (still reads_) ∙ none
+
+-- a piece that is no longer than what is wanted, and what is whole is taken
+pub fed_bounded : (old kept new : Machine) (c : ℕ) (piece half : List ℕ) (starved : Option ℕ) → c < length old.links
+    → is_reading (link_at old c).phase ≡ true
+    → kept ≡ with_link old c (record (link_at old c) { half = half }) → length (arrivals half) ≤ length (arrivals ((link_at old c).half ++ piece))
+    → TakesAll c starved kept new → length piece ≤ want_of (link_at old c) → Bounded old → Bounded new
+fed_bounded old kept new c piece half starved lt reads_ is few takes le bounded d = elim (eqb_tells d c) [
+  | inl same ↦
+      let bytes = (link_at kept c).half in
+      let link = record (link_at old c) { half = half } in
+      let there : link_at kept c ≡ link = ap (λ (m : Machine). link_at m c) is ∙ link_set old old.units c link lt in
+      let P : LinkState → Type 0 = λ l. AddsAtMost (length (arrivals l.half)) l (link_at new c) in
+      subst (λ (k : ℕ). IsBounded (link_at new k)) (sym same.1) (record {
+        weighs = weighs_by (ltb most_waiting (length (link_at old c).waiting)) (link_at old c) (link_at new c) piece refl
+            (partial_of (link_at old c).half (bounded c).partial)
+            (reading_no_closing (link_at old c).phase reads_) le
+            (adds_more (length (arrivals half)) (length (arrivals ((link_at old c).half ++ piece))) (link_at old c) (link_at new c) few
+            (subst P there takes.leaves.loads)) (bounded c).weighs;
+        partial = kept_partial (is_reading (link_at new c).phase) (rest bytes) (link_at new c) refl takes.kept
+            (λ on. none_whole (rest bytes) (rest_no_frame bytes) (takes.short on));
+      })
+  | inr differ ↦
+      let link = record (link_at old c) { half = half } in
+      let there : link_at kept d ≡ link_at old d = ap (λ (m : Machine). link_at m d) is ∙ link_other old old.units c d link differ.1 in
+      record {
+        weighs = eased (link_at old d) (link_at new d) (subst (λ (l : LinkState). AddsAtMost 0 l (link_at new d)) there (takes.leaves.eases d differ.1))
+            (bounded d).weighs;
+        partial = other_partial (is_reading (link_at kept d).phase) (link_at kept d) (link_at new d) refl (takes.leaves.keeps d differ.1)
+            (takes.leaves.feeds.still d) (ap (λ (l : LinkState). arrivals l.half) there ∙ (bounded d).partial);
+      }
+]
+
+-- ---- the other calls
+
+pub with_bounded : (machine : Machine) (c : ℕ) (link : LinkState) → c < length machine.links → Bounded machine → IsBounded link
+    → Bounded (with_link machine c link)
+with_bounded machine c link lt bounded w d = elim (eqb_tells d c) [
+  | inl same ↦ subst (λ (k : ℕ). IsBounded (link_at (with_link machine c link) k)) (sym same.1)
+      (subst IsBounded (sym (link_set machine machine.units c link lt)) w)
+  | inr differ ↦ subst IsBounded (sym (link_other machine machine.units c d link differ.1)) (bounded d)
+]
+
+closed_links : (machine : Machine) (c d : ℕ) → link_at (closed machine c) d ≡ link_at (with_link machine c (shut_link (link_at machine c))) d
+unfolding closed
+closed_links machine c d = refl
+
+pub closed_bounded : (machine : Machine) (c : ℕ) → c < length machine.links → Bounded machine → Bounded (closed machine c)
+closed_bounded machine c lt bounded d =
+    subst IsBounded (sym (closed_links machine c d)) (with_bounded machine c (shut_link (link_at machine c)) lt bounded
+    (record { weighs = eased (link_at machine c) _ (adds_shut 0 (link_at machine c)) (bounded c).weighs; partial = no_bytes }) d)
+
+pub opened_bounded : (machine : Machine) (c : ℕ) → c < length machine.links → Bounded machine → Bounded (with_link machine c (opened_link c))
+opened_bounded machine c lt bounded = with_bounded machine c (opened_link c) lt bounded
+    (record { weighs = record { fits = omega arith; rests = tt }; partial = no_bytes })
+
+pub gone_bounded : (machine : Machine) (c : ℕ) → c < length machine.links → Bounded machine → Bounded (with_link (closed machine c) c free_link)
+gone_bounded machine c lt bounded =
+    with_bounded (closed machine c) c free_link (omega (arith, lt, closed_count machine c)) (closed_bounded machine c lt bounded)
+    (record { weighs = record { fits = omega arith; rests = tt }; partial = no_bytes })
+
+sent_weight : (waiting less : ℕ) (phase : Phase) → less ≤ waiting → weight_in less phase ≤ weight_in waiting phase
+sent_weight waiting less (phases.FullFeature session) le = omega (arith, le)
+sent_weight waiting less _ le = le
+
+pub sent_bounded : (machine : Machine) (c n : ℕ) → c < length machine.links → Bounded machine → Bounded (with_link machine c (sent_link (link_at machine c) n))
+sent_bounded machine c n lt bounded =
+    let link = link_at machine c in
+    let w = bounded c in
+    let fits = w.weighs.fits in
+    with_bounded machine c (sent_link link n) lt bounded (record {
+      weighs = record {
+        fits = omega (arith, fits, sent_weight (length link.waiting) (length (drop n link.waiting)) link.phase (omega (arith, length-drop n link.waiting)));
+        rests = w.weighs.rests;
+      };
+      partial = w.partial;
+    })
+
+pub new_bounded : (directory : KnownTargets) (units : List UnitStates) → Bounded (new_machine directory units)
+new_bounded directory units c = subst IsBounded (sym (none_linked connection_limit c))
+    (record { weighs = record { fits = omega arith; rests = tt }; partial = no_bytes })
+
+pub bounded_as : (a b : Machine) → b ≡ a → Bounded a → Bounded b
+bounded_as a b e bounded = subst Bounded (sym e) bounded
+
+pub calls_keep_bounded : CallsKeepBounded
+calls_keep_bounded = record { made = new_bounded; opened = opened_bounded; gone = gone_bounded; sent = sent_bounded }
+
+-- a machine with the connections of this one
+pub bounded_links : (machine : Machine) (links : List LinkState) → machine.links ≡ links → Bounded machine → (c : ℕ)
+    → IsBounded (get_or links c free_link)
+bounded_links machine links e bounded c = subst (λ (l : List LinkState). IsBounded (get_or l c free_link)) e (bounded c)
