@@ -12,9 +12,9 @@
 //!
 //! Promised, and proved:
 //!
-//! - A [`Connection`] is what the definitions of `iscsi_world` say that a target remembers of one (`LinkState`), after
-//!   each call. Of a Data-Out whose data nobody needs only the number of bytes is kept, until it is whole.
-//! - If an allocation fails, what waits to be sent still waits, and frames that were whole are not lost.
+//! - Clauses see a [`Connection`] as a `LinkState` of `iscsi_world`, and say which one each call leaves. Of a Data-Out
+//!   whose data nobody needs only the number of bytes is kept, until it is whole.
+//! - If an allocation fails, what waited to be sent still waits.
 //! - No connection with commands that can be done is passed over ([`Connections::next_unsettled`]), and none with bytes
 //!   to send or that is closing ([`Connections::next_busy`]).
 //! - [`named`] and [`older`] find the session that a Login request names, and the one that a new session ends.

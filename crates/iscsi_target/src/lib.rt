@@ -27,7 +27,7 @@
 //!
 //! Promised, and proved:
 //!
-//! - A [`Target`] answers what a plainly defined machine answers, the World of `iscsi_world/specs/World.antt` (clauses `stands`,
+//! - A [`Target`] answers what a plainly defined machine answers, the World of `iscsi_world` (clauses `stands`,
 //!   `always`). This holds for every list of openings, pieces of bytes and closings on up to 64 connections. It holds
 //!   as long as the stores of its units are honest and no call of one has failed.
 //! - If allocations fail, each connection for which one failed closes between two steps. Each request was done and

@@ -10,10 +10,10 @@
 //! ```
 //!
 //! - [`Phase`] and [`Starved`] are the two types of the code that the definitions name.
-//! - `specs/Serving.antt` and `specs/SessionCalls.antt` say what the calls of a target do to a Machine, so that it stands
-//!   where the World does.
-//! - `specs/Laws.antt`, `specs/Moment.antt` and `specs/Isolation.antt` state what holds of every history. The lemmas prove
-//!   it, and a target states it again as its own laws.
+//! - `specs/Serving.antt` and `specs/SessionCalls.antt` say what the calls of a target do to a Machine, so that it
+//!   stands where the World does.
+//! - `specs/Laws.antt`, `specs/Moment.antt` and `specs/Isolation.antt` state what holds of every history. The lemmas
+//!   prove it, and `iscsi_target` has it as its laws.
 //! - The files `specs/Examples*.antt` are histories whose answers are worked out.
 #![tactic(auto)]
 
