@@ -196,25 +196,26 @@ def answers_commands_in_pieces_of_any_length():
 
 
 def answers_commands_after_large_pdus_that_are_cut_anywhere():
-    # After a large PDU the next header is read alone, and then all that has come.
+    # After a large PDU the next header is read with what has come after it. If that is much, it is lent, and not copied.
     chance = random.Random(9)
-    content = chance.randbytes(AHEAD)
-    edges = [edge + beside for edge in (pdu.HEADER, pdu.HEADER + AHEAD, 2 * pdu.HEADER + AHEAD) for beside in (-1, 0, 1)]
-    number = 125
+    number, stored = 125, bytearray(AHEAD)
     with serving(units=BIG_UNITS) as (_, address), connect(address) as client:
         assert is_answered(client, 1, 0)
         client.setsockopt(socket.IPPROTO_TCP, socket.TCP_NODELAY, 1)
-        for _ in range(150):
-            few = chance.randrange(5)
+        for _ in range(300):
+            few, content = chance.randrange(5), chance.randbytes(chance.choice([512, 4096, 4608, AHEAD // 2, AHEAD, AHEAD]))
+            ends = [pdu.HEADER, pdu.HEADER + 4096, pdu.HEADER + len(content), 2 * pdu.HEADER + len(content)]
             whole = write_10(number, 0, content) + commands(few, number + 1)
-            cuts = [0, *sorted([chance.choice(edges), chance.randrange(len(whole))]), len(whole)]
+            near = min(chance.choice(ends) + chance.choice([-1, 0, 1]), len(whole))
+            cuts = [0, *sorted([near, chance.randrange(len(whole))]), len(whole)]
             for start, end in zip(cuts, cuts[1:]):
                 client.sendall(whole[start:end])
                 time.sleep(chance.choice([0, 0.001]))
             assert are_good(read(client, pdu.HEADER * (few + 1)), number) == few + 1, cuts
+            stored[:len(content)] = content
             number += few + 1
         client.sendall(read_10(number, 0, AHEAD // 512))
-        assert answer_of(client) == (content, 0, b"")
+        assert answer_of(client) == (bytes(stored), 0, b"")
 
 
 def two_that_send_at_once(address, process, counts):

@@ -246,6 +246,17 @@ impl SocketCalls for MioSockets {
         count_ahead(&self.ahead[c])
     }
 
+    fn lend(&mut self, readiness: &mut Readiness, c: usize, room: usize) -> Option<ReadBuffer> {
+        let lent = self.lend_ahead(c, room)?;
+        self.bulk[c] = is_bulk(room, self.bulk[c]);
+        readiness.ready_again(c, false);
+        Some(lent)
+    }
+
+    fn take_back(&mut self, lent: ReadBuffer) {
+        self.spares.keep_whole(lent);
+    }
+
     fn read(
         &mut self,
         readiness: &mut Readiness,

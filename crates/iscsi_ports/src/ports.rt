@@ -2,9 +2,10 @@
 
 ghost use Rattle.std.specs.Prelude.{◌≡◌, ◌<◌, ◌≤◌, ◌++◌, ◌∷◌, List, [], Bool, true, length};
 ghost use Rattle.iscsi_ports.specs.Log.{Entry, Read, Wrote, Close};
-ghost use Rattle.iscsi_ports.specs.Results.{carried_by, count_of, poll_entry, accept_entry};
+ghost use Rattle.iscsi_ports.specs.Results.{carried_by, carried_read, count_of, read_count, poll_entry, accept_entry, LendsSome};
 
-use crate::results::{Accepted, IoResult, Named, PortFault};
+use crate::read_buffer::ReadBuffer;
+use crate::results::{Accepted, IoResult, Named, PortFault, ReadResult};
 
 /// A listener and the connections that it accepted, each under a number that the caller chose: 0 to
 /// 63, and 64 for one that is closed at once.
@@ -35,18 +36,25 @@ pub trait Ports {
         ensures log { tells self.new ≡ true → log self.new ≡ log self.old ++ Read c (length buffer.new) (carried_by result buffer.new) ∷ [] }
         ensures back { tells self.new ≡ true → tells self.old ≡ true };
 
-    /// Reads like [`read`](Ports::read) into the first `room` bytes of the buffer. Ports may use the rest of it for
-    /// bytes that the next reads return.
-    fn read_front(&mut self, c: usize, room: usize, buffer: &mut [u8]) -> IoResult
+    /// Reads like [`read`](Ports::read), at most `room` bytes: into the front of the buffer, of which ports may use the rest for
+    /// bytes that the next reads return, or into a buffer that they lend until [`take_back`](Ports::take_back).
+    fn read_front(&mut self, c: usize, room: usize, buffer: &mut [u8]) -> ReadResult
         requires in_range { c < 64 }
         requires room { room ≤ length buffer.old }
-        ensures count { count_of result ≤ room }
+        ensures count { read_count result ≤ room }
+        ensures some { LendsSome result }
         ensures long { length buffer.new ≡ length buffer.old }
-        ensures log { tells self.new ≡ true → log self.new ≡ log self.old ++ Read c room (carried_by result buffer.new) ∷ [] }
+        ensures log { tells self.new ≡ true → log self.new ≡ log self.old ++ Read c room (carried_read result buffer.new) ∷ [] }
         ensures back { tells self.new ≡ true → tells self.old ≡ true }
     {
-        self.read(c, &mut buffer[..room])
+        ReadResult::of(self.read(c, &mut buffer[..room]))
     }
+
+    /// Takes back a buffer that was lent. Does nothing else.
+    fn take_back(&mut self, _lent: ReadBuffer)
+        ensures log { log self.new ≡ log self.old }
+        ensures tells { tells self.new ≡ tells self.old }
+    {}
 
     /// Writes a front of these bytes to a connection.
     fn write(&mut self, c: usize, bytes: &[u8]) -> IoResult

@@ -1,6 +1,6 @@
 //! Bytes of a connection that the system gave and that were not handed on yet.
 
-ghost use Rattle.std.specs.Prelude.{◌≡◌, ◌≤◌, [], min, length, take, drop, vec_capacity, IfOk};
+ghost use Rattle.std.specs.Prelude.{◌≡◌, ◌<◌, ◌≤◌, [], true, None, min, length, take, drop, vec_capacity, IfOk, IfSome};
 ghost use Rattle.iscsi_ports.specs.ReadBuffer.{bytes_in};
 
 use std::alloc::{AllocError, Global};
@@ -9,6 +9,9 @@ use std::marker::Model;
 
 /// How many bytes may be ahead of a connection: a PDU with 65,536 bytes of data and its header (RFC 7143 §11.2.1).
 pub(crate) const MOST_AHEAD: usize = 65_584;
+
+/// The most bytes that are copied to be handed on, or to a buffer of their own length, if a reader can also be lent them.
+pub(crate) const FEW: usize = 4_096;
 
 /// A buffer into which the system reads.
 #[derive(Drop)]
@@ -33,10 +36,10 @@ impl WholeBuffer {
     }
 }
 
-/// A buffer with bytes that are ahead: the whole one into which they were read, or one of their own length. It is seen
-/// as the list of these.
+/// A buffer with bytes that are ahead, or were and are lent: the whole one into which they were read, or one of their own
+/// length. It is seen as the list of these.
 #[derive(Drop)]
-pub(crate) struct ReadBuffer {
+pub struct ReadBuffer {
     buffer: Vec<u8>,
     from: usize,
     to: usize,
@@ -104,15 +107,15 @@ impl ReadBuffer {
         Some(WholeBuffer { bytes: self.buffer })
     }
 
-    /// Returns what is ahead.
-    pub(crate) fn as_slice(&self) -> &[u8]
+    /// Returns the bytes.
+    pub fn as_slice(&self) -> &[u8]
         ensures { result.now ≡ self.now }
     {
         &self.buffer.as_slice()[self.from..self.to]
     }
 
-    /// Returns how many bytes are ahead.
-    pub(crate) fn len(&self) -> usize
+    /// Returns how many bytes there are.
+    pub fn len(&self) -> usize
         ensures { result ≡ length self.now }
     {
         self.to - self.from
@@ -142,6 +145,29 @@ pub(crate) fn hand_from(place: &mut Option<ReadBuffer>, buffer: &mut [u8]) -> us
         Some(ahead) => ahead.hand(buffer),
         None => 0,
     }
+}
+
+/// Returns whether the bytes that are ahead are lent to a reader with this room: it has room for all, and they are too many to be
+/// copied.
+fn is_lent(place: &Option<ReadBuffer>, room: usize) -> bool
+    ensures { result ≡ true → (0 < length (bytes_in place.now)) × (length (bytes_in place.now) ≤ room) }
+{
+    let count = count_ahead(place);
+    FEW < count && count <= room
+}
+
+/// Takes out what is ahead, if it is to be lent to a reader with this room.
+pub(crate) fn take_lent(place: &mut Option<ReadBuffer>, room: usize) -> Option<ReadBuffer>
+    ensures all { IfSome result (λ lent. lent ≡ bytes_in place.old) }
+    ensures some { IfSome result (λ lent. 0 < length lent) }
+    ensures count { IfSome result (λ lent. length lent ≤ room) }
+    ensures rest { IfSome result (λ lent. bytes_in place.new ≡ []) }
+    ensures none { result ≡ None → place.new ≡ place.old }
+{
+    if !is_lent(place, room) {
+        return None;
+    }
+    place.take()
 }
 
 /// Returns what is ahead.

@@ -1,16 +1,17 @@
 //! The calls of the system on a listener and its connections.
 
-ghost use Rattle.std.specs.Prelude.{◌≡◌, ◌<◌, ◌≤◌, ◌++◌, ◌∷◌, ℕ, List, [], length, Option, option_map, IfOk, OnOk, OnErr};
+ghost use Rattle.std.specs.Prelude.{◌≡◌, ◌<◌, ◌≤◌, ◌++◌, ◌∷◌, ℕ, List, [], length, Option, None, option_map, Ok, IfSome, IfOk, OnOk, OnErr};
 ghost use Rattle.std.specs.Duration.{as_nanos};
 ghost use Rattle.std.specs.Io.{WritesAtMost};
 ghost use Rattle.iscsi_ports.specs.Log.{Read};
-ghost use Rattle.iscsi_ports.specs.Calls.{Call, Polling, Naming, Accepting, Writing, PuttingOff, Closing, named_by, moved, read_carried, log_by, token_after};
+ghost use Rattle.iscsi_ports.specs.Calls.{Call, Polling, Naming, Accepting, Handing, Writing, PuttingOff, Closing, named_by, moved, read_carried, log_by, token_after};
 ghost use Rattle.iscsi_ports.specs.ReadBuffer.{given, handed, AreDropped};
 ghost use Rattle.iscsi_ports.specs.Polls.{IsNoLonger, unasked_in};
 ghost use Rattle.iscsi_ports.specs.Readiness.{after_write, IsReadBy};
 ghost use Rattle.iscsi_ports.specs.Events.{IsNamed};
 ghost use Rattle.mio.specs.declared.event.event.Event.{Event};
 
+use crate::read_buffer::ReadBuffer;
 use crate::readiness::Readiness;
 use crate::results::Named;
 use crate::socket_failure::SocketFailure;
@@ -55,6 +56,24 @@ pub trait SocketCalls {
     fn count_ahead(&self, c: usize) -> usize
         requires { c < 64 }
         ensures { result ≡ length (ahead self.now c) };
+
+    /// Lends the buffer with what is ahead to a reader with this room, with no call, if there is room for all of it and it is too
+    /// much to be copied. `None`: nothing changes, and [`read`](SocketCalls::read) is to be called.
+    fn lend(&mut self, readiness: &mut Readiness, c: usize, room: usize) -> Option<ReadBuffer>
+        requires { c < 64 }
+        ensures some { IfSome result (λ lent. 0 < length lent) }
+        ensures count { IfSome result (λ lent. length lent ≤ room) }
+        ensures handed { IfSome result (λ lent. calls self.new ≡ Handing c room lent ∷ calls self.old) }
+        ensures readiness { IfSome result (λ lent. IsReadBy c room (length (ahead self.old c)) (length (ahead self.new c))
+            (Ok (length lent)) readiness.old readiness.new) }
+        ensures same { result ≡ None → self.new ≡ self.old }
+        ensures unread { result ≡ None → readiness.new ≡ readiness.old };
+
+    /// Takes back a buffer that was lent.
+    fn take_back(&mut self, lent: ReadBuffer)
+        ensures calls { calls self.new ≡ calls self.old }
+        ensures ahead { (c : ℕ) → ahead self.new c ≡ ahead self.old c }
+        ensures events { events self.new ≡ events self.old };
 
     /// Reads into the first `room` bytes of the buffer: what is ahead, or else what the system gives, for which all of the
     /// buffer may be used.

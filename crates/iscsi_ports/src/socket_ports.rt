@@ -8,7 +8,7 @@ ghost use Rattle.std.specs.Net.Socket.{socket_ip, socket_port};
 ghost use Rattle.std.specs.Result.{IsErrOf};
 ghost use Rattle.std.specs.Net.Grammar.{IsSocketText};
 ghost use Rattle.std.specs.declared.net.socket_addr.SocketAddr.{SocketAddr};
-ghost use Rattle.iscsi_ports.specs.Results.{carried_by, count_of, poll_entry, accept_entry};
+ghost use Rattle.iscsi_ports.specs.Results.{buffer_of, carried_by, carried_read, count_of, read_count, poll_entry, accept_entry, LendsSome};
 ghost use Rattle.iscsi_ports.specs.Log.{Listened, Located, Read, Wrote, Close};
 ghost use Rattle.iscsi_ports.specs.Calls.{Polling, Naming, Accepting, Writing, PuttingOff, Closing, ip_octets, moved, accepted, read_carried, write_carried, log_by, token_after};
 ghost use Rattle.iscsi_ports.specs.Readiness as ready;
@@ -26,8 +26,9 @@ use crate::asking::{
 use crate::bind_fault::BindFault;
 use crate::mio_sockets::MioSockets;
 use crate::ports::Ports;
+use crate::read_buffer::ReadBuffer;
 use crate::readiness::{Readiness, set_where};
-use crate::results::{Accepted, IoResult, Named, PortFault};
+use crate::results::{Accepted, IoResult, Named, PortFault, ReadResult};
 use crate::socket_calls::SocketCalls;
 use crate::socket_failure::SocketFailure;
 use crate::stopwatch::Stopwatch;
@@ -206,6 +207,25 @@ impl<K: SocketCalls + Drop> SocketPorts<K> {
         set_where(gave, &mut self.has_read, c, true);
     }
 
+    /// Reads into the reader's buffer.
+    fn read_into(&mut self, c: usize, room: usize, buffer: &mut [u8]) -> IoResult
+        requires in_range { c < 64 }
+        requires room { room ≤ length buffer.old }
+        ensures count { count_of result ≤ room }
+        ensures long { length buffer.new ≡ length buffer.old }
+        ensures log { log_by (K.calls self.new.sockets) ≡ log_by (K.calls self.old.sockets)
+            ++ Read c room (carried_by result buffer.new) ∷ [] }
+        ensures after { (answer : Result ℕ SocketFailure) × (carried_by result buffer.new ≡ read_carried (moved answer buffer.new))
+            × IsReadBy c room (length (K.ahead self.old.sockets c)) (length (K.ahead self.new.sockets c)) answer
+            self.old.readiness self.new.readiness
+            × (self.new ≡ after_reading c answer (length (K.ahead self.new.sockets c)) self.new.sockets self.new.readiness self.old) }
+        ensures in_time { AsksInTime (K.calls self.old.sockets) self.old → AsksInTime (K.calls self.new.sockets) self.new }
+    {
+        let answer = self.sockets.read(&mut self.readiness, c, room, buffer);
+        self.after_read(c, answer);
+        read_told(answer)
+    }
+
     /// Returns whether a poll asks the system. Looks at the clock if nothing else has it ask.
     fn is_to_ask(&mut self) -> bool
         ensures asks { result ≡ asks_now self.new.stopwatch.has_passed self.old }
@@ -304,25 +324,40 @@ impl<K: SocketCalls + Drop> Ports for SocketPorts<K> {
             × (self.new ≡ after_reading c answer (length (K.ahead self.new.sockets c)) self.new.sockets self.new.readiness self.old) }
         ensures in_time { AsksInTime (K.calls self.old.sockets) self.old → AsksInTime (K.calls self.new.sockets) self.new }
     {
-        self.read_front(c, buffer.len(), buffer)
+        self.read_into(c, buffer.len(), buffer)
     }
 
-    fn read_front(&mut self, c: usize, room: usize, buffer: &mut [u8]) -> IoResult
+    fn read_front(&mut self, c: usize, room: usize, buffer: &mut [u8]) -> ReadResult
         requires in_range { c < 64 }
         requires room { room ≤ length buffer.old }
-        ensures count { count_of result ≤ room }
+        ensures count { read_count result ≤ room }
+        ensures some { LendsSome result }
         ensures long { length buffer.new ≡ length buffer.old }
         ensures log { log_by (K.calls self.new.sockets) ≡ log_by (K.calls self.old.sockets)
-            ++ Read c room (carried_by result buffer.new) ∷ [] }
-        ensures after { (answer : Result ℕ SocketFailure) × (carried_by result buffer.new ≡ read_carried (moved answer buffer.new))
+            ++ Read c room (carried_read result buffer.new) ∷ [] }
+        ensures after { (answer : Result ℕ SocketFailure)
+            × (carried_read result buffer.new ≡ read_carried (moved answer (buffer_of result buffer.new)))
             × IsReadBy c room (length (K.ahead self.old.sockets c)) (length (K.ahead self.new.sockets c)) answer
             self.old.readiness self.new.readiness
             × (self.new ≡ after_reading c answer (length (K.ahead self.new.sockets c)) self.new.sockets self.new.readiness self.old) }
         ensures in_time { AsksInTime (K.calls self.old.sockets) self.old → AsksInTime (K.calls self.new.sockets) self.new }
     {
-        let answer = self.sockets.read(&mut self.readiness, c, room, buffer);
-        self.after_read(c, answer);
-        read_told(answer)
+        match self.sockets.lend(&mut self.readiness, c, room) {
+            Some(lent) => {
+                self.after_read(c, Ok(lent.len()));
+                ReadResult::Lent(lent)
+            }
+            None => ReadResult::of(self.read_into(c, room, buffer)),
+        }
+    }
+
+    fn take_back(&mut self, lent: ReadBuffer)
+        ensures log { log_by (K.calls self.new.sockets) ≡ log_by (K.calls self.old.sockets) }
+        ensures ahead { (c : ℕ) → K.ahead self.new.sockets c ≡ K.ahead self.old.sockets c }
+        ensures after { self.new ≡ record self.old { sockets = self.new.sockets } }
+        ensures in_time { AsksInTime (K.calls self.old.sockets) self.old → AsksInTime (K.calls self.new.sockets) self.new }
+    {
+        self.sockets.take_back(lent);
     }
 
     fn write(&mut self, c: usize, bytes: &[u8]) -> IoResult

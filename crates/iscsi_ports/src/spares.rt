@@ -3,13 +3,13 @@
 //! A buffer that is kept lies above memory that was freed since, which then stays with the process. So all are dropped once
 //! the process is idle: a poll waits no longer than a second while one is kept, and drops them if it met no event.
 
-ghost use Rattle.std.specs.Prelude.{◌≡◌, ◌≢◌, ◌≤◌, ◌<◌, [], true, false, length, option_map, vec_capacity, IsSome, IfSome};
+ghost use Rattle.std.specs.Prelude.{◌≡◌, ◌≢◌, ◌==◌, ◌≤◌, ◌<◌, [], true, false, length, option_map, vec_capacity, IsSome, IfSome};
 ghost use Rattle.std.specs.Duration.{as_nanos};
 ghost use Rattle.iscsi_ports.specs.ReadBuffer.{bytes_in};
 ghost use Rattle.iscsi_ports.specs.Spares as spares;
 
 use crate::asking::shortly;
-use crate::read_buffer::{ReadBuffer, WholeBuffer, count_ahead};
+use crate::read_buffer::{FEW, ReadBuffer, WholeBuffer, count_ahead};
 use std::alloc::{AllocError, Global};
 use std::time::Duration;
 
@@ -18,9 +18,6 @@ const MOST_KEPT: usize = 16;
 
 /// The number of reads after which those buffers are dropped that none of these reads needed.
 const PERIOD: u32 = 1_024;
-
-/// The most bytes ahead that are moved to a buffer of their own length.
-const FEW: usize = 4_096;
 
 /// As many buffers as reads needed at once of late, and 16 at most.
 #[derive(Drop)]
@@ -69,6 +66,13 @@ impl Spares {
         self.unused = self.buffers.len();
     }
 
+    /// Returns whether none is kept.
+    pub(crate) fn is_empty(&self) -> bool
+        ensures { result ≡ (length self.now.buffers.items == 0) }
+    {
+        self.buffers.is_empty()
+    }
+
     /// Returns a buffer to read into: one that is kept, or a new one. None if an allocation fails.
     pub(crate) fn take(&mut self) -> Option<WholeBuffer>
         ensures { self.old.buffers.items ≢ [] → IsSome result }
@@ -94,7 +98,7 @@ impl Spares {
     }
 
     /// Keeps the buffer of what was ahead for a later read, if it is a whole one.
-    fn keep_whole(&mut self, buffer: ReadBuffer) {
+    pub(crate) fn keep_whole(&mut self, buffer: ReadBuffer) {
         if let Some(whole) = buffer.into_whole() {
             self.keep(whole);
         }

@@ -13,7 +13,7 @@ ghost use Rattle.iscsi_ports.specs.declared.results.Named.{Named};
 use crate::ending::{any_ended, either, has_ended, is_done};
 use crate::fault::ServeFault;
 use crate::named::count_named;
-use iscsi_ports::{Accepted, IoResult, Named, PortFault, Ports};
+use iscsi_ports::{Accepted, IoResult, Named, PortFault, Ports, ReadResult};
 use iscsi_target::{Starved, Target};
 use media_store::Store;
 use target_limits::CONNECTIONS;
@@ -135,12 +135,17 @@ fn read_piece<P: Ports, S: Store>(
         (P.log ports.old) (P.log ports.new) target.old target.new ended.old ended.new }
 {
     match ports.read_front(c, room, buffer) {
-        IoResult::Bytes(0) => {}
-        IoResult::Bytes(count) => {
+        ReadResult::Bytes(0) => {}
+        ReadResult::Bytes(count) => {
             let starved = feed(target, c, &buffer[..count]);
             tell_starved(ports, starved);
         }
-        IoResult::End | IoResult::Fault => ended[c] = true,
+        ReadResult::Lent(lent) => {
+            let starved = feed(target, c, lent.as_slice());
+            tell_starved(ports, starved);
+            ports.take_back(lent);
+        }
+        ReadResult::End | ReadResult::Fault => ended[c] = true,
     }
 }
 

@@ -1,6 +1,6 @@
 //! Ports whose calls are observed.
 
-use iscsi_ports::{Accepted, IoResult, Named, Peers, PortFault, Ports};
+use iscsi_ports::{Accepted, IoResult, Named, Peers, PortFault, Ports, ReadBuffer, ReadResult};
 use std::net::SocketAddr;
 
 /// An observer of what ports did. It returns nothing, so it changes nothing.
@@ -87,17 +87,28 @@ impl<P: Ports + Peers + Drop, O: Observer + Drop> Ports for ObservedPorts<P, O> 
     }
 
     fn read(&mut self, c: usize, buffer: &mut [u8]) -> IoResult {
-        self.read_front(c, buffer.len(), buffer)
-    }
-
-    fn read_front(&mut self, c: usize, room: usize, buffer: &mut [u8]) -> IoResult {
-        let result = self.ports.read_front(c, room, buffer);
+        let result = self.ports.read(c, buffer);
         match result {
             IoResult::Bytes(count) => self.observer.read(c, &buffer[..count]),
             IoResult::End => self.observer.ended(c, false),
             IoResult::Fault => self.observer.ended(c, true),
         }
         result
+    }
+
+    fn read_front(&mut self, c: usize, room: usize, buffer: &mut [u8]) -> ReadResult {
+        let result = self.ports.read_front(c, room, buffer);
+        match &result {
+            ReadResult::Bytes(count) => self.observer.read(c, &buffer[..*count]),
+            ReadResult::Lent(lent) => self.observer.read(c, lent.as_slice()),
+            ReadResult::End => self.observer.ended(c, false),
+            ReadResult::Fault => self.observer.ended(c, true),
+        }
+        result
+    }
+
+    fn take_back(&mut self, lent: ReadBuffer) {
+        self.ports.take_back(lent);
     }
 
     fn write(&mut self, c: usize, bytes: &[u8]) -> IoResult {

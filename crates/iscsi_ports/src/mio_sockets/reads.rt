@@ -1,19 +1,20 @@
 //! Reads of a connection: what is ahead is handed on first, and then the system is asked.
 //!
 //! A read fills a whole buffer where it can. What the reader has no room for is handed on at the next reads,
-//! which are noted without a call. Among large PDUs nothing is read ahead but the header after the data that the reader
-//! asks for, so that the data after it is not copied.
+//! which are noted without a call. What is much is not copied then: the reader is lent the buffer. Within a large PDU the
+//! system fills the reader's buffer, with the next header if that has come.
 
-ghost use Rattle.std.specs.Prelude.{◌≡◌, ◌<◌, ◌≤◌, ◌+◌, ◌++◌, ◌∷◌, [], ℕ, length, vec_capacity, IfOk};
+ghost use Rattle.std.specs.Prelude.{◌≡◌, ◌<◌, ◌≤◌, ◌+◌, ◌++◌, ◌∷◌, [], ℕ, false, None, length, vec_capacity, IfSome, IfOk};
 ghost use Rattle.std.specs.Io.{WritesAtMost};
 ghost use Rattle.iscsi_ports.specs.Log.{Read};
-ghost use Rattle.iscsi_ports.specs.Calls.{log_by, moved, read_carried};
+ghost use Rattle.iscsi_ports.specs.Calls.{Handing, log_by, moved, read_carried};
 ghost use Rattle.iscsi_ports.specs.Polls.{unasked_in};
 ghost use Rattle.iscsi_ports.specs.ReadBuffer.{ahead_on};
 ghost use Rattle.iscsi_ports.specs.Readiness.{after_taking, given_in_all, read_by};
 
 use super::MioSockets;
-use crate::read_buffer::{MOST_AHEAD, ReadBuffer, WholeBuffer, hand_from};
+use crate::asking::HEADER;
+use crate::read_buffer::{MOST_AHEAD, ReadBuffer, WholeBuffer, hand_from, take_lent};
 use crate::readiness::Readiness;
 use crate::socket_calls::SocketCalls;
 use crate::socket_failure::SocketFailure;
@@ -40,6 +41,23 @@ impl MioSockets {
             return Err(SocketFailure::WouldWait);
         }
         Ok(count)
+    }
+
+    /// Lends the buffer with what is ahead, with no call, if it is to be lent to a reader with this room.
+    pub(super) fn lend_ahead(&mut self, c: usize, room: usize) -> Option<ReadBuffer>
+        requires { c < 64 }
+        ensures all { IfSome result (λ lent. lent ≡ ahead_on c self.old.ahead.items) }
+        ensures some { IfSome result (λ lent. 0 < length lent) }
+        ensures count { IfSome result (λ lent. length lent ≤ room) }
+        ensures rest { IfSome result (λ lent. ahead_on c self.new.ahead.items ≡ []) }
+        ensures handed { IfSome result (λ lent. ⟦<MioSockets as SocketCalls>⟧.calls self.new
+            ≡ Handing c room lent ∷ ⟦<MioSockets as SocketCalls>⟧.calls self.old) }
+        ensures same { result ≡ None → self.new ≡ self.old }
+    {
+        let place = &mut self.ahead[c];
+        let lent = take_lent(place, room)?;
+        self.notes.handed(c, room, lent.as_slice());
+        Some(lent)
     }
 
     /// Reads into the reader's buffer.
@@ -145,6 +163,15 @@ impl MioSockets {
         Ok(handed)
     }
 
+    /// Returns whether the system is to fill the buffer of a reader with this room, and no buffer of the ports: within a large
+    /// PDU, and for the header after one if no buffer is kept.
+    fn fills_reader(&self, c: usize, room: usize) -> bool
+        requires { c < 64 }
+        ensures { result ≡ false → room < 65536 }
+    {
+        room >= LARGE || self.bulk[c] && (room > HEADER || self.spares.is_empty())
+    }
+
     /// Hands on what is ahead, or reads of the system, where there is room.
     pub(super) fn read_some(
         &mut self,
@@ -163,10 +190,7 @@ impl MioSockets {
         if buffer.is_empty() || self.count_ahead(c) > 0 {
             return self.hand_on(c, buffer);
         }
-        if buffer.len() >= LARGE {
-            return self.read_at_once(readiness, c, buffer);
-        }
-        if self.bulk[c] {
+        if self.fills_reader(c, buffer.len()) {
             return self.read_at_once(readiness, c, buffer);
         }
         match self.spares.take() {
@@ -194,7 +218,7 @@ impl MioSockets {
             (length (ahead_on c self.old.ahead.items)) (length (ahead_on c self.new.ahead.items)) result readiness.old) }
     {
         let beyond = buffer.len() - room;
-        if beyond == 0 || room < LARGE || self.count_ahead(c) > 0 {
+        if beyond == 0 || room <= HEADER || self.count_ahead(c) > 0 || !self.fills_reader(c, room) {
             return self.read_some(readiness, c, &mut buffer[..room]);
         }
         match self.spares.few(beyond) {

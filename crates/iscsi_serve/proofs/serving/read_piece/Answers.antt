@@ -46,6 +46,32 @@ returns-in-Bytes g c = λ named due.
           c.feed-starved.ensures.feeds c.feed-starved.ensures.fed;
     })
 
+pub returns-in-Lent : goal.returns-in-Lent
+returns-in-Lent g c = λ named due.
+    (let is = c.as_slice.ensures in
+    let piece = c.as_slice.result.now in
+    let some : 0 < length piece = rw is c.in-Lent.ensures.some in
+    let fits : length piece ≤ c.args.room = rw is c.in-Lent.ensures.count in
+    let told = sym (c.take_back.ensures.tells ∙ c.tell_starved-in-Lent.ensures.tells) in
+    let log = c.take_back.ensures.log ∙ c.tell_starved-in-Lent.ensures.log in
+    record {
+      keeps = record {
+        back = λ tells. c.read_front.ensures.back (told ∙ tells);
+        each = c.feed-starved-in-Lent.ensures.each;
+        sure = c.feed-starved-in-Lent.ensures.sure;
+        served = λ tells sound.
+            read_stays MayHappen _ _ _ _ c.args.c c.args.room piece some (rw is (log ∙ c.in-Lent.ensures.log (told ∙ tells)))
+            (c.feed-starved-in-Lent.ensures.stands sound);
+        came = λ tells.
+            read_stays (MayComeOut c.feed-starved-in-Lent.new.target) _ _ _ _ c.args.c c.args.room piece some
+            (rw is (log ∙ c.in-Lent.ensures.log (told ∙ tells))) (fed_comes_out _ _ _ _ c.feed-starved-in-Lent.ensures.fed);
+        bounded = (let room = due.is_room in c.feed-starved-in-Lent.ensures.bounded (omega (arith, fits, room)));
+      };
+      goes = λ tells.
+          read_some _ _ _ _ named _ c.args.c c.args.room piece due some fits (rw is (log ∙ c.in-Lent.ensures.log (told ∙ tells)))
+          c.feed-starved-in-Lent.ensures.feeds c.feed-starved-in-Lent.ensures.fed;
+    })
+
 pub returns-in-End : goal.returns-in-End
 returns-in-End g c = λ named due.
     (let long : length c.args.ended.now ≡ 64 = search rules in

@@ -14,7 +14,7 @@ pub returns-in-Some-clause-readiness : goal.returns-in-Some-clause-readiness
 returns-in-Some-clause-readiness c =
     let room : nat_lt 0 (length c.read_ahead.new.buffer) ≡ true = search rules in
     let none : nat_lt 0 (length (ahead_on c.args.c c.args.self.now.ahead.items)) ≡ false = search rules in
-    (65584, omega (arith, c.if-buffer-ge-LARGE.false), rw (room, none) c.read_ahead.ensures.readiness)
+    (65584, omega (arith, c.fills_reader.ensures c.if-fills_reader.false), rw (room, none) c.read_ahead.ensures.readiness)
 
 pub returns-in-None-clause-readiness : goal.returns-in-None-clause-readiness
 returns-in-None-clause-readiness c =
@@ -26,18 +26,8 @@ returns-in-None-clause-readiness c =
       rw (room, none, left, given-none c.read_at_once-in-None.result) c.read_at_once-in-None.ensures.readiness,
     )
 
-pub returns-then-self-c-clause-readiness : goal.returns-then-self-c-clause-readiness
-returns-then-self-c-clause-readiness c =
-    let room : nat_lt 0 (length c.read_at_once-then-self-c.new.buffer) ≡ true = search rules in
-    let none : nat_lt 0 (length (ahead_on c.args.c c.args.self.now.ahead.items)) ≡ false = search rules in
-    let left : length (ahead_on c.args.c c.read_at_once-then-self-c.new.self.ahead.items) ≡ 0 = search rules in (
-      length c.read_at_once-then-self-c.new.buffer,
-      omega arith,
-      rw (room, none, left, given-none c.read_at_once-then-self-c.result) c.read_at_once-then-self-c.ensures.readiness,
-    )
-
-pub returns-then-buffer-ge-LARGE-clause-readiness : goal.returns-then-buffer-ge-LARGE-clause-readiness
-returns-then-buffer-ge-LARGE-clause-readiness c =
+pub returns-then-fills_reader-clause-readiness : goal.returns-then-fills_reader-clause-readiness
+returns-then-fills_reader-clause-readiness c =
     let room : nat_lt 0 (length c.read_at_once.new.buffer) ≡ true = search rules in
     let none : nat_lt 0 (length (ahead_on c.args.c c.args.self.now.ahead.items)) ≡ false = search rules in
     let left : length (ahead_on c.args.c c.read_at_once.new.self.ahead.items) ≡ 0 = search rules in (
