@@ -25,7 +25,6 @@ use std::mem;
 use target_limits::Memory;
 
 /// The logical units of one target.
-#[derive(Drop)]
 pub struct Units<S: Store> {
     units: Vec<Unit<S>>,
     /// The numbers of the units, in their order.
@@ -47,6 +46,19 @@ impl<S: Store> Model for Units<S> {
     ghost view = { λ u. u.units.items };
 
     ghost invariant = { λ u. u.luns.items ≡ numbers_of u.units.items };
+}
+
+// Dropped by a call of its own, so that code that drops units does not take their buffers apart.
+impl<S: Store + Drop> Drop for Units<S> {
+    fn drop(self) {
+        let Units {
+            units: _units,
+            luns: _luns,
+            used: _used,
+            spares: _spares,
+            alloc: _alloc,
+        } = self;
+    }
 }
 
 /// Joins a nexus to each of these units. All the memory that this takes is there before it joins the first.
