@@ -4,7 +4,6 @@ use iscsi_login::Login;
 use iscsi_session::Session;
 
 /// The phase of a connection (RFC 7143 §4.2.4 to §4.2.6).
-#[derive(Drop)]
 pub enum Phase {
     /// Not open.
     Free,
@@ -14,6 +13,17 @@ pub enum Phase {
     FullFeature(Session),
     /// Closing: what waits is still sent, and nothing more is read.
     Closing,
+}
+
+// Dropped by a call of its own, so that code that drops a phase does not take logins and sessions apart.
+impl Drop for Phase {
+    fn drop(self) {
+        match self {
+            Phase::Free | Phase::Closing => {}
+            Phase::Login(_login) => {}
+            Phase::FullFeature(_session) => {}
+        }
+    }
 }
 
 impl Phase {
