@@ -33,7 +33,6 @@ use target_limits::Memory;
 /// The promises about answers and units hold if the stores of all units are honest and no call of one has failed
 /// (`WhereSound`). A target that is sound after a call was sound before it
 /// ([`sound_targets_were_sound`](crate::laws::sound_targets_were_sound)).
-#[derive(Drop)]
 pub struct Target<S: Store> {
     pub(crate) alloc: Global,
     pub(crate) directory: Directory,
@@ -54,6 +53,19 @@ impl<S: Store> Model for Target<S> {
 
     ghost invariant = { λ t. (length t.connections ≡ 64) × (length t.units.items ≡ length t.directory.names)
         × All (λ (link : LinkState). IsWithin (length t.units.items) link.phase) t.connections };
+}
+
+// Dropped by a call of its own, so that code that drops a target does not take its units and connections apart.
+impl<S: Store + Drop> Drop for Target<S> {
+    fn drop(self) {
+        let Target {
+            alloc: _alloc,
+            directory: _directory,
+            units: _units,
+            connections: _connections,
+            resting: _resting,
+        } = self;
+    }
 }
 
 impl<S: Store + Drop> Target<S> {
