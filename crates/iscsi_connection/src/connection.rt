@@ -24,9 +24,10 @@ ghost use Rattle.iscsi_world.specs.declared.phase.Phase.TheVariants.{Login as Un
 
 use bytes::BytesMut;
 use data_parts::SpareBuffers;
+use iscsi_framer::Framer;
 use iscsi_login::{Directory, Login, Reply, SessionParams};
 use iscsi_outbox::Outbox;
-use iscsi_pdu::{Answer, Frame, Framer, Header, LoginResponse, MOST_DATA, Opcode, PduFault};
+use iscsi_pdu::{Answer, Frame, Header, LoginResponse, MOST_DATA, Opcode, PduFault};
 use iscsi_session::Session;
 use iscsi_world::Phase;
 use media_store::Store;

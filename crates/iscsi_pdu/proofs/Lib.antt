@@ -1,11 +1,8 @@
-mod Split
 pub mod Frames
 pub mod LoginHeader
 pub mod R2tHeader
 pub mod Cuts
 pub mod Zeros
 pub mod DataOuts
-pub mod Taking
-pub mod Gathering
-pub mod Fronts
+pub mod Fields
 pub mod Joined

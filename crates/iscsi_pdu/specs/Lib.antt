@@ -8,7 +8,6 @@ pub mod TaskManagement
 pub mod LogoutRequest
 pub mod Segment
 pub mod Frames
-pub mod Framer
 pub mod Parts
 pub mod Laws
 pub mod Stamp

@@ -86,7 +86,7 @@ impl Header {
     }
 
     /// Returns whether the PDU is a Data-Out.
-    pub(crate) fn is_data_out(&self) -> bool
+    pub fn is_data_out(&self) -> bool
         ensures { result ≡ (opcode_number self.now == 0x05) }
     {
         self.bytes[0] & OPCODE == DATA_OUT

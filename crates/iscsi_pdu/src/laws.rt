@@ -40,8 +40,8 @@ pub fn only_these_frames()
     ensures rest { OnlyRest }
 {}
 
-/// States that the parts that calls of [`take`](crate::Framer::take) give, put together, are the frames that
-/// [`feed`](crate::Framer::feed) and [`next`](crate::Framer::next) give of the same bytes.
+/// States that the parts that calls of a framer's `take` give, put together, are the frames that its `feed` and `next`
+/// give of the same bytes.
 pub fn parts_are_frames()
     ensures frames { PartsAreFrames }
     ensures left { LeftIsTheRest }

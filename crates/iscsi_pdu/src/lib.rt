@@ -1,34 +1,29 @@
 //! The protocol data units (PDUs) of iSCSI (RFC 7143 §11), as a target uses them:
 //!
-//! - the bytes of a connection, cut into frames
+//! - the frames of a connection's bytes, which `iscsi_framer` cuts
 //! - the fields of a frame's header
 //! - the bytes of each answer
 //!
 //! ```text
-//!   bytes in ──> Framer::feed ──> Framer::next ──> Frame { header, body } ──> the target
-//!   bytes in ──> Framer::take ──> Part: a frame, or data lent from the bytes ─> a caller who has a place for it
-//!   bytes out <── BytesMut <──────────── Answer::write <── Answer <────────── the target
+//!   bytes in ──> iscsi_framer ──────────────> Frame { header, body } ──> the target
+//!   bytes out <── BytesMut <── Answer::write <── Answer <──────────────── the target
 //! ```
 //!
 //! Promised, and proved:
 //!
 //! - The frames are the same however the bytes are cut into pieces ([`laws::chunking`]). They are the only ones whose
 //!   spellings, joined, are the front of the bytes ([`laws::frames_are_the_spellings`], [`laws::only_these_frames`]).
-//! - The parts that [`Framer::take`] gives, put together, are the same frames ([`laws::parts_are_frames`]).
-//! - A data segment longer than 262144 bytes is refused as soon as its header is whole and the frames before it were
-//!   returned.
+//! - The parts that a framer gives, put together, are the same frames ([`laws::parts_are_frames`]).
 //! - An answer is written whole, padding included, or the buffer keeps its bytes. If the buffer has room for the
 //!   answer, it is written, and uses exactly its length of that room.
 //! - Out of memory is an error everywhere, and leaves every value unchanged.
 #![tactic(auto)]
 
 mod answer;
-mod byte_queue;
 mod data_in;
 mod data_out;
 mod fault;
 mod frame;
-mod framer;
 mod header;
 pub mod laws;
 mod login_request;
@@ -52,7 +47,6 @@ pub use answer::Answer;
 pub use data_in::DataIn;
 pub use fault::PduFault;
 pub use frame::Frame;
-pub use framer::Framer;
 pub use header::{HEADER_LENGTH, Header, Opcode};
 pub use login_response::{LoginAccepted, LoginRefusal, LoginReply, LoginResponse, LoginStep};
 pub use logout_response::{LogoutResponse, LogoutResult};
@@ -61,7 +55,7 @@ pub use part::Part;
 pub use r2t::R2t;
 pub use reject::{Reject, RejectReason};
 pub use scsi_response::{Residual, ScsiResponse};
-pub use segment::MOST_DATA;
+pub use segment::{MOST_DATA, padded};
 pub use stage::Stage;
 pub use stamp::Stamp;
 pub use task_management::TaskFunction;

@@ -10,7 +10,7 @@ use Rattle.iscsi_pdu.specs.Parts.{is_data_out, shown, HoldsOne, Takes}
 use Rattle.iscsi_pdu.specs.declared.part.Part.{Part}
 use Rattle.iscsi_pdu.specs.declared.part.Part.TheVariants as parts
 use Rattle.iscsi_pdu.specs.declared.header.Opcode.TheVariants as opcodes
-use Rattle.iscsi_pdu.proofs.Fronts.{not_long}
+use Rattle.iscsi_pdu.proofs.Fields.{not_long}
 use Rattle.iscsi_pdu.proofs.Cuts.{data_length-append, frame_length-append, data_length-take}
 use Rattle.iscsi_pdu.proofs.DataOuts.{Alike, alike_frame, alike_framed, alike_data_length, alike_more, is_data_out-header, is_data_out-more, shown_alike, has_frame-short}
 use Rattle.iscsi_pdu.proofs.Frames.{has_frame-true}

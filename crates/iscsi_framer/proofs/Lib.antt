@@ -1,0 +1,4 @@
+mod Split
+pub mod Taking
+pub mod Gathering
+pub mod Fronts

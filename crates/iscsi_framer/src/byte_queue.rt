@@ -1,0 +1,180 @@
+//! Bytes that are appended at the end and taken from the front.
+
+ghost use Rattle.std.specs.Prelude.{◌≡◌, ◌+◌, ◌-◌, ◌^◌, ◌<◌, ◌≤◌, [], ◌++◌, length, take, drop, replicate, IfOk, IfErr, OnOk, OnErr};
+
+use data_parts::SpareBuffers;
+use iscsi_pdu::PduFault;
+use std::alloc::Global;
+use std::marker::Model;
+use std::mem;
+
+/// A queue of bytes. If all are taken at once, their buffer is moved and no byte is copied. Zeros at its end may be
+/// counted in place of being kept.
+#[derive(Drop)]
+pub(crate) struct ByteQueue {
+    bytes: Vec<u8>,
+    /// The number of bytes at the front that were taken.
+    taken: usize,
+    /// The number of zeros after the bytes.
+    zeros: usize,
+    alloc: Global,
+}
+
+impl Model for ByteQueue {
+    ghost use Rattle.std.specs.Prelude.{◌≤◌, ◌<◌, ◌^◌, ◌++◌, ℕ, List, length, drop, replicate};
+
+    ghost Value = { List ℕ };
+
+    ghost view = { λ q. drop q.taken q.bytes.items ++ replicate q.zeros 0 };
+
+    ghost invariant = { λ q. (q.taken ≤ length q.bytes.items) × (q.zeros < 2 ^ 32) };
+}
+
+/// Moves all bytes after the first `count` to the front.
+pub(crate) fn cut_front(bytes: &mut Vec<u8>, count: usize)
+    requires { count ≤ length bytes.old.items }
+    ensures { bytes.new.items ≡ drop count bytes.old.items }
+{
+    if count == 0 {
+        return;
+    }
+    let end = bytes.len();
+    bytes.as_mut_slice().copy_within(count..end, 0);
+    bytes.truncate(end - count);
+}
+
+/// Appends `count` zeros.
+fn put_zeros(bytes: &mut Vec<u8>, count: usize) -> Result<(), PduFault>
+    requires { count < 2 ^ 32 }
+    ensures ok { OnOk result (bytes.new.items ≡ bytes.old.items ++ replicate count 0) }
+    ensures memory { IfErr result (λ fault. fault ≡ PduFault.Memory) }
+    ensures err { OnErr result (bytes.new.items ≡ bytes.old.items) }
+{
+    let length = bytes.len() + count;
+    bytes.resize(length, 0)?;
+    Ok(())
+}
+
+impl ByteQueue {
+    /// Returns an empty queue. Allocates nothing.
+    pub(crate) fn new(alloc: Global) -> ByteQueue
+        ensures { result ≡ [] }
+    {
+        ByteQueue {
+            bytes: Vec::new(alloc),
+            taken: 0,
+            zeros: 0,
+            alloc,
+        }
+    }
+
+    /// Returns an empty set of spare buffers. Allocates nothing.
+    pub(crate) fn no_spares(&self) -> SpareBuffers {
+        SpareBuffers::new(self.alloc)
+    }
+
+    /// Returns the number of bytes.
+    pub(crate) fn len(&self) -> usize
+        ensures value { result ≡ length self.now }
+        ensures bound { result < 2 ^ 63 + 2 ^ 32 }
+    {
+        self.bytes.len() - self.taken + self.zeros
+    }
+
+    /// Returns the bytes that are kept. All after them are zeros.
+    pub(crate) fn kept(&self) -> &[u8]
+        ensures zeros { self.now ≡ result.now ++ replicate (length self.now - length result.now) 0 }
+        ensures within { length result.now ≤ length self.now }
+        ensures few { length self.now - length result.now < 2 ^ 32 }
+    {
+        &self.bytes.as_slice()[self.taken..]
+    }
+
+    /// Appends a piece. Makes room for `room` bytes if that is more than the piece; uses a spare buffer if the queue
+    /// is empty.
+    pub(crate) fn append(
+        &mut self,
+        piece: &[u8],
+        room: usize,
+        spares: &mut SpareBuffers,
+    ) -> Result<(), PduFault>
+        ensures ok { OnOk result (self.new ≡ self.old ++ piece.now) }
+        ensures memory { IfErr result (λ fault. fault ≡ PduFault.Memory) }
+        ensures err { OnErr result (self.new ≡ self.old) }
+    {
+        cut_front(&mut self.bytes, self.taken);
+        self.taken = 0;
+        put_zeros(&mut self.bytes, self.zeros)?;
+        self.zeros = 0;
+        let room = room.max(piece.len());
+        if self.bytes.is_empty() && self.bytes.capacity() < room {
+            self.bytes = spares.take(room)?;
+        }
+        self.bytes.reserve(room)?;
+        self.bytes.extend_from_slice(piece)?;
+        Ok(())
+    }
+
+    /// Appends the last piece and takes all bytes, in their buffer.
+    pub(crate) fn complete(&mut self, piece: &[u8]) -> Result<Vec<u8>, PduFault>
+        ensures bytes { IfOk result (λ bytes. bytes.items ≡ self.old ++ piece.now) }
+        ensures none { OnOk result (self.new ≡ []) }
+        ensures memory { IfErr result (λ fault. fault ≡ PduFault.Memory) }
+        ensures err { OnErr result (self.new ≡ self.old) }
+    {
+        cut_front(&mut self.bytes, self.taken);
+        self.taken = 0;
+        put_zeros(&mut self.bytes, self.zeros)?;
+        self.zeros = 0;
+        self.bytes.extend_from_slice(piece)?;
+        Ok(mem::replace(&mut self.bytes, Vec::new(self.alloc)))
+    }
+
+    /// Returns a copy of `count` bytes, starting at `from`.
+    pub(crate) fn copied(&self, from: usize, count: usize) -> Result<Vec<u8>, PduFault>
+        requires { from + count ≤ length self.now }
+        ensures value { IfOk result (λ bytes. bytes.items ≡ take count (drop from self.now)) }
+        ensures memory { IfErr result (λ fault. fault ≡ PduFault.Memory) }
+    {
+        let kept = self.kept();
+        let start = from.min(kept.len());
+        let some = count.min(kept.len() - start);
+        let mut bytes = Vec::from_slice(self.alloc, &kept[start..][..some])?;
+        put_zeros(&mut bytes, count - some)?;
+        Ok(bytes)
+    }
+
+    /// Removes `n` bytes from the front.
+    pub(crate) fn skip(&mut self, n: usize)
+        requires { n ≤ length self.old }
+        ensures { self.new ≡ drop n self.old }
+    {
+        let kept = self.bytes.len() - self.taken;
+        if n < kept {
+            self.taken += n;
+            return;
+        }
+        self.bytes = Vec::new(self.alloc);
+        self.taken = 0;
+        self.zeros -= n - kept;
+    }
+
+    /// Replaces all bytes by zeros, which are only counted, and appends `n` zeros.
+    pub(crate) fn forget(&mut self, n: usize)
+        requires { length self.old + n < 2 ^ 32 }
+        ensures { self.new ≡ replicate (length self.old + n) 0 }
+    {
+        self.zeros = self.len() + n;
+        self.bytes = Vec::new(self.alloc);
+        self.taken = 0;
+    }
+
+    /// Removes all bytes.
+    pub(crate) fn clear(&mut self)
+        ensures { self.new ≡ [] }
+    {
+        self.bytes = Vec::new(self.alloc);
+        self.taken = 0;
+        self.zeros = 0;
+    }
+}

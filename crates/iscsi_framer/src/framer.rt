@@ -1,0 +1,313 @@
+//! Cutting the bytes of a connection into frames.
+
+ghost use Rattle.std.specs.Prelude.{◌≡◌, ◌+◌, ◌<◌, ◌≤◌, ◌↔◌, ℕ, List, [], ◌∷◌, ◌++◌, length, take, drop, true, false, IsOk, IfOk, IfErr, IfSome, IfNone, OnOk, OnErr};
+ghost use Rattle.iscsi_pdu.specs.Parts.{is_data_out, HoldsOne, Takes};
+ghost use Rattle.std.specs.Result.{IsErrOf};
+
+use crate::byte_queue::{ByteQueue, cut_front};
+use arrayvec::ArrayVec;
+use data_parts::SpareBuffers;
+use iscsi_pdu::{Frame, HEADER_LENGTH, Header, MOST_DATA, Part, PduFault, padded};
+use std::alloc::Global;
+use std::marker::Model;
+
+/// Cuts the bytes of one connection into frames, whatever the pieces in which they come. Clauses see it as the bytes
+/// that were fed and not yet returned.
+///
+/// If no byte has come after a frame, its data segment is returned in the buffer in which it came. If the bytes are
+/// given to [`take`](Framer::take), the data of a Data-Out is lent from them as it comes, and only counted here.
+#[derive(Drop)]
+pub struct Framer {
+    /// The part of the first header that has come.
+    header: ArrayVec<u8, HEADER_LENGTH>,
+    /// The bytes that have come after that header.
+    behind: ByteQueue,
+}
+
+impl Model for Framer {
+    ghost use Rattle.std.specs.Prelude.{◌++◌, ℕ, List};
+    ghost use Rattle.iscsi_pdu.specs.Header.{header_length};
+    ghost use Rattle.iscsi_framer.specs.Framer.{IsSplit};
+
+    ghost Value = { List ℕ };
+
+    ghost view = { λ f. f.header.items ++ f.behind };
+
+    ghost invariant = { λ f. IsSplit header_length f.header.items f.behind };
+}
+
+/// Appends bytes of a header, for which there is room.
+fn put(header: &mut ArrayVec<u8, HEADER_LENGTH>, bytes: &[u8])
+    requires { length header.old.items + length bytes.now ≤ 48 }
+    ensures { header.new.items ≡ header.old.items ++ bytes.now }
+{
+    let _ = header.try_extend_from_slice(bytes);
+}
+
+impl Framer {
+    ghost use Rattle.iscsi_pdu.specs.Header.{header_length, data_length};
+    ghost use Rattle.iscsi_pdu.specs.Segment.{most_data, padded as padded_to};
+    ghost use Rattle.iscsi_pdu.specs.Frames.{frames, rest, has_frame, is_long, first_frame, frame_length, missing, wanted};
+
+    /// Returns a framer without bytes. Allocates nothing.
+    pub fn new(alloc: Global) -> Framer
+        ensures { result ≡ [] }
+    {
+        Framer {
+            header: ArrayVec::new(),
+            behind: ByteQueue::new(alloc),
+        }
+    }
+
+    /// Takes the next piece of the connection's bytes. An empty piece allocates nothing.
+    pub fn feed(&mut self, piece: &[u8]) -> Result<(), PduFault>
+        ensures ok { OnOk result (self.new ≡ self.old ++ piece.now) }
+        ensures empty { piece.now ≡ [] → IsOk result }
+        ensures memory { IfErr result (λ fault. fault ≡ PduFault.Memory) }
+        ensures err { OnErr result (self.new ≡ self.old) }
+    {
+        let mut spares = self.behind.no_spares();
+        self.feed_with(piece, &mut spares)
+    }
+
+    /// Takes the next piece of the connection's bytes, as [`feed`](Framer::feed) does. The data of a frame goes into
+    /// a spare buffer.
+    pub fn feed_with(&mut self, piece: &[u8], spares: &mut SpareBuffers) -> Result<(), PduFault>
+        ensures ok { OnOk result (self.new ≡ self.old ++ piece.now) }
+        ensures empty { piece.now ≡ [] → IsOk result }
+        ensures memory { IfErr result (λ fault. fault ≡ PduFault.Memory) }
+        ensures err { OnErr result (self.new ≡ self.old) }
+    {
+        let had = self.header.len();
+        let (front, more) = piece.split_at(piece.len().min(HEADER_LENGTH - had));
+        put(&mut self.header, front);
+        if more.is_empty() {
+            return Ok(());
+        }
+        let room = self.want().min(MOST_DATA);
+        if let Err(fault) = self.behind.append(more, room, spares) {
+            self.header.truncate(had);
+            return Err(fault);
+        }
+        Ok(())
+    }
+
+    /// Takes the first frame from the front of the bytes. Returns `None` if the bytes are less than a frame.
+    /// Allocates, and can run out of memory, only if there is a frame.
+    #[tactic(auto, unfolding(iscsi_pdu::specs::Frames::has_frame, iscsi_pdu::specs::Frames::is_long, iscsi_pdu::specs::Frames::first_frame, iscsi_pdu::specs::Frames::frame_length))]
+    pub fn next(&mut self) -> Result<Option<Frame>, PduFault>
+        // A frame that is returned is the first, and is removed from the bytes.
+        ensures whole { IfOk result (λ o. IfSome o (λ _. has_frame self.old ≡ true)) }
+        ensures given { IfOk result (λ o. IfSome o (λ f. first_frame self.old ≡ f)) }
+        ensures taken { IfOk result
+            (λ o. IfSome o (λ _. self.new ≡ drop (frame_length self.old) self.old)) }
+        ensures frames { IfOk result
+            (λ o. IfSome o (λ f. frames self.old ≡ f ∷ frames self.new)) }
+        ensures rest { IfOk result (λ o. IfSome o (λ _. rest self.new ≡ rest self.old)) }
+
+        // Nothing is returned if neither a whole frame nor a long one is in front.
+        ensures none { IfOk result (λ o. IfNone o (has_frame self.old ≡ false)) }
+        ensures none_long { IfOk result (λ o. IfNone o (is_long self.old ≡ false)) }
+        ensures waits { IfOk result (λ o. IfNone o (self.new ≡ self.old)) }
+
+        ensures too_long { IsErrOf result PduFault.TooLong ↔ (is_long self.old ≡ true) }
+        ensures memory { IsErrOf result PduFault.Memory → has_frame self.old ≡ true }
+        ensures err { OnErr result (self.new ≡ self.old) }
+    {
+        let Some(header) = self.header() else {
+            return Ok(None);
+        };
+        let data = header.data_length();
+        if data > MOST_DATA {
+            return Err(PduFault::TooLong);
+        }
+        let additional = header.additional_length();
+        let end = HEADER_LENGTH + additional + padded(data);
+        if self.len() < end {
+            return Ok(None);
+        }
+        let body = self.take_body(additional, data)?;
+        Ok(Some(Frame { header, body }))
+    }
+
+    /// Takes the next bytes of a piece. Returns how many were used, and what they brought. The data of a Data-Out is
+    /// lent from the piece while its PDU arrives; any other PDU is kept until it is whole.
+    ///
+    /// May be called if no more than one Data-Out is kept, and of any other PDU less than all. That holds of a new
+    /// framer, and after each call. After [`PduFault::TooLong`] the header is kept, and out of memory changes nothing.
+    pub fn take<'p>(&mut self, piece: &'p [u8]) -> Result<(usize, Part<'p>), PduFault>
+        requires { HoldsOne self.old }
+        ensures part { IfOk result (λ r. Takes self.old piece.now r.0 r.1 self.new) }
+        ensures one { HoldsOne self.new }
+        ensures too_long { IsErrOf result PduFault.TooLong ↔ (is_long (self.old ++ piece.now) ≡ true) }
+        ensures long { IsErrOf result PduFault.TooLong → is_long self.new ≡ true }
+        ensures memory { IsErrOf result PduFault.Memory → self.new ≡ self.old }
+    {
+        let had = self.header.len();
+        let (front, more) = piece.split_at(piece.len().min(HEADER_LENGTH - had));
+        put(&mut self.header, front);
+        match self.take_more(more) {
+            Ok((used, part)) => Ok((front.len() + used, part)),
+            Err(PduFault::TooLong) => Err(PduFault::TooLong),
+            Err(PduFault::Memory) => {
+                self.header.truncate(had);
+                Err(PduFault::Memory)
+            }
+        }
+    }
+
+    /// Takes the next bytes of a piece, like [`take`](Framer::take), after those of the first header.
+    fn take_more<'p>(&mut self, more: &'p [u8]) -> Result<(usize, Part<'p>), PduFault>
+        requires within { is_long self.old ≡ false → length self.old ≤ frame_length self.old }
+        requires first { length self.old < header_length → more.now ≡ [] }
+        ensures part { IfOk result (λ r. Takes self.old more.now r.0 r.1 self.new) }
+        ensures one { OnOk result (HoldsOne self.new) }
+        ensures too_long { IsErrOf result PduFault.TooLong ↔ (is_long self.old ≡ true) }
+        ensures err { OnErr result (self.new ≡ self.old) }
+    {
+        let Some(header) = self.header() else {
+            return Ok((0, Part::Nothing));
+        };
+        if header.data_length() > MOST_DATA {
+            return Err(PduFault::TooLong);
+        }
+        if header.is_data_out() {
+            return Ok(self.lend(header, more));
+        }
+        self.gather(header, more)
+    }
+
+    /// Takes the next bytes of a Data-Out with this header. Its data is lent.
+    fn lend<'p>(&mut self, header: Header, more: &'p [u8]) -> (usize, Part<'p>)
+        requires there { header_length ≤ length self.old }
+        requires header { header ≡ take header_length self.old }
+        requires short { data_length header ≤ most_data }
+        requires within { length self.old ≤ frame_length self.old }
+        requires out { is_data_out self.old ≡ true }
+        ensures part { Takes self.old more.now result.0 result.1 self.new }
+        ensures one { HoldsOne self.new }
+    {
+        let had = self.len();
+        let start = HEADER_LENGTH + header.additional_length();
+        let end = start + header.data_length();
+        let whole = start + padded(header.data_length());
+        let skipped = start.saturating_sub(had).min(more.len());
+        let count = end.saturating_sub(had + skipped).min(more.len() - skipped);
+        if count > 0 {
+            let used = skipped + count;
+            self.behind.forget(used);
+            return (used, Part::Data(header, &more[skipped..used]));
+        }
+        let used = (whole - had).min(more.len());
+        if had + used < whole {
+            self.behind.forget(used);
+            return (used, Part::Nothing);
+        }
+        self.header.clear();
+        self.behind.clear();
+        (used, Part::End(header))
+    }
+
+    /// Takes the next bytes of any other PDU with this header. All are kept until it is whole.
+    fn gather<'p>(&mut self, header: Header, more: &'p [u8]) -> Result<(usize, Part<'p>), PduFault>
+        requires there { header_length ≤ length self.old }
+        requires header { header ≡ take header_length self.old }
+        requires short { data_length header ≤ most_data }
+        requires within { length self.old ≤ frame_length self.old }
+        requires other { is_data_out self.old ≡ false }
+        ensures part { IfOk result (λ r. Takes self.old more.now r.0 r.1 self.new) }
+        ensures one { OnOk result (HoldsOne self.new) }
+        ensures memory { IfErr result (λ fault. fault ≡ PduFault.Memory) }
+        ensures err { OnErr result (self.new ≡ self.old) }
+    {
+        let data = header.data_length();
+        let additional = header.additional_length();
+        let missing = HEADER_LENGTH + additional + padded(data) - self.len();
+        if more.len() < missing {
+            let mut spares = self.behind.no_spares();
+            self.behind.append(more, missing, &mut spares)?;
+            return Ok((more.len(), Part::Nothing));
+        }
+        let mut body = self.behind.complete(&more[..missing])?;
+        cut_front(&mut body, additional);
+        body.truncate(data);
+        self.header.clear();
+        Ok((missing, Part::Frame(Frame { header, body })))
+    }
+
+    /// Takes the data segment after the header and `additional` bytes. The frame is removed from the bytes.
+    fn take_body(&mut self, additional: usize, count: usize) -> Result<Vec<u8>, PduFault>
+        requires short { count ≤ most_data }
+        requires whole { header_length + additional + padded_to count ≤ length self.old }
+        ensures body { IfOk result (λ body. body.items ≡ take count (drop (header_length + additional) self.old)) }
+        ensures rest { OnOk result (self.new ≡ drop (header_length + additional + padded_to count) self.old) }
+        ensures memory { IfErr result (λ fault. fault ≡ PduFault.Memory) }
+        ensures err { OnErr result (self.new ≡ self.old) }
+    {
+        let behind = self.behind.len();
+        let end = additional + padded(count);
+        if additional == 0 && behind == end {
+            let mut all = self.behind.complete(&[])?;
+            all.truncate(count);
+            self.header.clear();
+            return Ok(all);
+        }
+        let body = self.behind.copied(additional, count)?;
+        self.pass(end);
+        Ok(body)
+    }
+
+    /// Removes the header and `n` bytes after it.
+    fn pass(&mut self, n: usize)
+        requires { header_length + n ≤ length self.old }
+        ensures { self.new ≡ drop (header_length + n) self.old }
+    {
+        self.behind.skip(n);
+        self.header.clear();
+        let front = self.behind.len().min(HEADER_LENGTH);
+        let kept = self.behind.kept();
+        let some = front.min(kept.len());
+        put(&mut self.header, &kept[..some]);
+        put(&mut self.header, &[0; HEADER_LENGTH][..front - some]);
+        self.behind.skip(front);
+    }
+
+    /// Returns how many bytes are missing of the header or, if it is whole, of its frame. Returns 1 if none are
+    /// missing.
+    #[tactic(auto, unfolding(iscsi_pdu::specs::Frames::has_frame, iscsi_pdu::specs::Frames::is_long, iscsi_pdu::specs::Frames::frame_length, iscsi_pdu::specs::Frames::missing))]
+    pub fn want(&self) -> usize
+        ensures value { result ≡ wanted self.now }
+        ensures some { 1 ≤ result }
+        ensures exact { has_frame self.now ≡ false → is_long self.now ≡ false
+            → result ≡ missing self.now }
+    {
+        let had = self.len();
+        let whole = match self.header() {
+            None => HEADER_LENGTH,
+            Some(header) => {
+                HEADER_LENGTH + header.additional_length() + padded(header.data_length())
+            }
+        };
+        whole.saturating_sub(had).max(1)
+    }
+
+    /// Returns the number of bytes.
+    fn len(&self) -> usize
+        ensures { result ≡ length self.now }
+    {
+        self.header.len() + self.behind.len()
+    }
+
+    /// Returns the first header, if it is whole.
+    pub fn header(&self) -> Option<Header>
+        ensures some { IfSome result (λ h. (h ≡ take header_length self.now) × (header_length ≤ length self.now)) }
+        ensures none { IfNone result (length self.now < header_length) }
+    {
+        if !self.header.is_full() {
+            return None;
+        }
+        let mut header = [0; HEADER_LENGTH];
+        header.copy_from_slice(self.header.as_slice());
+        Some(Header::new(header))
+    }
+}

@@ -1,0 +1,22 @@
+//! The bytes of a connection, cut into the frames that `iscsi_pdu` defines (RFC 7143 §11).
+//!
+//! ```text
+//!   bytes in ──> Framer::feed ──> Framer::next ──> Frame { header, body } ──> the target
+//!   bytes in ──> Framer::take ──> Part: a frame, or data lent from the bytes ─> a caller who has a place for it
+//! ```
+//!
+//! Promised, and proved:
+//!
+//! - A framer's frames are those of the bytes that it was fed, in whatever pieces these came
+//!   ([`chunking`](iscsi_pdu::laws::chunking)).
+//! - The parts that [`Framer::take`] gives, put together, are the same frames
+//!   ([`parts_are_frames`](iscsi_pdu::laws::parts_are_frames)).
+//! - A data segment longer than 262144 bytes is refused as soon as its header is whole and the frames before it were
+//!   returned.
+//! - Out of memory is an error everywhere, and leaves every value unchanged.
+#![tactic(auto)]
+
+mod byte_queue;
+mod framer;
+
+pub use framer::Framer;

@@ -1,5 +1,0 @@
-use Rattle.std.proofs.Common.{rules}
-use Rattle.iscsi_pdu.proofs.byte_queue.ByteQueue.forget.Goals as goal
-
-pub returns : goal.returns
-returns c = search rules
