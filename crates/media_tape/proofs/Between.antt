@@ -7,7 +7,7 @@ use Rattle.std.proofs.lemmas.List.Sums.{sum_by-take-le}
 use Rattle.media_tape.specs.Items.{Item, Filemark, size, size_of, items_of, torn_at, is_tape}
 use Rattle.media_tape.specs.Tape.{AreIn}
 use Rattle.media_tape.specs.Writing.{StandsBetween}
-use Rattle.media_tape.proofs.Alike.{sum-append, sum-replicate}
+use Rattle.tape_index.proofs.Alike.{sum-append, sum-replicate}
 use Rattle.media_tape.proofs.Indexed.{parsed, many_parsed, placed_parsed, or_false}
 use Rattle.media_tape.proofs.Items.{drop-items_of, items_of-replaced}
 use Rattle.media_tape.proofs.Sizes.{sum-sizes}

@@ -9,10 +9,11 @@ use Rattle.std.proofs.lemmas.List.Sums.{sum_by-take-le}
 use Rattle.media_tape.specs.Items.{Item, Record, Filemark, IsSize, item_of, size}
 use Rattle.media_tape.specs.Tape.{AreIn}
 use Rattle.media_tape.specs.Fixed.{Fixed, ending, giving, fixed, Gives}
-use Rattle.media_tape.specs.SizeFixed.{behind, size_fixed, data_in}
-use Rattle.media_tape.specs.declared.outcome.FixedEnd.{FixedEnd}
-use Rattle.media_tape.specs.declared.outcome.FixedEnd.TheVariants as end
-use Rattle.media_tape.specs.declared.outcome.FixedRead.{FixedRead}
+use Rattle.tape_index.specs.SizeFixed.{behind, size_fixed}
+use Rattle.media_tape.specs.BlockData.{data_in}
+use Rattle.tape_index.specs.declared.outcome.FixedEnd.{FixedEnd}
+use Rattle.tape_index.specs.declared.outcome.FixedEnd.TheVariants as end
+use Rattle.tape_index.specs.declared.outcome.FixedRead.{FixedRead}
 use Rattle.media_tape.proofs.Indexed.{shown, after_sized, is_next, sum-next}
 use Rattle.media_tape.proofs.Items.{HasBytes}
 use Rattle.media_tape.proofs.Sized.{length-sized, items_sized-have}

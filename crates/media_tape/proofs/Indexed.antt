@@ -14,7 +14,7 @@ use Rattle.media_tape.proofs.Items.{front-cases, front-is, length-front, items_o
 use Rattle.media_tape.proofs.Commands.{first_told-item, first_data-item}
 use Rattle.media_tape.proofs.Sizes.{sum-sizes}
 use Rattle.media_tape.proofs.Sized.{sizes-sized, items_sized-is}
-use Rattle.media_tape.proofs.Alike.{sum-append}
+use Rattle.tape_index.proofs.Alike.{sum-append}
 
 -- the items that a tape has by their sizes, and those that its content parses to
 abbrev pub shown : List ℕ → List ℕ → List Item

@@ -4,12 +4,7 @@ pub mod Writes
 pub mod Between
 pub mod Spelled
 pub mod Commands
-pub mod Alike
-pub mod Runs
-pub mod SizeWays
-pub mod Spacing
-pub mod Marks
-pub mod SizeFixed
+pub mod BlockData
 pub mod Sizes
 pub mod Walks
 pub mod Sized

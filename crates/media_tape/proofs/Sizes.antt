@@ -6,15 +6,16 @@ use Rattle.std.proofs.lemmas.List.{reverse-append, map-append, take-map, drop-ma
 use Rattle.std.proofs.lemmas.List.Elements.{All-head, All-tail, All-nil, All-cons, All-append, All-drop, All-take}
 use Rattle.std.proofs.lemmas.List.Sums.{sum_by-cons}
 use Rattle.media_tape.specs.Items.{Item, Record, Filemark, size, size_of}
-use Rattle.media_tape.specs.Index.{mark_size}
+use Rattle.tape_index.specs.Index.{mark_size}
 use Rattle.media_tape.specs.Tape.{TapeState}
-use Rattle.media_tape.specs.Space.{Way, way, one_more, ahead, spaced_to, tape_spaced}
-use Rattle.media_tape.specs.SizeSpace.{further, size_way, size_way_from}
+use Rattle.media_tape.specs.Space.{way, one_more, ahead, tape_spaced}
+use Rattle.tape_index.specs.Way.{Way, spaced_to}
+use Rattle.tape_index.specs.SizeSpace.{further, size_way, size_way_from}
 use Rattle.media_tape.proofs.Items.{HasBytes}
-use Rattle.media_tape.specs.declared.outcome.Over.{Over}
-use Rattle.media_tape.specs.declared.outcome.Over.TheVariants.{Records, Filemarks}
-use Rattle.media_tape.specs.declared.outcome.Direction.{Direction}
-use Rattle.media_tape.specs.declared.outcome.Direction.TheVariants.{Forward, Backward}
+use Rattle.tape_index.specs.declared.outcome.Over.{Over}
+use Rattle.tape_index.specs.declared.outcome.Over.TheVariants.{Records, Filemarks}
+use Rattle.tape_index.specs.declared.outcome.Direction.{Direction}
+use Rattle.tape_index.specs.declared.outcome.Direction.TheVariants.{Forward, Backward}
 
 pub sum-sizes : (items : List Item) → sum (map size items) ≡ size_of items
 sum-sizes [] = refl

@@ -4,15 +4,16 @@ use Rattle.std.proofs.Common.{drop, reverse, map, refl, ap, sym, ◌∙◌, arit
 use Rattle.std.proofs.lemmas.List.{append-nil, take_at, drop_at, length-append, length-map, length-reverse, reverse-append, append_assoc}
 use Rattle.media_tape.specs.Items.{Item, Record, Filemark}
 use Rattle.media_tape.specs.Tape.{TapeState, items, located_at, write_told, tape_written, wrote, wrote_if_told}
-use Rattle.media_tape.specs.Space.{Way, way, one_more, spaced_told, tape_spaced}
+use Rattle.media_tape.specs.Space.{way, one_more, spaced_told, tape_spaced}
+use Rattle.tape_index.specs.Way.{Way}
 use Rattle.media_tape.specs.Laws.{IsReadBack}
 use Rattle.media_tape.proofs.Sizes.{map-reverse}
 use Rattle.media_tape.specs.declared.outcome.Written.{Written}
 use Rattle.media_tape.specs.declared.outcome.Written.TheVariants as written
-use Rattle.media_tape.specs.declared.outcome.Over.TheVariants.{Records}
-use Rattle.media_tape.specs.declared.outcome.Direction.{Direction}
-use Rattle.media_tape.specs.declared.outcome.Direction.TheVariants.{Forward, Backward}
-use Rattle.media_tape.specs.declared.outcome.Spaced.TheVariants as spaced
+use Rattle.tape_index.specs.declared.outcome.Over.TheVariants.{Records}
+use Rattle.tape_index.specs.declared.outcome.Direction.{Direction}
+use Rattle.tape_index.specs.declared.outcome.Direction.TheVariants.{Forward, Backward}
+use Rattle.tape_index.specs.declared.outcome.Spaced.TheVariants as spaced
 
 wrote-told : (told : Written) (others : List Item) (tape : TapeState) → told ≢ written.Refused → wrote_if_told told others tape ≡ wrote others tape
 wrote-told written.Whole others tape some = refl

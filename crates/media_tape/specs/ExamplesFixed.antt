@@ -4,7 +4,7 @@ use Rattle.std.specs.Prelude.{◌≡◌, ℕ, List, [], ◌∷◌, ◌++◌, tru
 use Rattle.media_tape.specs.Items.{Item, Record, Filemark}
 use Rattle.media_tape.specs.Tape.{TapeState}
 use Rattle.media_tape.specs.Fixed.{fixed, tape_read_fixed, tape_written_fixed}
-use Rattle.media_tape.specs.declared.outcome.FixedEnd.TheVariants as end
+use Rattle.tape_index.specs.declared.outcome.FixedEnd.TheVariants as end
 
 abbrev tape_of : List Item → List Item → TapeState
 tape_of before after = record {

@@ -2,9 +2,9 @@
 use Rattle.std.specs.Prelude.{◌≡◌, List, [], ◌∷◌, refl}
 use Rattle.media_tape.specs.Items.{Item, Record, Filemark}
 use Rattle.media_tape.specs.Space.{way}
-use Rattle.media_tape.specs.declared.outcome.Over.TheVariants.{Records, Filemarks}
-use Rattle.media_tape.specs.declared.outcome.Direction.TheVariants.{Forward, Backward}
-use Rattle.media_tape.specs.declared.outcome.Spaced.TheVariants as spaced
+use Rattle.tape_index.specs.declared.outcome.Over.TheVariants.{Records, Filemarks}
+use Rattle.tape_index.specs.declared.outcome.Direction.TheVariants.{Forward, Backward}
+use Rattle.tape_index.specs.declared.outcome.Spaced.TheVariants as spaced
 
 abbrev three : List Item
 three = Record (97 ∷ []) ∷ Filemark ∷ Record (98 ∷ []) ∷ []

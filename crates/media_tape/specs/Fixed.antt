@@ -2,10 +2,11 @@
 use Rattle.std.specs.Prelude.{◌≡◌, ℕ, zero, suc, ◌+◌, ◌-◌, ◌*◌, ◌/◌, ◌<◌, ◌==◌, ◌||◌, min, nat_lt, List, [], ◌∷◌, ◌++◌, length, take, drop}
 use Rattle.std.specs.Prelude.{Bool, false, if◌then◌else◌}
 use Rattle.media_tape.specs.Items.{Item, Record, Filemark, size_of}
+use Rattle.tape_index.specs.SizeFixed.{fixed_passed}
 use Rattle.media_tape.specs.Tape.{TapeState, wrote}
-use Rattle.media_tape.specs.declared.outcome.FixedEnd.{FixedEnd}
-use Rattle.media_tape.specs.declared.outcome.FixedEnd.TheVariants as end
-use Rattle.media_tape.specs.declared.outcome.FixedRead.{FixedRead}
+use Rattle.tape_index.specs.declared.outcome.FixedEnd.{FixedEnd}
+use Rattle.tape_index.specs.declared.outcome.FixedEnd.TheVariants as end
+use Rattle.tape_index.specs.declared.outcome.FixedRead.{FixedRead}
 use Rattle.media_tape.specs.declared.outcome.FixedWritten.{FixedWritten}
 use Rattle.media_tape.specs.declared.outcome.FixedWritten.TheVariants as fixed_written
 
@@ -33,16 +34,6 @@ fixed (suc count) block_length (Filemark ∷ items) = ending end.Filemark
 fixed (suc count) block_length (Record bytes ∷ items) =
     if length bytes == block_length then giving bytes (fixed count block_length items)
     else ending (end.Length (length bytes))
-
--- SSC-4, own for a record of another length: what ended them is passed, if it is an item
-abbrev pub passed_last : FixedEnd → ℕ
-passed_last end.Whole = 0
-passed_last end.Filemark = 1
-passed_last end.EndOfData = 0
-passed_last (end.Length length) = 1
-
-abbrev pub fixed_passed : FixedRead → ℕ
-fixed_passed read = read.given + passed_last read.ended
 
 abbrev pub fixed_told : ℕ → ℕ → TapeState → FixedRead
 fixed_told count block_length tape =

@@ -4,9 +4,9 @@ use Rattle.media_tape.specs.Items.{Record}
 use Rattle.media_tape.specs.Tape.{TapeState, located_at, write_told, tape_written}
 use Rattle.media_tape.specs.Space.{spaced_told, tape_spaced}
 use Rattle.media_tape.specs.declared.outcome.Written.TheVariants as written
-use Rattle.media_tape.specs.declared.outcome.Over.TheVariants.{Records}
-use Rattle.media_tape.specs.declared.outcome.Direction.TheVariants.{Forward, Backward}
-use Rattle.media_tape.specs.declared.outcome.Spaced.TheVariants as spaced
+use Rattle.tape_index.specs.declared.outcome.Over.TheVariants.{Records}
+use Rattle.tape_index.specs.declared.outcome.Direction.TheVariants.{Forward, Backward}
+use Rattle.tape_index.specs.declared.outcome.Spaced.TheVariants as spaced
 
 -- a record of these bytes that is written and not refused, and the position set before it again
 abbrev pub before_written : List ℕ → TapeState → TapeState

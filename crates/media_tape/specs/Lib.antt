@@ -3,10 +3,7 @@ pub mod Items
 pub mod Tape
 pub mod Space
 pub mod Fixed
-pub mod Index
-pub mod Runs
-pub mod SizeSpace
-pub mod SizeFixed
+pub mod BlockData
 pub mod Writing
 pub mod Window
 pub mod Fault

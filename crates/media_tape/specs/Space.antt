@@ -1,26 +1,17 @@
 -- SPACE (6) (SSC-4): from item to item, over records or over filemarks, after the position or before it.
-use Rattle.std.specs.Prelude.{ℕ, zero, suc, ◌+◌, ◌-◌, List, [], ◌∷◌, length, reverse}
+use Rattle.std.specs.Prelude.{ℕ, zero, suc, List, [], ◌∷◌, length, reverse}
 use Rattle.media_tape.specs.Items.{Item, Record, Filemark}
 use Rattle.media_tape.specs.Tape.{TapeState, items, located_at}
-use Rattle.media_tape.specs.declared.outcome.Over.{Over}
-use Rattle.media_tape.specs.declared.outcome.Over.TheVariants.{Records, Filemarks}
-use Rattle.media_tape.specs.declared.outcome.Direction.{Direction}
-use Rattle.media_tape.specs.declared.outcome.Direction.TheVariants.{Forward, Backward}
-use Rattle.media_tape.specs.declared.outcome.Spaced.{Spaced}
-use Rattle.media_tape.specs.declared.outcome.Spaced.TheVariants as spaced
-
--- the number of items passed, and what ended the spacing
-pub record Way : Type 0 where
-  pub passed : ℕ
-  pub told : Spaced
+use Rattle.tape_index.specs.Way.{Way, edge, spaced_to}
+use Rattle.tape_index.specs.declared.outcome.Over.{Over}
+use Rattle.tape_index.specs.declared.outcome.Over.TheVariants.{Records, Filemarks}
+use Rattle.tape_index.specs.declared.outcome.Direction.{Direction}
+use Rattle.tape_index.specs.declared.outcome.Direction.TheVariants.{Forward, Backward}
+use Rattle.tape_index.specs.declared.outcome.Spaced.{Spaced}
+use Rattle.tape_index.specs.declared.outcome.Spaced.TheVariants as spaced
 
 abbrev pub one_more : Way → Way
 one_more way = record { passed = suc way.passed; told = way.told }
-
--- no item is left: the end of data, or the beginning of the partition
-abbrev pub edge : Direction → ℕ → Spaced
-edge Forward left = spaced.EndOfData left
-edge Backward left = spaced.Beginning left
 
 -- SSC-4: spacing over records ends after a filemark, which is not counted; spacing over filemarks passes records
 abbrev pub way : Direction → Over → ℕ → List Item → Way
@@ -35,10 +26,6 @@ way direction Filemarks (suc left) (Filemark ∷ items) = one_more (way directio
 abbrev pub ahead : Direction → TapeState → List Item
 ahead Forward tape = tape.after
 ahead Backward tape = reverse tape.before
-
-abbrev pub spaced_to : Direction → ℕ → ℕ → ℕ
-spaced_to Forward position passed = position + passed
-spaced_to Backward position passed = position - passed
 
 -- SPACE (6) with the code for logical blocks, or for filemarks
 abbrev pub spaced_told : Direction → Over → ℕ → TapeState → Spaced

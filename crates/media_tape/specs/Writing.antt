@@ -1,6 +1,6 @@
 -- What is written to a store, and what remains of it if a write to its end failed.
 use Rattle.std.specs.Prelude.{◌≡◌, ℕ, ◌*◌, ◌≤◌, ◌<◌, ◌⊎◌, min, nat_lt, Bool, true, false, List, ◌++◌, length, take, map, replicate, if◌then◌else◌}
-use Rattle.media_tape.specs.Index.{mark_size, most_size}
+use Rattle.tape_index.specs.Index.{mark_size, most_size}
 use Rattle.media_tape.specs.Items.{size, items_of}
 use Rattle.media_tape.specs.Tape.{TapeState, wrote_if_told, synced_if_told, written_synced, marked_synced}
 use Rattle.media_tape.specs.declared.outcome.FixedWritten.{FixedWritten}

@@ -10,9 +10,7 @@
 //! filemark has no data, and a length above [`MOST_BYTES`] begins no item.
 //!
 //! [`Tape::open`] reads these lengths once, and reports the first offset at which no whole item begins. It keeps the
-//! sizes of the items as runs of one size, in which all other calls find offsets. A run takes 24 bytes, however many
-//! items it has. So the runs take at most 24 bytes for each item, if no two neighbours have the same size. While their
-//! list grows they take up to twice that.
+//! sizes of the items in an index (`tape_index`), in which all other calls find offsets.
 //!
 //! If the store did not fail in a call:
 //!
@@ -40,14 +38,11 @@
 #![tactic(auto)]
 
 mod fault;
-mod index;
 mod item;
 pub mod laws;
 mod outcome;
 mod read;
 mod reading;
-mod run;
-mod space;
 mod tape;
 mod walk;
 mod window;
@@ -57,7 +52,6 @@ mod zeros;
 
 pub use fault::{NotOpened, TapeOpenFault};
 pub use item::MOST_BYTES;
-pub use outcome::{
-    Direction, FixedEnd, FixedRead, FixedWritten, Located, Over, Passed, Spaced, Written,
-};
+pub use outcome::{FixedWritten, Located, Passed, Written};
 pub use tape::Tape;
+pub use tape_index::{Direction, FixedEnd, FixedRead, Over, Spaced};

@@ -3,7 +3,7 @@
 ghost use Rattle.std.specs.Prelude.{◌≡◌, ◌+◌, ◌*◌, ◌≤◌, ◌<◌, ◌^◌, ◌++◌, length, drop, slice_range, IsTrue, IsOk, IfOk, OnOk, OnErr};
 ghost use Rattle.media_store.specs.Failures.{counted};
 ghost use Rattle.media_tape.specs.Items.{most_bytes};
-ghost use Rattle.media_tape.specs.SizeFixed.{data_in};
+ghost use Rattle.media_tape.specs.BlockData.{data_in};
 
 use crate::item::LENGTHS;
 use bytes::BytesMut;

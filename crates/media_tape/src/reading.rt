@@ -7,12 +7,12 @@ ghost use Rattle.media_tape.specs.Tape.{read_told, passed_length, first_data, ta
 ghost use Rattle.media_tape.specs.Fixed.{fixed_told, fixed_data, tape_read_fixed};
 ghost use Rattle.media_tape.specs.declared.outcome.Passed.TheVariants as passed;
 
-use crate::outcome::{FixedRead, Passed, passed_blocks, passed_item};
+use crate::outcome::{Passed, passed_item};
 use crate::read::{LENGTH, read_behind, read_blocks};
-use crate::run::MARK_SIZE;
 use crate::tape::Tape;
 use bytes::BytesMut;
 use media_store::{Store, StoreFault};
+use tape_index::{FixedRead, MARK_SIZE, passed_blocks};
 use target_limits::Memory;
 
 impl<S: Store> Tape<S> {

@@ -8,12 +8,12 @@ ghost use Rattle.media_tape.specs.Space.{spaced_told, tape_spaced, tape_ended};
 ghost use Rattle.media_tape.specs.declared.fault.TapeOpenFault.TheVariants.{OutOfMemory};
 
 use crate::fault::{NotOpened, TapeOpenFault};
-use crate::index::Index;
-use crate::outcome::{Direction, Located, Over, Spaced};
+use crate::outcome::Located;
 use crate::walk::walk;
 use media_store::Store;
 use std::alloc::Global;
 use std::marker::Model;
+use tape_index::{Direction, Index, Over, Spaced};
 
 /// Records and filemarks in a store, and a position among them. Lengths and sizes are in bytes.
 #[derive(Drop)]

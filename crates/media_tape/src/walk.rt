@@ -6,12 +6,11 @@ ghost use Rattle.media_tape.specs.Items.{IsSize, items_of, size, size_of};
 ghost use Rattle.media_tape.specs.declared.fault.TapeOpenFault.TheVariants.{OutOfMemory};
 
 use crate::fault::TapeOpenFault;
-use crate::index::Index;
 use crate::item::item_at;
-use crate::run::MARK_SIZE;
 use crate::window::Window;
 use media_store::Store;
 use std::alloc::Global;
+use tape_index::{Index, MARK_SIZE};
 
 /// Reads the sizes of the items below an end, up to the first that is not whole.
 pub(crate) fn walk<S: Store>(alloc: Global, store: &mut S, end: u64) -> Result<Index, TapeOpenFault>

@@ -7,11 +7,11 @@ ghost use Rattle.media_tape.specs.Fixed.{blocks_of};
 ghost use Rattle.media_tape.specs.Writing.{KeepsBefore, StandsBetween, bytes_of, count_of, each_size, is_synced};
 
 use crate::item::LENGTHS;
-use crate::run::MARK_SIZE;
 use crate::zeros::write_zeros;
 use byteorder::{BigEndian, ByteOrder};
 use media_store::{Store, StoreFault};
 use std::alloc::{AllocError, Global};
+use tape_index::MARK_SIZE;
 
 /// Logical objects (SSC-4) of one size that are written at once.
 #[derive(Drop)]

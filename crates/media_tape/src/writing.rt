@@ -10,11 +10,11 @@ ghost use Rattle.media_tape.specs.declared.outcome.FixedWritten.TheVariants as f
 ghost use Rattle.media_tape.specs.declared.outcome.Written.TheVariants as written;
 
 use crate::outcome::{FixedWritten, Written};
-use crate::run::MARK_SIZE;
 use crate::tape::Tape;
 use crate::write::{Objects, cut_at, spelled, write_objects};
 use media_store::{Store, StoreFault};
 use std::alloc::AllocError;
+use tape_index::MARK_SIZE;
 use target_limits::Memory;
 
 /// Returns `Early` if items that were written up to this place exceed the early mark, else `Whole`.

@@ -6,9 +6,9 @@ use Rattle.media_store.specs.Failures.{risen}
 use Rattle.media_tape.specs.Items.{Item, Record, Filemark}
 use Rattle.media_tape.specs.Tape.{TapeState}
 use Rattle.media_tape.specs.Fixed.{fixed, fixed_told, fixed_data, tape_read_fixed}
-use Rattle.media_tape.specs.declared.outcome.FixedEnd.{FixedEnd}
-use Rattle.media_tape.specs.declared.outcome.FixedEnd.TheVariants as ended
-use Rattle.media_tape.specs.declared.outcome.FixedRead.{FixedRead}
+use Rattle.tape_index.specs.declared.outcome.FixedEnd.{FixedEnd}
+use Rattle.tape_index.specs.declared.outcome.FixedEnd.TheVariants as ended
+use Rattle.tape_index.specs.declared.outcome.FixedRead.{FixedRead}
 use Rattle.scsi_sense.specs.Done.{Outcome, good, check_condition}
 use Rattle.scsi_cdb.specs.Record.{most_record}
 use Rattle.scsi_cdb.specs.FixedBlocks.{Blocks}

@@ -6,9 +6,9 @@ use Rattle.media_tape.specs.Tape.{TapeState, located_at, located_told, read_told
 use Rattle.media_tape.specs.Tape.{marks_told, tape_marked, erased, is_early}
 use Rattle.media_tape.specs.Fixed.{fixed_told, fixed_data, tape_read_fixed, fixed_written_told, tape_written_fixed}
 use Rattle.media_tape.specs.Space.{spaced_told, tape_spaced, tape_ended}
-use Rattle.media_tape.specs.declared.outcome.FixedEnd.{FixedEnd}
-use Rattle.media_tape.specs.declared.outcome.FixedEnd.TheVariants as ended
-use Rattle.media_tape.specs.declared.outcome.FixedRead.{FixedRead}
+use Rattle.tape_index.specs.declared.outcome.FixedEnd.{FixedEnd}
+use Rattle.tape_index.specs.declared.outcome.FixedEnd.TheVariants as ended
+use Rattle.tape_index.specs.declared.outcome.FixedRead.{FixedRead}
 use Rattle.media_tape.specs.declared.outcome.FixedWritten.{FixedWritten}
 use Rattle.media_tape.specs.declared.outcome.FixedWritten.TheVariants as fixed
 use Rattle.media_tape.specs.declared.outcome.Located.{Located}
@@ -17,12 +17,12 @@ use Rattle.media_tape.specs.declared.outcome.Passed.{Passed}
 use Rattle.media_tape.specs.declared.outcome.Passed.TheVariants as passed
 use Rattle.media_tape.specs.declared.outcome.Written.{Written}
 use Rattle.media_tape.specs.declared.outcome.Written.TheVariants as written
-use Rattle.media_tape.specs.declared.outcome.Spaced.{Spaced}
-use Rattle.media_tape.specs.declared.outcome.Spaced.TheVariants as spaced
-use Rattle.media_tape.specs.declared.outcome.Over.{Over}
-use Rattle.media_tape.specs.declared.outcome.Over.TheVariants as over
-use Rattle.media_tape.specs.declared.outcome.Direction.{Direction}
-use Rattle.media_tape.specs.declared.outcome.Direction.TheVariants as direction
+use Rattle.tape_index.specs.declared.outcome.Spaced.{Spaced}
+use Rattle.tape_index.specs.declared.outcome.Spaced.TheVariants as spaced
+use Rattle.tape_index.specs.declared.outcome.Over.{Over}
+use Rattle.tape_index.specs.declared.outcome.Over.TheVariants as over
+use Rattle.tape_index.specs.declared.outcome.Direction.{Direction}
+use Rattle.tape_index.specs.declared.outcome.Direction.TheVariants as direction
 use Rattle.scsi_sense.specs.Done.{Outcome, good, good_with, good_taking, check_condition}
 use Rattle.scsi_sense.specs.declared.sense.Sense.{Sense}
 use Rattle.scsi_sense.specs.declared.done.Status.TheVariants.{CheckCondition}

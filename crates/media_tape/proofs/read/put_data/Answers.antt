@@ -1,8 +1,8 @@
 use Rattle.std.proofs.Common.{◌≡◌, ◌+◌, ◌-◌, ◌*◌, ◌≤◌, ◌++◌, length, slice_range, drop, List, ℕ, ap, ◌∙◌, refl, arith, append_assoc}
 use Rattle.std.proofs.Math.Nat.{mul-le-mul_right}
 use Rattle.std.proofs.lemmas.List.{length-take-le, length-drop}
-use Rattle.media_tape.specs.SizeFixed.{data_in}
-use Rattle.media_tape.proofs.SizeFixed.{data-more}
+use Rattle.media_tape.specs.BlockData.{data_in}
+use Rattle.media_tape.proofs.BlockData.{data-more}
 use Rattle.media_tape.proofs.read.put_data.Goals as goal
 
 pub loop-i-preserved : goal.loop-i-preserved

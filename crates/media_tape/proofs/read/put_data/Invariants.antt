@@ -1,5 +1,5 @@
 use Rattle.std.proofs.Common.{◌≡◌, ◌+◌, ◌*◌, ◌++◌}
-use Rattle.media_tape.specs.SizeFixed.{data_in}
+use Rattle.media_tape.specs.BlockData.{data_in}
 use Rattle.media_tape.proofs.read.put_data.Given as goal
 
 abbrev pub invariant-loop-i : goal.invariant-loop-i

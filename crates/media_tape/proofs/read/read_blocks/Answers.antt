@@ -1,8 +1,8 @@
 use Rattle.std.proofs.Common.{◌≡◌, ◌+◌, ◌*◌, ◌++◌, length, slice_range, List, ℕ, ap, ◌∙◌, arith}
 use Rattle.std.proofs.lemmas.List.{length-append}
 use Rattle.std.proofs.lemmas.Result.{on_ok_weaker}
-use Rattle.media_tape.specs.SizeFixed.{data_in}
-use Rattle.media_tape.proofs.SizeFixed.{data-one, data-slice, length-data}
+use Rattle.media_tape.specs.BlockData.{data_in}
+use Rattle.media_tape.proofs.BlockData.{data-one, data-slice, length-data}
 use Rattle.media_tape.proofs.read.read_blocks.Goals as goal
 
 pub returns-then-count-eq1-clause-read : goal.returns-then-count-eq1-clause-read

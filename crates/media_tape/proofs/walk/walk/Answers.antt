@@ -2,7 +2,7 @@ use Rattle.std.proofs.Common.{◌+◌, take, sum, ap, ◌∙◌, arith}
 use Rattle.std.specs.Prelude.{replicate}
 use Rattle.std.proofs.lemmas.List.Elements.{All-append}
 use Rattle.media_tape.specs.Items.{IsSize, items_of}
-use Rattle.media_tape.proofs.Alike.{sum-append, sum-replicate}
+use Rattle.tape_index.proofs.Alike.{sum-append, sum-replicate}
 use Rattle.media_tape.proofs.Sizes.{sum-sizes}
 use Rattle.media_tape.proofs.Sized.{are_sizes}
 use Rattle.media_tape.proofs.Walks.{walked-next, walked-last}

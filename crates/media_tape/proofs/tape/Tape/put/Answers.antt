@@ -9,7 +9,7 @@ use Rattle.media_tape.specs.Tape.{size_told}
 use Rattle.media_tape.specs.declared.outcome.Written.{Written}
 use Rattle.media_tape.specs.declared.outcome.Written.TheVariants as written
 use Rattle.media_tape.specs.declared.write.Objects.{Objects}
-use Rattle.media_tape.proofs.Alike.{sum-replicate}
+use Rattle.tape_index.proofs.Alike.{sum-replicate}
 use Rattle.media_tape.proofs.Sizes.{sum-sizes}
 use Rattle.media_tape.proofs.Sized.{are_sizes}
 use Rattle.media_tape.proofs.Indexed.{placed, HasEnd, written_there, left, left_indexed, are_left, are_cut, cut_left, cut_indexed}

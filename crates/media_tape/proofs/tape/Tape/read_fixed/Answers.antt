@@ -3,11 +3,12 @@ use Rattle.std.proofs.Math.Nat.{mul-le-mul_right}
 use Rattle.std.proofs.Math.Seq.{take-add}
 use Rattle.std.proofs.lemmas.List.{drop-drop, length-drop, take-append-drop}
 use Rattle.media_tape.specs.Items.{items_sized}
-use Rattle.media_tape.specs.Fixed.{fixed, fixed_passed}
-use Rattle.media_tape.specs.SizeFixed.{data_in}
-use Rattle.media_tape.specs.declared.outcome.FixedRead.{FixedRead}
-use Rattle.media_tape.proofs.Alike.{sum-append}
-use Rattle.media_tape.proofs.SizeFixed.{fixed-within}
+use Rattle.media_tape.specs.Fixed.{fixed}
+use Rattle.tape_index.specs.SizeFixed.{fixed_passed}
+use Rattle.media_tape.specs.BlockData.{data_in}
+use Rattle.tape_index.specs.declared.outcome.FixedRead.{FixedRead}
+use Rattle.tape_index.proofs.Alike.{sum-append}
+use Rattle.tape_index.proofs.SizeFixed.{fixed-within}
 use Rattle.media_tape.proofs.Fixed.{IsRead, is_read, told_of, read-sized}
 use Rattle.media_tape.proofs.tape.Tape.read_fixed.Given as given
 use Rattle.media_tape.proofs.tape.Tape.read_fixed.Goals as goal

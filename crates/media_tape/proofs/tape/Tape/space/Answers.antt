@@ -1,7 +1,7 @@
 use Rattle.std.proofs.Common.{take, drop, sym, ap, ◌∙◌, arith}
 use Rattle.media_tape.specs.Items.{items_sized}
 use Rattle.media_tape.specs.Tape.{TapeState}
-use Rattle.media_tape.specs.Space.{Way}
+use Rattle.tape_index.specs.Way.{Way}
 use Rattle.media_tape.proofs.Sized.{sizes-sized, length-sized, items_sized-have}
 use Rattle.media_tape.proofs.Sizes.{ways_ahead, spaced_is}
 use Rattle.media_tape.proofs.tape.Tape.space.Goals as goal

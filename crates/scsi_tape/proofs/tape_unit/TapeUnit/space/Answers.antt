@@ -1,7 +1,7 @@
 use Rattle.std.proofs.Common.{ap, ◌∙◌}
 use Rattle.media_tape.specs.Space.{spaced_told, tape_spaced}
-use Rattle.media_tape.specs.declared.outcome.Over.{Over}
-use Rattle.media_tape.specs.declared.outcome.Direction.{Direction}
+use Rattle.tape_index.specs.declared.outcome.Over.{Over}
+use Rattle.tape_index.specs.declared.outcome.Direction.{Direction}
 use Rattle.scsi_cdb.specs.declared.tape.TapeCommand.TheVariants.{Space}
 use Rattle.scsi_tape.specs.Commands.{toward, space_outcome}
 use Rattle.scsi_tape.specs.State.{TapeUnitState}

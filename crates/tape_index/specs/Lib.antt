@@ -1,0 +1,5 @@
+pub mod Way
+pub mod Index
+pub mod Runs
+pub mod SizeSpace
+pub mod SizeFixed
