@@ -5,24 +5,24 @@ use Rattle.std.proofs.lemmas.Bool.{false≢true}
 use Rattle.scsi_sense.specs.Nexus.{NexusName, same_nexus}
 use Rattle.scsi_cdb.specs.declared.operation.ReservationClass.{ReservationClass}
 use Rattle.scsi_cdb.specs.declared.operation.ReservationClass.TheVariants.{Always, Reading, Writing}
-use Rattle.scsi_reserve.specs.ReservationType.{is_of_all}
-use Rattle.scsi_reserve.specs.Conflict.{conflict}
-use Rattle.scsi_reserve.specs.Registration.{own_key, is_held_by, is_held_with}
-use Rattle.scsi_reserve.specs.Request.{is_key}
+use Rattle.scsi_conflict.specs.ReservationType.{is_of_all}
+use Rattle.scsi_conflict.specs.Conflict.{conflict}
+use Rattle.scsi_conflict.specs.Registration.{is_key, own_key, is_held_by, is_held_with}
 use Rattle.scsi_reserve.specs.News.{is_chosen, without}
-use Rattle.scsi_reserve.specs.Table.{TableState, is_allowed, is_allowed_by}
+use Rattle.scsi_reserve.specs.Table.{TableState, is_allowed}
+use Rattle.scsi_conflict.specs.Allowed.{is_allowed_by}
 use Rattle.scsi_reserve.specs.Out.{taken_over, preempted, is_held_by_one}
 use Rattle.scsi_reserve.specs.Laws.{AreOnce}
 use Rattle.scsi_reserve.proofs.Names.{same_nexus-sym, same_nexus-true}
 use Rattle.scsi_reserve.proofs.Once.{own_key-kept, own_key-filter}
-use Rattle.scsi_reserve.specs.declared.conflict.Who.TheVariants.{Holder, Neither}
+use Rattle.scsi_conflict.specs.declared.conflict.Who.TheVariants.{Holder, Neither}
 use Rattle.scsi_reserve.specs.declared.news.Others.TheVariants.{WithKey}
-use Rattle.scsi_reserve.specs.declared.registration.Row.{Row}
-use Rattle.scsi_reserve.specs.declared.registration.Reservation.{Reservation}
-use Rattle.scsi_reserve.specs.declared.reservation_type.ReservationType.{ReservationType}
-use Rattle.scsi_reserve.specs.declared.reservation_type.ReservationType.TheVariants.{WriteExclusive, ExclusiveAccess, WriteExclusiveRegistrantsOnly}
-use Rattle.scsi_reserve.specs.declared.reservation_type.ReservationType.TheVariants.{ExclusiveAccessRegistrantsOnly, WriteExclusiveAllRegistrants}
-use Rattle.scsi_reserve.specs.declared.reservation_type.ReservationType.TheVariants.{ExclusiveAccessAllRegistrants}
+use Rattle.scsi_conflict.specs.declared.registration.Row.{Row}
+use Rattle.scsi_conflict.specs.declared.registration.Reservation.{Reservation}
+use Rattle.scsi_conflict.specs.declared.reservation_type.ReservationType.{ReservationType}
+use Rattle.scsi_conflict.specs.declared.reservation_type.ReservationType.TheVariants.{WriteExclusive, ExclusiveAccess, WriteExclusiveRegistrantsOnly}
+use Rattle.scsi_conflict.specs.declared.reservation_type.ReservationType.TheVariants.{ExclusiveAccessRegistrantsOnly, WriteExclusiveAllRegistrants}
+use Rattle.scsi_conflict.specs.declared.reservation_type.ReservationType.TheVariants.{ExclusiveAccessAllRegistrants}
 
 conflict-holder : (kind : ReservationType) (class : ReservationClass) → conflict kind Holder class ≡ false
 conflict-holder WriteExclusive Always = refl

@@ -2,4 +2,3 @@ pub mod Names
 pub mod Once
 pub mod Stays
 pub mod Fenced
-pub mod Conflicts

@@ -3,9 +3,9 @@ use Rattle.std.proofs.Common.{◌≡◌, ℕ, List, [], ◌∷◌, ◌++◌, map
 use Rattle.std.specs.List.{filter}
 use Rattle.scsi_sense.specs.Nexus.{NexusName, same_nexus}
 use Rattle.scsi_reserve.specs.Laws.{AreOnce}
-use Rattle.scsi_reserve.specs.Registration.{own_key, with_key}
+use Rattle.scsi_conflict.specs.Registration.{own_key, with_key}
 use Rattle.scsi_reserve.proofs.Names.{same_nexus-sym}
-use Rattle.scsi_reserve.specs.declared.registration.Row.{Row}
+use Rattle.scsi_conflict.specs.declared.registration.Row.{Row}
 
 pub not_first : (b : Bool) (key : ℕ) (others : Option ℕ) → (if b then Some key else others) ≡ None → (b ≡ false) × (others ≡ None)
 not_first true key others none = cc

@@ -3,8 +3,8 @@ use Rattle.std.proofs.Common.{◌≡◌, ℕ, Bool, true, false, Option, Some, N
 use Rattle.std.specs.Prelude.{nat_lt, length, not, ◌==◌, ◌&&◌}
 use Rattle.scsi_sense.specs.Nexus.{NexusName, same_nexus}
 use Rattle.scsi_sense.specs.declared.condition.Condition.{Condition}
-use Rattle.scsi_reserve.specs.Registration.{own_key, has_key, is_held_by}
-use Rattle.scsi_reserve.specs.ReservationType.{is_same_type}
+use Rattle.scsi_conflict.specs.Registration.{own_key, has_key, is_held_by}
+use Rattle.scsi_conflict.specs.ReservationType.{is_same_type}
 use Rattle.scsi_reserve.specs.News.{is_chosen}
 use Rattle.scsi_reserve.specs.Request.{may_ask}
 use Rattle.scsi_reserve.specs.Ending.{Ending}
@@ -15,8 +15,8 @@ use Rattle.scsi_reserve.specs.Laws.{AreOnce}
 use Rattle.scsi_reserve.proofs.Once.{AreOnce-filter, AreOnce-set, AreOnce-append}
 use Rattle.scsi_reserve.specs.declared.news.Others.{Others}
 use Rattle.scsi_reserve.specs.declared.news.Others.TheVariants.{All, WithKey}
-use Rattle.scsi_reserve.specs.declared.registration.Reservation.{Reservation}
-use Rattle.scsi_reserve.specs.declared.reservation_type.ReservationType.{ReservationType}
+use Rattle.scsi_conflict.specs.declared.registration.Reservation.{Reservation}
+use Rattle.scsi_conflict.specs.declared.reservation_type.ReservationType.{ReservationType}
 use Rattle.scsi_reserve.specs.declared.request.Request.{Request}
 use Rattle.scsi_reserve.specs.declared.request.Request.TheVariants.{Register, Reserve, Release, Clear, Preempt, RegisterAndIgnoreExistingKey}
 use Rattle.scsi_reserve.specs.declared.parameter_list.ParameterList.{ParameterList}

@@ -8,18 +8,18 @@ use Rattle.scsi_sense.specs.declared.condition.Condition.TheVariants.{InvalidRel
 use Rattle.scsi_sense.specs.declared.condition.Condition.TheVariants.{ParameterListLengthError}
 use Rattle.scsi_cdb.specs.declared.operation.ReservationClass.TheVariants.{Reading, Writing}
 use Rattle.scsi_cdb.specs.PersistentReserve.{is_type}
-use Rattle.scsi_reserve.specs.ReservationType.{all_types, type_of}
-use Rattle.scsi_reserve.specs.Conflict.{conflict}
+use Rattle.scsi_conflict.specs.ReservationType.{all_types, type_of}
+use Rattle.scsi_conflict.specs.Conflict.{conflict}
 use Rattle.scsi_reserve.specs.Ending.{Ending, ended_with}
 use Rattle.scsi_reserve.specs.Table.{TableState, empty_table, is_allowed}
 use Rattle.scsi_reserve.specs.Out.{registered, unregistered, reserved, released, cleared, taken_over, removed, preempted, out_of}
 use Rattle.scsi_reserve.specs.ReadIn.{data_of, keys_data, reservation_data}
-use Rattle.scsi_reserve.specs.declared.conflict.Who.TheVariants.{Holder, Registrant, Neither}
+use Rattle.scsi_conflict.specs.declared.conflict.Who.TheVariants.{Holder, Registrant, Neither}
 use Rattle.scsi_reserve.specs.declared.outcome.Ended.TheVariants.{Good, ReservationConflict, CheckCondition}
 use Rattle.scsi_cdb.specs.declared.persistent_reserve.ReadAction.TheVariants.{ReadKeys, ReadReservation, ReportCapabilities}
-use Rattle.scsi_reserve.specs.declared.reservation_type.ReservationType.{ReservationType}
-use Rattle.scsi_reserve.specs.declared.reservation_type.ReservationType.TheVariants.{WriteExclusive, WriteExclusiveRegistrantsOnly}
-use Rattle.scsi_reserve.specs.declared.reservation_type.ReservationType.TheVariants.{WriteExclusiveAllRegistrants, ExclusiveAccess}
+use Rattle.scsi_conflict.specs.declared.reservation_type.ReservationType.{ReservationType}
+use Rattle.scsi_conflict.specs.declared.reservation_type.ReservationType.TheVariants.{WriteExclusive, WriteExclusiveRegistrantsOnly}
+use Rattle.scsi_conflict.specs.declared.reservation_type.ReservationType.TheVariants.{WriteExclusiveAllRegistrants, ExclusiveAccess}
 use Rattle.scsi_cdb.specs.declared.persistent_reserve.ServiceAction.TheVariants.{Register, Reserve, Release, Clear, Preempt, RegisterAndIgnoreExistingKey}
 
 -- ---- what is forbidden

@@ -3,12 +3,12 @@ use Rattle.std.specs.Prelude.{◌≡◌, ℕ, List, [], ◌∷◌, ◌==◌, tru
 use Rattle.scsi_sense.specs.Nexus.{NexusName, same_nexus}
 use Rattle.scsi_cdb.specs.declared.operation.ReservationClass.{ReservationClass}
 use Rattle.scsi_cdb.specs.declared.operation.ReservationClass.TheVariants.{Writing}
-use Rattle.scsi_reserve.specs.Registration.{own_key, is_held_by, is_held_with}
+use Rattle.scsi_conflict.specs.Registration.{own_key, is_held_by, is_held_with}
 use Rattle.scsi_reserve.specs.Table.{TableState, is_allowed}
 use Rattle.scsi_reserve.specs.Out.{preempted, out_of}
-use Rattle.scsi_reserve.specs.declared.registration.Row.{Row}
-use Rattle.scsi_reserve.specs.declared.registration.Reservation.{Reservation}
-use Rattle.scsi_reserve.specs.declared.reservation_type.ReservationType.{ReservationType}
+use Rattle.scsi_conflict.specs.declared.registration.Row.{Row}
+use Rattle.scsi_conflict.specs.declared.registration.Reservation.{Reservation}
+use Rattle.scsi_conflict.specs.declared.reservation_type.ReservationType.{ReservationType}
 use Rattle.scsi_cdb.specs.declared.persistent_reserve.ServiceAction.{ServiceAction}
 
 -- SPC-4 "Registering": a nexus is registered at most once

@@ -1,8 +1,8 @@
 pub use Rattle.scsi_sense.specs.Nexus
-pub mod ReservationType
-pub mod Conflict
+pub use Rattle.scsi_conflict.specs.ReservationType
+pub use Rattle.scsi_conflict.specs.Conflict
+pub use Rattle.scsi_conflict.specs.Registration
 pub mod Request
-pub mod Registration
 pub mod Ending
 pub mod News
 pub mod Table

@@ -3,7 +3,7 @@ use Rattle.std.specs.Prelude.{ℕ, List, [], ◌∷◌, filter, Bool, true, not,
 use Rattle.std.specs.List.{flat_map}
 use Rattle.scsi_sense.specs.Nexus.{NexusName, same_nexus}
 use Rattle.scsi_sense.specs.declared.condition.Attention.{Attention}
-use Rattle.scsi_reserve.specs.declared.registration.Row.{Row}
+use Rattle.scsi_conflict.specs.declared.registration.Row.{Row}
 use Rattle.scsi_reserve.specs.declared.outcome.Due.{Due}
 use Rattle.scsi_reserve.specs.declared.news.Others.{Others}
 use Rattle.scsi_reserve.specs.declared.news.Others.TheVariants.{All, WithKey}

@@ -7,8 +7,8 @@ use Rattle.scsi_sense.specs.declared.condition.Attention.TheVariants.{Reservatio
 use Rattle.scsi_sense.specs.declared.condition.Condition.{Condition}
 use Rattle.scsi_sense.specs.declared.condition.Condition.TheVariants.{InvalidFieldInCdb, InvalidFieldInParameterList}
 use Rattle.scsi_sense.specs.declared.condition.Condition.TheVariants.{InvalidReleaseOfPersistentReservation, InsufficientRegistrationResources}
-use Rattle.scsi_reserve.specs.ReservationType.{type_of, is_same_type, is_of_all, is_of_registrants}
-use Rattle.scsi_reserve.specs.Registration.{own_key, has_key, with_key, without_nexus, is_held_by, ends_with, is_held_with}
+use Rattle.scsi_conflict.specs.ReservationType.{type_of, is_same_type, is_of_all, is_of_registrants}
+use Rattle.scsi_conflict.specs.Registration.{own_key, has_key, with_key, without_nexus, is_held_by, ends_with, is_held_with}
 use Rattle.scsi_reserve.specs.Request.{request_of, list_of, may_ask}
 use Rattle.scsi_reserve.specs.Ending.{Ending, good_telling, ended_with}
 use Rattle.scsi_reserve.specs.News.{without, due_of, to_all}
@@ -19,9 +19,9 @@ use Rattle.scsi_reserve.specs.declared.outcome.Due.{Due}
 use Rattle.scsi_reserve.specs.declared.news.Others.{Others}
 use Rattle.scsi_reserve.specs.declared.news.Others.TheVariants.{All, WithKey}
 use Rattle.scsi_reserve.specs.declared.news.News.{News}
-use Rattle.scsi_reserve.specs.declared.registration.Row.{Row}
-use Rattle.scsi_reserve.specs.declared.registration.Reservation.{Reservation}
-use Rattle.scsi_reserve.specs.declared.reservation_type.ReservationType.{ReservationType}
+use Rattle.scsi_conflict.specs.declared.registration.Row.{Row}
+use Rattle.scsi_conflict.specs.declared.registration.Reservation.{Reservation}
+use Rattle.scsi_conflict.specs.declared.reservation_type.ReservationType.{ReservationType}
 use Rattle.scsi_cdb.specs.declared.persistent_reserve.ServiceAction.{ServiceAction}
 use Rattle.scsi_reserve.specs.declared.request.Request.{Request}
 use Rattle.scsi_reserve.specs.declared.request.Request.TheVariants.{Register, Reserve, Release, Clear, Preempt, RegisterAndIgnoreExistingKey}

@@ -2,11 +2,11 @@
 use Rattle.std.specs.Prelude.{ℕ, ◌*◌, List, [], ◌∷◌, ◌++◌, length, replicate, Option, Some, None, unwrap_or, if◌then◌else◌}
 use Rattle.std.specs.Int.{w32, w64, to_be_bytes}
 use Rattle.std.specs.List.{flat_map}
-use Rattle.scsi_reserve.specs.ReservationType.{type_code, is_of_all}
-use Rattle.scsi_reserve.specs.Registration.{own_key}
+use Rattle.scsi_conflict.specs.ReservationType.{type_code, is_of_all}
+use Rattle.scsi_conflict.specs.Registration.{own_key}
 use Rattle.scsi_reserve.specs.Table.{TableState}
-use Rattle.scsi_reserve.specs.declared.registration.Row.{Row}
-use Rattle.scsi_reserve.specs.declared.registration.Reservation.{Reservation}
+use Rattle.scsi_conflict.specs.declared.registration.Row.{Row}
+use Rattle.scsi_conflict.specs.declared.registration.Reservation.{Reservation}
 use Rattle.scsi_cdb.specs.declared.persistent_reserve.ReadAction.{ReadAction}
 use Rattle.scsi_cdb.specs.declared.persistent_reserve.ReadAction.TheVariants.{ReadKeys, ReadReservation, ReportCapabilities}
 

@@ -1,10 +1,11 @@
 -- What PERSISTENT RESERVE OUT requests, and who may request it.
-use Rattle.std.specs.Prelude.{ℕ, List, length, Bool, true, false, not, ◌==◌, Option, Some, None, unwrap_or, Result, Ok, Err, slice_index, bit_and}
+use Rattle.std.specs.Prelude.{ℕ, List, length, Bool, true, not, ◌==◌, Option, Some, None, unwrap_or, Result, Ok, Err, slice_index, bit_and}
 use Rattle.std.specs.Prelude.{if◌then◌else◌}
 use Rattle.byteorder.specs.Endian.{big_from}
 use Rattle.scsi_sense.specs.declared.condition.Condition.{Condition}
 use Rattle.scsi_sense.specs.declared.condition.Condition.TheVariants.{InvalidFieldInCdb, ParameterListLengthError, InvalidFieldInParameterList}
-use Rattle.scsi_reserve.specs.declared.reservation_type.ReservationType.{ReservationType}
+use Rattle.scsi_conflict.specs.Registration.{is_key}
+use Rattle.scsi_conflict.specs.declared.reservation_type.ReservationType.{ReservationType}
 use Rattle.scsi_cdb.specs.declared.persistent_reserve.ServiceAction.{ServiceAction}
 use Rattle.scsi_cdb.specs.declared.persistent_reserve.ServiceAction.TheVariants as action
 use Rattle.scsi_reserve.specs.declared.request.Request.{Request}
@@ -29,11 +30,6 @@ list_of list =
     if not (length list == 24) then Err ParameterListLengthError
     else if not (bit_and (slice_index list 20) 0x0d == 0) then Err InvalidFieldInParameterList
     else Ok (record { key = big_from 0 8 list; action_key = big_from 8 8 list })
-
--- a nexus is registered, and with this key
-abbrev pub is_key : ℕ → Option ℕ → Bool
-is_key key None = false
-is_key key (Some own) = own == key
 
 -- SPC-4 "Registering", "PERSISTENT RESERVE OUT command": whether a nexus may request with this reservation key. It
 -- needs its own key; REGISTER needs 0 if it is not registered; REGISTER AND IGNORE EXISTING KEY accepts any

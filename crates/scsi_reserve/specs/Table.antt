@@ -1,11 +1,10 @@
 -- The registrations and the reservation of a logical unit.
-use Rattle.std.specs.Prelude.{ℕ, ◌+◌, ◌%◌, ◌^◌, List, [], Bool, true, not, Option, Some, None}
+use Rattle.std.specs.Prelude.{ℕ, ◌+◌, ◌%◌, ◌^◌, List, [], Bool, Option, None}
 use Rattle.scsi_sense.specs.Nexus.{NexusName}
 use Rattle.scsi_cdb.specs.declared.operation.ReservationClass.{ReservationClass}
-use Rattle.scsi_reserve.specs.Conflict.{conflict}
-use Rattle.scsi_reserve.specs.Registration.{who_of}
-use Rattle.scsi_reserve.specs.declared.registration.Row.{Row}
-use Rattle.scsi_reserve.specs.declared.registration.Reservation.{Reservation}
+use Rattle.scsi_conflict.specs.Allowed.{is_allowed_by}
+use Rattle.scsi_conflict.specs.declared.registration.Row.{Row}
+use Rattle.scsi_conflict.specs.declared.registration.Reservation.{Reservation}
 
 -- the registrations, in the order of registering; the reservation, if there is one; PRGENERATION
 pub record TableState : Type 0 where
@@ -28,11 +27,6 @@ risen generation = (generation + 1) % 2 ^ 32
 -- SPC-4 "PERSISTENT RESERVE IN command": PRGENERATION counts the changes of registrations
 abbrev pub with_rows : List Row → TableState → TableState
 with_rows rows table = record table { rows = rows; generation = risen table.generation }
-
--- whether a reservation, if there is one, allows a nexus a class of commands
-abbrev pub is_allowed_by : Option Reservation → List Row → NexusName → ReservationClass → Bool
-is_allowed_by None rows nexus class = true
-is_allowed_by (Some reservation) rows nexus class = not (conflict reservation.kind (who_of nexus rows reservation) class)
 
 -- whether a nexus may send a command of a class; otherwise it is a RESERVATION CONFLICT
 abbrev pub is_allowed : NexusName → ReservationClass → TableState → Bool

@@ -26,17 +26,14 @@
 //! preempts by its key can no longer write ([`laws::reservations_hold`]).
 #![tactic(auto)]
 
-mod conflict;
 pub mod laws;
 mod news;
 mod outcome;
 mod parameter_list;
 mod read_in;
-mod registration;
 mod request;
-mod reservation_type;
 mod table;
 
 pub use outcome::{Due, Ended, Outcome};
-pub use reservation_type::ReservationType;
+pub use scsi_conflict::ReservationType;
 pub use table::Table;

@@ -4,7 +4,7 @@ ghost use Rattle.std.specs.Prelude.{◌≡◌, ◌≤◌, length, IfOk};
 ghost use Rattle.scsi_reserve.specs.News.{is_chosen, without, told_to, due_of};
 
 use crate::outcome::Due;
-use crate::registration::Row;
+use scsi_conflict::Row;
 use scsi_sense::{Attention, Nexus};
 use std::alloc::{AllocError, Global};
 

@@ -4,9 +4,9 @@ ghost use Rattle.std.specs.Prelude.{◌≡◌, ◌++◌, IfOk, OnOk};
 ghost use Rattle.std.specs.List.{flat_map};
 ghost use Rattle.scsi_reserve.specs.ReadIn.{key_bytes, keys_data, reservation_data, data_of};
 
-use crate::registration::{Row, own_key};
 use crate::table::Table;
 use scsi_cdb::ReadAction;
+use scsi_conflict::{Row, own_key};
 use std::alloc::AllocError;
 
 /// The types of reservations that exist, and that they are reported (TMV).

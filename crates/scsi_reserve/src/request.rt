@@ -3,8 +3,8 @@
 ghost use Rattle.std.specs.Prelude.{◌≡◌};
 ghost use Rattle.scsi_reserve.specs.Request.{request_of, may_ask};
 
-use crate::reservation_type::ReservationType;
 use scsi_cdb::ServiceAction;
+use scsi_conflict::ReservationType;
 use scsi_sense::Condition;
 
 /// A service action with the type that it needs.

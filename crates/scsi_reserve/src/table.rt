@@ -4,14 +4,14 @@ ghost use Rattle.std.specs.Prelude.{◌≡◌, ◌<◌, length, IfOk, OnErr};
 ghost use Rattle.scsi_reserve.specs.Table.{empty_table, most_rows, is_allowed};
 ghost use Rattle.scsi_reserve.specs.Out.{registered, unregistered, reserved, released, cleared, taken_over, removed, preempted, acted, out_of};
 
-use crate::conflict::{Who, conflict};
 use crate::news::{News, Others};
 use crate::outcome::{Ended, Outcome};
 use crate::parameter_list::ParameterList;
-use crate::registration::{Reservation, Row, has_key, own_key, set_key, take_out};
 use crate::request::Request;
-use crate::reservation_type::ReservationType;
 use scsi_cdb::{ReservationClass, ServiceAction};
+use scsi_conflict::{
+    Reservation, ReservationType, Row, allows, has_key, own_key, set_key, take_out,
+};
 use scsi_sense::{Attention, Condition, Nexus};
 use std::alloc::{AllocError, Global};
 use std::marker::Model;
@@ -55,21 +55,10 @@ impl Table {
     }
 
     /// Returns whether the reservation allows a nexus a command of this class; otherwise it is a RESERVATION CONFLICT.
-    #[tactic(auto, using(crate::proofs::Conflicts::allowed_all))]
     pub fn allows(&self, nexus: &Nexus, class: ReservationClass) -> bool
         ensures { result ≡ is_allowed nexus.now class self.now }
     {
-        match &self.reservation {
-            None => true,
-            Some(reservation) => {
-                // What is allowed to a nexus that is neither is allowed to all, so the registrants are not searched.
-                if !conflict(reservation.kind, Who::Neither, class) {
-                    return true;
-                }
-                let who = reservation.who(self.rows.as_slice(), nexus);
-                !conflict(reservation.kind, who, class)
-            }
-        }
+        allows(&self.reservation, self.rows.as_slice(), nexus, class)
     }
 
     /// Carries out PERSISTENT RESERVE OUT with the SCOPE and TYPE of its command descriptor block, and its parameter

@@ -9,8 +9,8 @@ use Rattle.scsi_cdb.specs.Fault.{invalid_field}
 use Rattle.scsi_reserve.specs.Table.{TableState, empty_table}
 use Rattle.scsi_reserve.specs.Out.{registered, preempted, taken_over, out_of}
 use Rattle.scsi_reserve.specs.ReadIn.{reservation_data}
-use Rattle.scsi_reserve.specs.declared.reservation_type.ReservationType.{ReservationType}
-use Rattle.scsi_reserve.specs.declared.reservation_type.ReservationType.TheVariants.{ExclusiveAccess, WriteExclusiveRegistrantsOnly}
+use Rattle.scsi_conflict.specs.declared.reservation_type.ReservationType.{ReservationType}
+use Rattle.scsi_conflict.specs.declared.reservation_type.ReservationType.TheVariants.{ExclusiveAccess, WriteExclusiveRegistrantsOnly}
 use Rattle.scsi_disk.specs.DiskDevice.{DiskUnit}
 use Rattle.scsi_unit.specs.Device.{Disk}
 use Rattle.scsi_tape.specs.TapeSense.{target_failure}

@@ -1,4 +1,4 @@
-use Rattle.scsi_reserve.specs.ReservationType.{type_of}
+use Rattle.scsi_conflict.specs.ReservationType.{type_of}
 use Rattle.scsi_reserve.specs.Request.{request_of, list_of}
 use Rattle.scsi_reserve.specs.Out.{out_of}
 use Rattle.scsi_reserve.proofs.Stays.{asked_once}

@@ -2,14 +2,14 @@
 use Rattle.std.proofs.Common.{◌≡◌, true, false, refl}
 use Rattle.scsi_cdb.specs.declared.operation.ReservationClass.{ReservationClass}
 use Rattle.scsi_cdb.specs.declared.operation.ReservationClass.TheVariants as class
-use Rattle.scsi_reserve.specs.declared.reservation_type.ReservationType.{ReservationType}
-use Rattle.scsi_reserve.specs.declared.reservation_type.ReservationType.TheVariants.{WriteExclusive, ExclusiveAccess, WriteExclusiveRegistrantsOnly}
-use Rattle.scsi_reserve.specs.declared.reservation_type.ReservationType.TheVariants.{ExclusiveAccessRegistrantsOnly, WriteExclusiveAllRegistrants}
-use Rattle.scsi_reserve.specs.declared.reservation_type.ReservationType.TheVariants.{ExclusiveAccessAllRegistrants}
-use Rattle.scsi_reserve.specs.declared.conflict.Who.{Who}
-use Rattle.scsi_reserve.specs.declared.conflict.Who.TheVariants.{Holder, Registrant, Neither}
-use Rattle.scsi_reserve.specs.declared.conflict.Refused.TheVariants.{Nothing}
-use Rattle.scsi_reserve.specs.Conflict.{is_refused, conflict}
+use Rattle.scsi_conflict.specs.declared.reservation_type.ReservationType.{ReservationType}
+use Rattle.scsi_conflict.specs.declared.reservation_type.ReservationType.TheVariants.{WriteExclusive, ExclusiveAccess, WriteExclusiveRegistrantsOnly}
+use Rattle.scsi_conflict.specs.declared.reservation_type.ReservationType.TheVariants.{ExclusiveAccessRegistrantsOnly, WriteExclusiveAllRegistrants}
+use Rattle.scsi_conflict.specs.declared.reservation_type.ReservationType.TheVariants.{ExclusiveAccessAllRegistrants}
+use Rattle.scsi_conflict.specs.declared.conflict.Who.{Who}
+use Rattle.scsi_conflict.specs.declared.conflict.Who.TheVariants.{Holder, Registrant, Neither}
+use Rattle.scsi_conflict.specs.declared.conflict.Refused.TheVariants.{Nothing}
+use Rattle.scsi_conflict.specs.Conflict.{is_refused, conflict}
 
 nothing_refused : (c : ReservationClass) → is_refused Nothing c ≡ false
 nothing_refused class.Always = refl

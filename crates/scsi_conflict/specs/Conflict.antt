@@ -3,14 +3,14 @@
 use Rattle.std.specs.Prelude.{Bool, true, false}
 use Rattle.scsi_cdb.specs.declared.operation.ReservationClass.{ReservationClass}
 use Rattle.scsi_cdb.specs.declared.operation.ReservationClass.TheVariants as class
-use Rattle.scsi_reserve.specs.declared.reservation_type.ReservationType.{ReservationType}
-use Rattle.scsi_reserve.specs.declared.reservation_type.ReservationType.TheVariants.{WriteExclusive, ExclusiveAccess, WriteExclusiveRegistrantsOnly}
-use Rattle.scsi_reserve.specs.declared.reservation_type.ReservationType.TheVariants.{ExclusiveAccessRegistrantsOnly, WriteExclusiveAllRegistrants}
-use Rattle.scsi_reserve.specs.declared.reservation_type.ReservationType.TheVariants.{ExclusiveAccessAllRegistrants}
-use Rattle.scsi_reserve.specs.declared.conflict.Who.{Who}
-use Rattle.scsi_reserve.specs.declared.conflict.Who.TheVariants.{Holder, Registrant, Neither}
-use Rattle.scsi_reserve.specs.declared.conflict.Refused.{Refused}
-use Rattle.scsi_reserve.specs.declared.conflict.Refused.TheVariants.{Nothing, Writing, ReadingAndWriting}
+use Rattle.scsi_conflict.specs.declared.reservation_type.ReservationType.{ReservationType}
+use Rattle.scsi_conflict.specs.declared.reservation_type.ReservationType.TheVariants.{WriteExclusive, ExclusiveAccess, WriteExclusiveRegistrantsOnly}
+use Rattle.scsi_conflict.specs.declared.reservation_type.ReservationType.TheVariants.{ExclusiveAccessRegistrantsOnly, WriteExclusiveAllRegistrants}
+use Rattle.scsi_conflict.specs.declared.reservation_type.ReservationType.TheVariants.{ExclusiveAccessAllRegistrants}
+use Rattle.scsi_conflict.specs.declared.conflict.Who.{Who}
+use Rattle.scsi_conflict.specs.declared.conflict.Who.TheVariants.{Holder, Registrant, Neither}
+use Rattle.scsi_conflict.specs.declared.conflict.Refused.{Refused}
+use Rattle.scsi_conflict.specs.declared.conflict.Refused.TheVariants.{Nothing, Writing, ReadingAndWriting}
 
 -- of the holder, another registrant, and a nexus that is neither
 abbrev pub by_who : Refused → Refused → Refused → Who → Refused

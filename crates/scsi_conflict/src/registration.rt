@@ -1,7 +1,7 @@
 //! The registrations of a logical unit, and the holder of its reservation.
 
 ghost use Rattle.std.specs.Prelude.{◌≡◌, ◌≤◌, length, map};
-ghost use Rattle.scsi_reserve.specs.Registration.{with_key, without_nexus, is_held_by, who_of, ends_with, is_held_with};
+ghost use Rattle.scsi_conflict.specs.Registration.{with_key, without_nexus, is_held_by, who_of, ends_with, is_held_with};
 
 use crate::conflict::Who;
 use crate::reservation_type::ReservationType;
@@ -9,22 +9,22 @@ use scsi_sense::Nexus;
 
 /// A nexus that is registered, and its reservation key (SPC-4 "Registering").
 #[derive(Drop)]
-pub(crate) struct Row {
+pub struct Row {
     pub nexus: Nexus,
     pub key: u64,
 }
 
 /// A reservation of the logical unit.
 #[derive(Drop)]
-pub(crate) struct Reservation {
+pub struct Reservation {
     pub kind: ReservationType,
     /// The nexus that made it. It alone is the holder, unless the type is of all registrants.
     pub holder: Nexus,
 }
 
 /// Returns the key that a nexus is registered with, if it is registered.
-pub(crate) fn own_key(rows: &[Row], nexus: &Nexus) -> Option<u64>
-    ensures { result ≡ Rattle.scsi_reserve.specs.Registration.own_key nexus.now rows.now }
+pub fn own_key(rows: &[Row], nexus: &Nexus) -> Option<u64>
+    ensures { result ≡ Rattle.scsi_conflict.specs.Registration.own_key nexus.now rows.now }
 {
     for row in rows {
         if row.nexus.is_same(nexus) {
@@ -35,8 +35,8 @@ pub(crate) fn own_key(rows: &[Row], nexus: &Nexus) -> Option<u64>
 }
 
 /// Returns whether any nexus is registered with this key.
-pub(crate) fn has_key(rows: &[Row], key: u64) -> bool
-    ensures { result ≡ Rattle.scsi_reserve.specs.Registration.has_key key rows.now }
+pub fn has_key(rows: &[Row], key: u64) -> bool
+    ensures { result ≡ Rattle.scsi_conflict.specs.Registration.has_key key rows.now }
 {
     rows.iter().any(|row| row.key == key)
 }
@@ -53,7 +53,7 @@ impl Row {
 }
 
 /// Sets the key of the registration of a nexus.
-pub(crate) fn set_key(rows: &mut [Row], nexus: &Nexus, key: u64)
+pub fn set_key(rows: &mut [Row], nexus: &Nexus, key: u64)
     ensures { rows.new ≡ map (with_key nexus.now key) rows.old }
 {
     for at in 0..rows.len() {
@@ -63,7 +63,7 @@ pub(crate) fn set_key(rows: &mut [Row], nexus: &Nexus, key: u64)
 }
 
 /// Removes the registration of a nexus.
-pub(crate) fn take_out(rows: &mut Vec<Row>, nexus: &Nexus)
+pub fn take_out(rows: &mut Vec<Row>, nexus: &Nexus)
     ensures left { rows.new.items ≡ without_nexus nexus.now rows.old.items }
     ensures fewer { length rows.new.items ≤ length rows.old.items }
 {

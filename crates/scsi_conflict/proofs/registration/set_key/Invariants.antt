@@ -1,6 +1,6 @@
 use Rattle.std.proofs.Common.{◌≡◌, ◌++◌, map, take, drop}
-use Rattle.scsi_reserve.specs.Registration.{with_key}
-use Rattle.scsi_reserve.proofs.registration.set_key.Given as goal
+use Rattle.scsi_conflict.specs.Registration.{with_key}
+use Rattle.scsi_conflict.proofs.registration.set_key.Given as goal
 
 -- those so far are set, and the others as they were
 abbrev pub invariant-loop-at : goal.invariant-loop-at

@@ -1,9 +1,9 @@
 -- Types of persistent reservations (SPC-4 "Persistent reservations type").
 use Rattle.std.specs.Prelude.{ℕ, List, [], ◌∷◌, Bool, true, false, ◌==◌, Option, Some, None, if◌then◌else◌}
-use Rattle.scsi_reserve.specs.declared.reservation_type.ReservationType.{ReservationType}
-use Rattle.scsi_reserve.specs.declared.reservation_type.ReservationType.TheVariants.{WriteExclusive, ExclusiveAccess, WriteExclusiveRegistrantsOnly}
-use Rattle.scsi_reserve.specs.declared.reservation_type.ReservationType.TheVariants.{ExclusiveAccessRegistrantsOnly, WriteExclusiveAllRegistrants}
-use Rattle.scsi_reserve.specs.declared.reservation_type.ReservationType.TheVariants.{ExclusiveAccessAllRegistrants}
+use Rattle.scsi_conflict.specs.declared.reservation_type.ReservationType.{ReservationType}
+use Rattle.scsi_conflict.specs.declared.reservation_type.ReservationType.TheVariants.{WriteExclusive, ExclusiveAccess, WriteExclusiveRegistrantsOnly}
+use Rattle.scsi_conflict.specs.declared.reservation_type.ReservationType.TheVariants.{ExclusiveAccessRegistrantsOnly, WriteExclusiveAllRegistrants}
+use Rattle.scsi_conflict.specs.declared.reservation_type.ReservationType.TheVariants.{ExclusiveAccessAllRegistrants}
 
 -- SPC-4 "Persistent reservations type"
 abbrev pub type_code : ReservationType → ℕ

@@ -1,18 +1,22 @@
 -- The registrations of a logical unit, and the holder of its reservation.
-use Rattle.std.specs.Prelude.{ℕ, List, [], ◌∷◌, filter, Bool, not, ◌==◌, ◌&&◌, Option, Some, None, is_some, if◌then◌else◌}
+use Rattle.std.specs.Prelude.{ℕ, List, [], ◌∷◌, filter, Bool, false, not, ◌==◌, ◌&&◌, Option, Some, None, is_some, if◌then◌else◌}
 use Rattle.std.specs.List.{list_any}
 use Rattle.scsi_sense.specs.Nexus.{NexusName, same_nexus}
-use Rattle.scsi_reserve.specs.ReservationType.{is_of_all}
-use Rattle.scsi_reserve.specs.Request.{is_key}
-use Rattle.scsi_reserve.specs.declared.conflict.Who.{Who}
-use Rattle.scsi_reserve.specs.declared.conflict.Who.TheVariants.{Holder, Registrant, Neither}
-use Rattle.scsi_reserve.specs.declared.registration.Row.{Row}
-use Rattle.scsi_reserve.specs.declared.registration.Reservation.{Reservation}
+use Rattle.scsi_conflict.specs.ReservationType.{is_of_all}
+use Rattle.scsi_conflict.specs.declared.conflict.Who.{Who}
+use Rattle.scsi_conflict.specs.declared.conflict.Who.TheVariants.{Holder, Registrant, Neither}
+use Rattle.scsi_conflict.specs.declared.registration.Row.{Row}
+use Rattle.scsi_conflict.specs.declared.registration.Reservation.{Reservation}
 
 -- SPC-4 "Registering": the key that a nexus is registered with, if it is registered
 abbrev pub own_key : NexusName → List Row → Option ℕ
 own_key nexus [] = None
 own_key nexus (row ∷ rows) = if same_nexus row.nexus nexus then Some row.key else own_key nexus rows
+
+-- a nexus is registered, and with this key
+abbrev pub is_key : ℕ → Option ℕ → Bool
+is_key key None = false
+is_key key (Some own) = own == key
 
 -- whether any nexus is registered with a key
 abbrev pub has_key : ℕ → List Row → Bool

@@ -1,8 +1,8 @@
 use Rattle.std.proofs.Common.{set, ap, sym, ◌∙◌, arith}
 use Rattle.std.proofs.lemmas.List.Edits.{map_over_more}
-use Rattle.scsi_reserve.specs.Registration.{with_key}
-use Rattle.scsi_reserve.specs.declared.registration.Row.{Row}
-use Rattle.scsi_reserve.proofs.registration.set_key.Goals as goal
+use Rattle.scsi_conflict.specs.Registration.{with_key}
+use Rattle.scsi_conflict.specs.declared.registration.Row.{Row}
+use Rattle.scsi_conflict.proofs.registration.set_key.Goals as goal
 
 pub loop-at-preserved : goal.loop-at-preserved
 loop-at-preserved c =

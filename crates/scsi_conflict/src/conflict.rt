@@ -1,14 +1,14 @@
 //! What a reservation forbids.
 
 ghost use Rattle.std.specs.Prelude.{◌≡◌};
-ghost use Rattle.scsi_reserve.specs.Conflict.{is_refused};
+ghost use Rattle.scsi_conflict.specs.Conflict.{is_refused};
 
 use crate::reservation_type::ReservationType;
 use scsi_cdb::ReservationClass;
 
 /// The relation of a nexus to a reservation.
 #[derive(Clone, Copy)]
-pub(crate) enum Who {
+pub enum Who {
     Holder,
     /// It is registered, and does not hold the reservation.
     Registrant,
@@ -40,7 +40,7 @@ impl Refused {
 /// Returns what a reservation of this type forbids (SPC-4, SBC-3 and SSC-4, commands that are allowed in the presence
 /// of various reservations).
 fn refused_to(kind: ReservationType, who: Who) -> Refused
-    ensures { result ≡ Rattle.scsi_reserve.specs.Conflict.refused_to kind who }
+    ensures { result ≡ Rattle.scsi_conflict.specs.Conflict.refused_to kind who }
 {
     use Refused::{Nothing, ReadingAndWriting, Writing};
     let (holder, registrant, neither) = match kind {
@@ -60,7 +60,7 @@ fn refused_to(kind: ReservationType, who: Who) -> Refused
 
 /// Returns whether a command of this class is a RESERVATION CONFLICT.
 pub(crate) fn conflict(kind: ReservationType, who: Who, class: ReservationClass) -> bool
-    ensures { result ≡ Rattle.scsi_reserve.specs.Conflict.conflict kind who class }
+    ensures { result ≡ Rattle.scsi_conflict.specs.Conflict.conflict kind who class }
 {
     refused_to(kind, who).has(class)
 }

@@ -1,7 +1,7 @@
 //! Types of persistent reservations.
 
 ghost use Rattle.std.specs.Prelude.{◌≡◌};
-ghost use Rattle.scsi_reserve.specs.ReservationType.{type_code, type_of, is_same_type, is_of_all, is_of_registrants};
+ghost use Rattle.scsi_conflict.specs.ReservationType.{type_code, type_of, is_same_type, is_of_all, is_of_registrants};
 
 /// The type of a reservation of the logical unit (SPC-4 "Persistent reservations type").
 #[derive(Clone, Copy)]
@@ -44,14 +44,14 @@ impl ReservationType {
     }
 
     /// Returns whether both are the same type.
-    pub(crate) fn is_same(self, other: ReservationType) -> bool
+    pub fn is_same(self, other: ReservationType) -> bool
         ensures { result ≡ is_same_type self other }
     {
         self.code() == other.code()
     }
 
     /// Returns whether every registrant holds a reservation of this type (All Registrants).
-    pub(crate) fn is_of_all(self) -> bool
+    pub fn is_of_all(self) -> bool
         ensures { result ≡ is_of_all self }
     {
         matches!(
@@ -63,7 +63,7 @@ impl ReservationType {
 
     /// Returns whether it gives rights to every registrant (Registrants Only, All Registrants). They get a unit
     /// attention when it is released.
-    pub(crate) fn is_of_registrants(self) -> bool
+    pub fn is_of_registrants(self) -> bool
         ensures { result ≡ is_of_registrants self }
     {
         !matches!(

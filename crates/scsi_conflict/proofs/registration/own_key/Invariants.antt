@@ -1,6 +1,6 @@
 use Rattle.std.proofs.Common.{◌≡◌, drop}
-use Rattle.scsi_reserve.specs.Registration.{own_key}
-use Rattle.scsi_reserve.proofs.registration.own_key.Given as goal
+use Rattle.scsi_conflict.specs.Registration.{own_key}
+use Rattle.scsi_conflict.proofs.registration.own_key.Given as goal
 
 -- it is not among those that were looked at
 abbrev pub invariant-loop-row : goal.invariant-loop-row
