@@ -132,18 +132,27 @@ impl Parts {
         Data::new(self.buffers.as_slice(), self.tail.as_slice(), self.len)
     }
 
+    /// Removes the last bytes, and returns their buffer with them. Returns `None` if there is no data.
+    pub fn pop_used(&mut self) -> Option<Vec<u8>>
+        ensures shorter { IfSome result (λ _. length self.new < length self.old) }
+        ensures none { IfNone result (self.old ≡ []) }
+    {
+        let buffer = if self.tail.is_empty() {
+            self.buffers.pop()?
+        } else {
+            mem::replace(&mut self.tail, Vec::new(self.alloc))
+        };
+        self.len -= buffer.len();
+        Some(buffer)
+    }
+
     /// Removes the last bytes, and returns their buffer, emptied, for reuse. Returns `None` if there is no data.
     pub fn pop_buffer(&mut self) -> Option<Vec<u8>>
         ensures cleared { IfSome result (λ buffer. buffer.items ≡ []) }
         ensures shorter { IfSome result (λ _. length self.new < length self.old) }
         ensures none { IfNone result (self.old ≡ []) }
     {
-        let mut buffer = if self.tail.is_empty() {
-            self.buffers.pop()?
-        } else {
-            mem::replace(&mut self.tail, Vec::new(self.alloc))
-        };
-        self.len -= buffer.len();
+        let mut buffer = self.pop_used()?;
         buffer.clear();
         Some(buffer)
     }

@@ -1,6 +1,6 @@
 //! Buffers in which data came, kept for reuse.
 
-ghost use Rattle.std.specs.Prelude.{◌≡◌, [], IfOk};
+ghost use Rattle.std.specs.Prelude.{◌≡◌, ◌≤◌, [], length, IfOk, IfSome};
 
 use std::alloc::{AllocError, Global};
 
@@ -17,7 +17,7 @@ const MOST_SHORT: usize = 16;
 const MOST_LONG: usize = 12;
 
 /// Buffers that are no longer used, 4 MiB at most, kept so that their memory is not allocated again. A buffer that is
-/// taken is empty.
+/// taken is empty, or has the bytes that were left in it, so that a reader can overwrite them with no need to clear it.
 ///
 /// A buffer that was allocated at a busy time may lie above much memory that is freed after it, which the C library gives
 /// back to the system only from its end. So [`SpareBuffers::trim`] frees all of them, to be called after such a time.
@@ -39,6 +39,20 @@ fn taken(alloc: Global, kept: &mut Vec<Vec<u8>>, room: usize) -> Result<Vec<u8>,
     };
     buffer.clear();
     Ok(buffer)
+}
+
+/// Returns a buffer that was kept, with at least `room` bytes: those that are missing are zeros. Returns `None` if an
+/// allocation fails.
+fn with_bytes(mut buffer: Vec<u8>, room: usize) -> Option<Vec<u8>>
+    ensures { IfSome result (λ buffer. room ≤ length buffer.items) }
+{
+    if buffer.len() >= room {
+        return Some(buffer);
+    }
+    match buffer.resize(room, 0) {
+        Ok(()) => Some(buffer),
+        Err(AllocError) => None,
+    }
 }
 
 /// Keeps a buffer if fewer than `most` are kept, and frees it otherwise. Returns whether there was a place for it.
@@ -74,7 +88,21 @@ impl SpareBuffers {
         Vec::with_capacity(self.alloc, room)
     }
 
-    /// Keeps a buffer that [`SpareBuffers::take`] returned, if few like it are kept.
+    /// Returns a buffer that was kept, with at least `room` bytes and room for less than twice as many. They are what was
+    /// left in it, to be overwritten. Returns `None` if no such buffer is kept.
+    pub fn take_used(&mut self, room: usize) -> Option<Vec<u8>>
+        ensures { IfSome result (λ buffer. room ≤ length buffer.items) }
+    {
+        if room > LONG / 2 && room <= LONG {
+            return with_bytes(self.long.pop()?, room);
+        }
+        if room > SHORT / 2 && room <= SHORT {
+            return with_bytes(self.short.pop()?, room);
+        }
+        None
+    }
+
+    /// Keeps a buffer that [`SpareBuffers::take`] returned, with what is in it, if few like it are kept.
     pub fn keep(&mut self, buffer: Vec<u8>) {
         let is_placed = match buffer.capacity() {
             LONG => put(&mut self.long, MOST_LONG, buffer),

@@ -1,7 +1,8 @@
 //! Bytes that are appended at the end and taken from the front.
 
-ghost use Rattle.std.specs.Prelude.{◌≡◌, ◌+◌, ◌-◌, ◌^◌, ◌<◌, ◌≤◌, [], ◌++◌, length, take, drop, replicate, IfOk, IfErr, OnOk, OnErr};
+ghost use Rattle.std.specs.Prelude.{◌≡◌, ◌+◌, ◌-◌, ◌^◌, ◌<◌, ◌≤◌, [], ◌++◌, length, take, drop, replicate, IfOk, IfErr, IfSome, IfNone, OnOk, OnErr};
 
+use crate::frame_buffer::{FrameBuffer, FrameRoom, put_zeros};
 use data_parts::SpareBuffers;
 use iscsi_pdu::PduFault;
 use std::alloc::Global;
@@ -12,7 +13,7 @@ use std::mem;
 /// counted in place of being kept.
 #[derive(Drop)]
 pub(crate) struct ByteQueue {
-    bytes: Vec<u8>,
+    bytes: FrameBuffer,
     /// The number of bytes at the front that were taken.
     taken: usize,
     /// The number of zeros after the bytes.
@@ -25,34 +26,9 @@ impl Model for ByteQueue {
 
     ghost Value = { List ℕ };
 
-    ghost view = { λ q. drop q.taken q.bytes.items ++ replicate q.zeros 0 };
+    ghost view = { λ q. drop q.taken q.bytes ++ replicate q.zeros 0 };
 
-    ghost invariant = { λ q. (q.taken ≤ length q.bytes.items) × (q.zeros < 2 ^ 32) };
-}
-
-/// Moves all bytes after the first `count` to the front.
-pub(crate) fn cut_front(bytes: &mut Vec<u8>, count: usize)
-    requires { count ≤ length bytes.old.items }
-    ensures { bytes.new.items ≡ drop count bytes.old.items }
-{
-    if count == 0 {
-        return;
-    }
-    let end = bytes.len();
-    bytes.as_mut_slice().copy_within(count..end, 0);
-    bytes.truncate(end - count);
-}
-
-/// Appends `count` zeros.
-fn put_zeros(bytes: &mut Vec<u8>, count: usize) -> Result<(), PduFault>
-    requires { count < 2 ^ 32 }
-    ensures ok { OnOk result (bytes.new.items ≡ bytes.old.items ++ replicate count 0) }
-    ensures memory { IfErr result (λ fault. fault ≡ PduFault.Memory) }
-    ensures err { OnErr result (bytes.new.items ≡ bytes.old.items) }
-{
-    let length = bytes.len() + count;
-    bytes.resize(length, 0)?;
-    Ok(())
+    ghost invariant = { λ q. (q.taken ≤ length q.bytes) × (q.zeros < 2 ^ 32) };
 }
 
 impl ByteQueue {
@@ -61,7 +37,7 @@ impl ByteQueue {
         ensures { result ≡ [] }
     {
         ByteQueue {
-            bytes: Vec::new(alloc),
+            bytes: FrameBuffer::new(alloc),
             taken: 0,
             zeros: 0,
             alloc,
@@ -102,17 +78,11 @@ impl ByteQueue {
         ensures memory { IfErr result (λ fault. fault ≡ PduFault.Memory) }
         ensures err { OnErr result (self.new ≡ self.old) }
     {
-        cut_front(&mut self.bytes, self.taken);
+        self.bytes.pack(self.taken, self.zeros)?;
         self.taken = 0;
-        put_zeros(&mut self.bytes, self.zeros)?;
         self.zeros = 0;
-        let room = room.max(piece.len());
-        if self.bytes.is_empty() && self.bytes.capacity() < room {
-            self.bytes = spares.take(room)?;
-        }
-        self.bytes.reserve(room)?;
-        self.bytes.extend_from_slice(piece)?;
-        Ok(())
+        self.bytes.prepare(room.max(piece.len()), spares)?;
+        self.bytes.append(piece, room)
     }
 
     /// Appends the last piece and takes all bytes, in their buffer.
@@ -122,12 +92,12 @@ impl ByteQueue {
         ensures memory { IfErr result (λ fault. fault ≡ PduFault.Memory) }
         ensures err { OnErr result (self.new ≡ self.old) }
     {
-        cut_front(&mut self.bytes, self.taken);
+        self.bytes.pack(self.taken, self.zeros)?;
         self.taken = 0;
-        put_zeros(&mut self.bytes, self.zeros)?;
         self.zeros = 0;
-        self.bytes.extend_from_slice(piece)?;
-        Ok(mem::replace(&mut self.bytes, Vec::new(self.alloc)))
+        self.bytes.append(piece, piece.len())?;
+        let bytes = mem::replace(&mut self.bytes, FrameBuffer::new(self.alloc));
+        Ok(bytes.into_bytes())
     }
 
     /// Returns a copy of `count` bytes, starting at `from`.
@@ -154,7 +124,7 @@ impl ByteQueue {
             self.taken += n;
             return;
         }
-        self.bytes = Vec::new(self.alloc);
+        self.bytes = FrameBuffer::new(self.alloc);
         self.taken = 0;
         self.zeros -= n - kept;
     }
@@ -165,7 +135,7 @@ impl ByteQueue {
         ensures { self.new ≡ replicate (length self.old + n) 0 }
     {
         self.zeros = self.len() + n;
-        self.bytes = Vec::new(self.alloc);
+        self.bytes = FrameBuffer::new(self.alloc);
         self.taken = 0;
     }
 
@@ -173,7 +143,38 @@ impl ByteQueue {
     pub(crate) fn clear(&mut self)
         ensures { self.new ≡ [] }
     {
-        self.bytes = Vec::new(self.alloc);
+        self.bytes = FrameBuffer::new(self.alloc);
+        self.taken = 0;
+        self.zeros = 0;
+    }
+
+    /// Lends the buffer to a reader who is to fill `room` bytes after those that are there, if it has the room.
+    pub(crate) fn lend(&mut self, room: usize) -> Option<FrameRoom>
+        ensures bytes { IfSome result (λ lent. take lent.from lent.buffer.items ≡ self.old) }
+        ensures room { IfSome result (λ lent. lent.to ≡ lent.from + room) }
+        ensures within { IfSome result (λ lent. lent.to ≤ length lent.buffer.items) }
+        ensures rest { IfSome result (λ _. self.new ≡ []) }
+        ensures none { IfNone result (self.new ≡ self.old) }
+    {
+        if self.taken > 0 || self.zeros > 0 {
+            return None;
+        }
+        self.bytes.lend(self.alloc, room)
+    }
+
+    /// Takes a spare buffer with room for `room` bytes if there are no bytes.
+    pub(crate) fn prepare(&mut self, room: usize, spares: &mut SpareBuffers) -> bool
+        ensures { self.new ≡ self.old }
+    {
+        self.bytes.prepare(room, spares).is_ok()
+    }
+
+    /// Takes back a buffer of which a reader has filled `count` bytes. Any other bytes are removed.
+    pub(crate) fn take_back(&mut self, lent: FrameRoom, count: usize)
+        requires { lent.from + count ≤ length lent.buffer.items }
+        ensures { self.new ≡ take (lent.from + count) lent.buffer.items }
+    {
+        self.bytes = FrameBuffer::filled(lent, count);
         self.taken = 0;
         self.zeros = 0;
     }

@@ -4,7 +4,8 @@ ghost use Rattle.std.specs.Prelude.{◌≡◌, ◌+◌, ◌<◌, ◌≤◌, ◌�
 ghost use Rattle.iscsi_pdu.specs.Parts.{is_data_out, HoldsOne, Takes};
 ghost use Rattle.std.specs.Result.{IsErrOf};
 
-use crate::byte_queue::{ByteQueue, cut_front};
+use crate::byte_queue::ByteQueue;
+use crate::frame_buffer::{FrameRoom, cut_front};
 use arrayvec::ArrayVec;
 use data_parts::SpareBuffers;
 use iscsi_pdu::{Frame, HEADER_LENGTH, Header, MOST_DATA, Part, PduFault, padded};
@@ -90,6 +91,37 @@ impl Framer {
             return Err(fault);
         }
         Ok(())
+    }
+
+    /// Lends the buffer of the PDU in front to a reader, who is to fill `room` bytes after those that have come. Until it is
+    /// taken back only the header is kept. Returns `None`, and changes nothing, if the header is not whole or no buffer with
+    /// this room is at hand.
+    pub fn lend_room(&mut self, room: usize, spares: &mut SpareBuffers) -> Option<FrameRoom>
+        ensures bytes { IfSome result (λ lent. self.old ≡ self.new ++ take lent.from lent.buffer.items) }
+        ensures header { IfSome result (λ _. length self.new ≡ header_length) }
+        ensures room { IfSome result (λ lent. lent.to ≡ lent.from + room) }
+        ensures within { IfSome result (λ lent. lent.to ≤ length lent.buffer.items) }
+        ensures none { IfNone result (self.new ≡ self.old) }
+    {
+        let header = self.header()?;
+        if header.data_length() > MOST_DATA {
+            return None;
+        }
+        let missing = self.want();
+        if !self.behind.prepare(missing, spares) {
+            return None;
+        }
+        self.behind.lend(room)
+    }
+
+    /// Takes back a buffer of which the reader has filled `count` bytes: the bytes that had come, and these. Only the
+    /// header is kept before.
+    pub fn take_room(&mut self, lent: FrameRoom, count: usize)
+        requires header { length self.old ≡ header_length }
+        requires within { lent.from + count ≤ length lent.buffer.items }
+        ensures { self.new ≡ self.old ++ take (lent.from + count) lent.buffer.items }
+    {
+        self.behind.take_back(lent, count);
     }
 
     /// Takes the first frame from the front of the bytes. Returns `None` if the bytes are less than a frame.

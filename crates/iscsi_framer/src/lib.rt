@@ -11,12 +11,16 @@
 //!   ([`chunking`](iscsi_pdu::laws::chunking)).
 //! - The parts that [`Framer::take`] gives, put together, are the same frames
 //!   ([`parts_are_frames`](iscsi_pdu::laws::parts_are_frames)).
+//! - A reader can be lent the buffer of a half-read PDU ([`Framer::lend_room`]). What it fills in belongs to the PDU
+//!   ([`Framer::take_room`]); what was left in a buffer is never seen.
 //! - A data segment longer than 262144 bytes is refused as soon as its header is whole and the frames before it were
 //!   returned.
 //! - Out of memory is an error everywhere, and leaves every value unchanged.
 #![tactic(auto)]
 
 mod byte_queue;
+mod frame_buffer;
 mod framer;
 
+pub use frame_buffer::FrameRoom;
 pub use framer::Framer;

@@ -67,7 +67,7 @@ fn keep_buffers<S: Store>(units: &mut Units<S>, parts: Option<Parts>)
     let Some(mut parts) = parts else {
         return;
     };
-    while let Some(buffer) = parts.pop_buffer() {
+    while let Some(buffer) = parts.pop_used() {
         units.keep_buffer(buffer);
     }
 }
