@@ -11,3 +11,4 @@ pub use Rattle.iscsi_world.specs.HalfRead
 pub mod NumberSet
 pub mod Connections
 pub mod Lending
+pub mod Rooms

@@ -3,7 +3,7 @@
 ghost use Rattle.std.specs.Prelude.{◌≡◌, ◌+◌, ◌<◌, ◌≤◌, ◌++◌, [], None, true, false, length, take, nat_lt, IfOk, IfSome, IfNone, OnOk, OnErr};
 ghost use Rattle.std.specs.Result.{IsErrOf};
 ghost use Rattle.iscsi_pdu.specs.Frames.{has_frame, is_long, frame_length, wanted};
-ghost use Rattle.iscsi_pdu.specs.Header.{data_length};
+ghost use Rattle.iscsi_pdu.specs.Header.{header_length, data_length};
 ghost use Rattle.iscsi_pdu.specs.Parts.{is_data_out};
 ghost use Rattle.iscsi_pdu.specs.Segment.{most_data};
 ghost use Rattle.iscsi_transfer.specs.Counted.{brought};
@@ -17,6 +17,7 @@ ghost use Rattle.iscsi_login.specs.LoginState.{LoginState, IsTargetBelow};
 ghost use Rattle.iscsi_login.specs.Login.{advanced, reply_of};
 ghost use Rattle.iscsi_session.specs.Requests.{begun as begun_past};
 ghost use Rattle.iscsi_session.specs.State.{remembered};
+ghost use Rattle.iscsi_connection.specs.Rooms.{LendsRoom};
 ghost use Rattle.iscsi_world.specs.HalfRead.{IsCounted, CanCount, NeedsNot, KeepsPiece};
 ghost use Rattle.iscsi_world.specs.History.{arrivals};
 ghost use Rattle.iscsi_world.specs.Machine.{LinkState, is_reading, is_logging_in, session_in_phase, free_link, opened_link, shut_link, begun_link, GivesFrame, IsAnswered, IsWithin, sent_link, is_settled, is_silent, most_waiting};
@@ -24,7 +25,7 @@ ghost use Rattle.iscsi_world.specs.declared.phase.Phase.TheVariants.{Login as Un
 
 use bytes::BytesMut;
 use data_parts::SpareBuffers;
-use iscsi_framer::Framer;
+use iscsi_framer::{FrameRoom, Framer};
 use iscsi_login::{Directory, Login, Reply, SessionParams};
 use iscsi_outbox::Outbox;
 use iscsi_pdu::{Answer, Frame, Header, LoginResponse, MOST_DATA, Opcode, PduFault};
@@ -161,6 +162,41 @@ impl Connection {
             return Err(Memory);
         }
         Ok(())
+    }
+
+    /// Lends the buffer of a half-read PDU to a reader, who is to fill `room` bytes of it. Until it is taken back only the
+    /// header is kept. Returns `None`, and changes nothing, if no buffer with this room is at hand, or the data is not
+    /// needed.
+    pub fn lend_room(&mut self, room: usize, spares: &mut SpareBuffers) -> Option<FrameRoom>
+        requires { is_reading self.old.phase ≡ true }
+        ensures lent { IfSome result (λ lent. LendsRoom lent room self.old self.new) }
+        ensures none { IfNone result (self.new ≡ self.old) }
+    {
+        if !self.keeps_data() {
+            return None;
+        }
+        self.framer.lend_room(room, spares)
+    }
+
+    /// Takes back the buffer of a half-read PDU, of which the reader has filled `count` bytes.
+    pub fn take_room(&mut self, lent: FrameRoom, count: usize)
+        requires reads { is_reading self.old.phase ≡ true }
+        requires header { length self.old.half ≡ header_length }
+        requires within { lent.from + count ≤ length lent.buffer.items }
+        ensures { self.new ≡ record self.old { half = self.old.half ++ take (lent.from + count) lent.buffer.items } }
+    {
+        self.framer.take_room(lent, count);
+    }
+
+    /// Returns whether a PDU is half read whose data is to be kept.
+    fn keeps_data(&self) -> bool {
+        let Some(header) = self.framer.header() else {
+            return false;
+        };
+        if header.data_length() > MOST_DATA {
+            return false;
+        }
+        header.opcode() != Opcode::DataOut || self.needs(&header)
     }
 
     /// Returns whether a Data-Out is half read whose data is not needed, and is not whole with `more` bytes.

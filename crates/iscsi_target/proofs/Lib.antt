@@ -4,4 +4,5 @@ pub use Rattle.iscsi_world.proofs.Linked
 pub use Rattle.iscsi_world.proofs.Keeping
 pub use Rattle.iscsi_world.proofs.Reflected
 pub use Rattle.iscsi_world.proofs.Standing
+mod Rooms
 mod Rows

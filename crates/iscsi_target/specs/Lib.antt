@@ -43,6 +43,8 @@ pub use Rattle.iscsi_world.specs.ExamplesWorld
 pub use Rattle.iscsi_world.specs.ExamplesData
 pub use Rattle.iscsi_world.specs.ExamplesHistories
 pub use Rattle.iscsi_world.specs.ExamplesIsolation
+pub use Rattle.iscsi_connection.specs.Rooms
 pub mod Known
+pub mod Feeding
 pub mod Events
 pub mod Rows

@@ -1,9 +1,11 @@
 //! The bytes of a connection: whole frames are taken in order.
 
-ghost use Rattle.std.specs.Prelude.{◌≡◌, ◌<◌, ◌++◌, [], true, false, length, IfOk, IfSome, IfNone, OnOk, OnErr};
+ghost use Rattle.std.specs.Prelude.{◌≡◌, ◌<◌, ◌≤◌, ◌+◌, ◌++◌, [], true, false, length, take, IfOk, IfSome, IfNone, OnOk, OnErr};
 ghost use Rattle.std.specs.Result.{IsErrOf};
 ghost use Rattle.iscsi_pdu.specs.Frames.{has_frame, is_long};
+ghost use Rattle.iscsi_pdu.specs.Header.{header_length};
 ghost use Rattle.iscsi_login.specs.LoginState.{IsTargetBelow};
+ghost use Rattle.iscsi_target.specs.Feeding.{LendsRoomAt};
 ghost use Rattle.iscsi_world.specs.HalfRead.{KeepsPieceAt};
 ghost use Rattle.iscsi_world.specs.History.{arrivals};
 ghost use Rattle.iscsi_world.specs.Machine.{GivesFrame, link_at, with_link, is_logging_in, is_reading};
@@ -12,6 +14,7 @@ ghost use Rattle.iscsi_world.specs.Serving.{TakesFrame, TakesOne, TakesAll, firs
 use crate::serve::earlier_of;
 use crate::target::Target;
 use data_parts::SpareBuffers;
+use iscsi_framer::FrameRoom;
 use iscsi_pdu::{Frame, Opcode, PduFault};
 use iscsi_world::{Phase, Starved};
 use media_store::Store;
@@ -45,9 +48,40 @@ impl<S: Store> Target<S> {
         connection.keep(piece, spares)
     }
 
+    /// Lends the buffer of a connection's half-read PDU as [`Target::lend_room`] does, using spare buffers.
+    pub(crate) fn lend_with(
+        &mut self,
+        c: usize,
+        room: usize,
+        spares: &mut SpareBuffers,
+    ) -> Option<FrameRoom>
+        requires in_range { c < 64 }
+        requires reads { is_reading (link_at self.old c).phase ≡ true }
+        ensures lent { IfSome result (λ lent. LendsRoomAt c lent room self.old self.new) }
+        ensures none { IfNone result (self.new ≡ self.old) }
+        ensures count { length self.old.links ≡ 64 }
+    {
+        let connection = self.connections.at_mut(c);
+        connection.lend_room(room, spares)
+    }
+
+    /// Takes back the buffer of a connection's half-read PDU, of which the reader has filled `count` bytes.
+    pub(crate) fn take_room(&mut self, c: usize, lent: FrameRoom, count: usize)
+        requires in_range { c < 64 }
+        requires reads { is_reading (link_at self.old c).phase ≡ true }
+        requires header { length (link_at self.old c).half ≡ header_length }
+        requires within { lent.from + count ≤ length lent.buffer.items }
+        ensures same { self.new ≡ with_link self.old c (record (link_at self.old c)
+            { half = (link_at self.old c).half ++ take (lent.from + count) lent.buffer.items }) }
+        ensures count { length self.old.links ≡ 64 }
+    {
+        let connection = self.connections.at_mut(c);
+        connection.take_room(lent, count);
+    }
+
     /// Lends the spare buffers of a target's units. Without a target there are none.
     #[tactic(auto, using(iscsi_world::proofs::Sent::same_units))]
-    fn lend_buffers(&mut self, target: Option<usize>) -> SpareBuffers
+    pub(crate) fn lend_buffers(&mut self, target: Option<usize>) -> SpareBuffers
         requires { IsTargetBelow (length self.old.units) target }
         ensures { self.new ≡ self.old }
     {
@@ -60,7 +94,7 @@ impl<S: Store> Target<S> {
 
     /// Returns the spare buffers to the target's units.
     #[tactic(auto, using(iscsi_world::proofs::Sent::same_units))]
-    fn return_buffers(&mut self, target: Option<usize>, spares: SpareBuffers)
+    pub(crate) fn return_buffers(&mut self, target: Option<usize>, spares: SpareBuffers)
         requires { IsTargetBelow (length self.old.units) target }
         ensures { self.new ≡ self.old }
     {

@@ -54,6 +54,7 @@ mod task_management;
 pub use config::Config;
 pub use event::Event;
 pub use history::well_formed;
+pub use iscsi_framer::FrameRoom;
 pub use iscsi_world::Starved;
 pub use run::Outputs;
 pub use scsi_unit::{Serial, Unit, Units};

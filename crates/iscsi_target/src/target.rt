@@ -7,9 +7,11 @@ ghost use Rattle.iscsi_pdu.specs.Header.{header_length};
 ghost use Rattle.iscsi_world.specs.Bounded.{AddsAtMost, Bounded};
 ghost use Rattle.iscsi_world.specs.History.{Open, Bytes, Gone, Mark, History, arrivals, plain, marked};
 ghost use Rattle.iscsi_world.specs.World.{Setting, present, world};
-ghost use Rattle.iscsi_world.specs.Machine.{LinkState, ReflectsSoundness, WhereSound, IsSure, Feeds, KeepsPart, free_link, opened_link, new_machine, link_at, with_link, closed, joined_session, shut_older, begun, logged_in, is_logging_in, GivesFrame, is_reading, is_settled, is_with, target_in, is_open_at, is_closing, want_of};
+ghost use Rattle.iscsi_world.specs.Machine.{LinkState, Machine, ReflectsSoundness, WhereSound, IsSure, Feeds, KeepsPart, free_link, opened_link, new_machine, link_at, with_link, closed, joined_session, shut_older, begun, logged_in, is_logging_in, GivesFrame, is_reading, is_settled, is_with, target_in, is_open_at, is_closing, want_of};
 ghost use Rattle.iscsi_world.specs.declared.phase.Phase.TheVariants.{Login};
 ghost use Rattle.iscsi_login.specs.LoginState.{LoginState, IsTargetBelow};
+ghost use Rattle.iscsi_target.specs.Feeding.{LendsRoomAt, LacksRoom, TakesPiece};
+ghost use Rattle.iscsi_target.specs.Rooms.{filled_in};
 ghost use Rattle.iscsi_target.specs.Known.{known_in};
 ghost use Rattle.iscsi_login.specs.Values.{AreInRange};
 ghost use Rattle.iscsi_world.specs.Stands.{Stands, StandsAfter, IsStarved, with_sent};
@@ -17,6 +19,7 @@ ghost use Rattle.iscsi_world.specs.Serving.{Takes, TakesOne, TakesAll, Preserves
 
 use crate::config::Config;
 use iscsi_connection::{Connection, Connections};
+use iscsi_framer::FrameRoom;
 use iscsi_login::{Directory, is_same_target};
 use iscsi_world::{Phase, Starved};
 use media_store::Store;
@@ -148,6 +151,51 @@ impl<S: Store> Target<S> {
             return Err(self.starve(c));
         }
         self.take_frames(c)
+    }
+
+    /// Lends the buffer of the PDU that is half read on a connection to a reader, who is to fill `room` bytes of it with
+    /// the next bytes of the connection, so that they are not copied. Then [`Target::feed_room`] or
+    /// [`Target::return_room`] is to be called before anything else. Returns `None`, and changes nothing, if no buffer
+    /// with this room is at hand; then [`Target::feed`] takes the bytes.
+    pub fn lend_room(&mut self, c: usize, room: usize) -> Option<FrameRoom>
+        requires { c < 64 }
+        ensures lent { IfSome result (λ lent. LendsRoomAt c lent room self.old self.new) }
+        ensures count { length self.old.links ≡ 64 }
+        ensures none { IfNone result (self.new ≡ self.old) }
+    {
+        if !self.reads(c) {
+            return None;
+        }
+        let target = self.home(c);
+        let mut spares = self.lend_buffers(target);
+        let lent = self.lend_with(c, room, &mut spares);
+        self.return_buffers(target, spares);
+        lent
+    }
+
+    /// Takes back the buffer that [`Target::lend_room`] lent, of which the reader has filled `count` bytes. These are the
+    /// next piece of the connection's bytes, which is taken as by [`Target::feed`].
+    pub fn feed_room(&mut self, c: usize, lent: FrameRoom, count: usize) -> Result<(), Starved>
+        requires in_range { c < 64 }
+        requires reads { is_reading (link_at self.old c).phase ≡ true }
+        requires header { length (link_at self.old c).half ≡ header_length }
+        requires within { lent.from + count ≤ length lent.buffer.items }
+        ensures { (before : Machine) → LacksRoom c lent before self.old → TakesPiece c (filled_in lent count) result before self.new }
+    {
+        self.take_room(c, lent, count);
+        self.take_frames(c)
+    }
+
+    /// Takes back the buffer that [`Target::lend_room`] lent to a reader to whom nothing came.
+    pub fn return_room(&mut self, c: usize, lent: FrameRoom)
+        requires in_range { c < 64 }
+        requires reads { is_reading (link_at self.old c).phase ≡ true }
+        requires header { length (link_at self.old c).half ≡ header_length }
+        requires within { lent.from ≤ length lent.buffer.items }
+        ensures same { (before : Machine) → LacksRoom c lent before self.old → self.new ≡ before }
+        ensures still { is_open_at self.new c ≡ true }
+    {
+        self.take_room(c, lent, 0);
     }
 
     /// Removes a connection that has ended, and frees its number. What waits on it is dropped.
