@@ -1,4 +1,5 @@
 pub mod Rows
+mod Rooms
 pub mod Steps
 pub mod Moments
 pub mod Fronts

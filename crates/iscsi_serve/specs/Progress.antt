@@ -1,15 +1,15 @@
 -- The progress of the loop in a turn, and what each of its steps keeps.
-use Rattle.std.specs.Prelude.{◌≡◌, ◌≢◌, ◌<◌, ℕ, List, [], ◌∷◌, ◌++◌, Bool, true, false, ◌&&◌, ◌||◌, ◌==◌, length, replicate, slice_index_or}
+use Rattle.std.specs.Prelude.{◌≡◌, ◌≢◌, ◌<◌, ◌≤◌, ℕ, List, [], ◌∷◌, ◌++◌, Bool, true, false, ◌&&◌, ◌||◌, ◌==◌, length, replicate, slice_index_or}
 use Rattle.std.specs.List.{list_any}
 use Rattle.iscsi_target.specs.History as history
 use Rattle.iscsi_session.specs.Comings.{Coming}
 use Rattle.iscsi_target.specs.History.{Happening, History, Mark, happening, connection_limit}
 use Rattle.iscsi_target.specs.World.{Setting, World, world}
 use Rattle.iscsi_target.specs.Stands.{Stands}
-use Rattle.iscsi_target.specs.Machine.{Machine, LinkState, IsSound, ReflectsSoundness, IsSure, link_at, is_open_at, is_closing}
+use Rattle.iscsi_target.specs.Machine.{Machine, LinkState, IsSound, ReflectsSoundness, IsSure, Feeds, link_at, is_open_at, is_closing, want_of}
 use Rattle.iscsi_ports.specs.Log.{Entry}
 use Rattle.iscsi_target.specs.Bounded.{Bounded}
-use Rattle.iscsi_serve.specs.Served.{StaysServed, ComesOutServed}
+use Rattle.iscsi_serve.specs.Served.{MayHappen, IsFed, StaysServed, ComesOutServed}
 use Rattle.iscsi_serve.specs.Turn.{Moment, moment, is_open, is_read, room_for, ends}
 use Rattle.iscsi_ports.specs.declared.results.Named.{Named}
 
@@ -71,3 +71,12 @@ pub record StepsBy (R : Moment → Moment → Type 0) (tells tells_then : Bool) 
     (target target_then : Machine) (ended ended_then : List Bool) : Type 0 where
   pub keeps : Keeps tells tells_then log log_then target target_then
   pub goes : tells_then ≡ true → MovesBy R log log_then target target_then ended ended_then
+
+-- A piece was fed to a connection of every target, whatever its stores do, and of a sound one.
+pub record FeedsPiece (c : ℕ) (piece : List ℕ) (target target_then : Machine) : Type 0 where
+  pub stands : IsSound target_then → StandsFed MayHappen c piece target target_then
+  pub bounded : length piece ≤ want_of (link_at target c) → Bounded target → Bounded target_then
+  pub feeds : Feeds c target target_then
+  pub fed : IsFed c piece target target_then
+  pub each : ReflectsSoundness target target_then
+  pub sure : IsSure target → IsSure target_then

@@ -9,6 +9,8 @@
 //! A [`turn`] asks the [`Ports`](iscsi_ports::Ports) which connections may be ready, and does what is due. [`turns`]
 //! makes many turns.
 //!
+//! Large data is read into the buffer of its half-read PDU, which the target lends for it; other bytes are fed.
+//!
 //! Promised, and proved, as long as the log of the ports is complete (`Ports::tells`), whatever is in it:
 //!
 //! - `turned`, for every target: what was done, and what the target is after it.
@@ -21,6 +23,7 @@ mod ending;
 mod fault;
 pub mod laws;
 mod named;
+mod reading;
 mod serving;
 
 pub use fault::ServeFault;

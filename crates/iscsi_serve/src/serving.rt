@@ -13,19 +13,11 @@ ghost use Rattle.iscsi_ports.specs.declared.results.Named.{Named};
 use crate::ending::{any_ended, either, has_ended, is_done};
 use crate::fault::ServeFault;
 use crate::named::count_named;
-use iscsi_ports::{Accepted, IoResult, Named, PortFault, Ports, ReadResult};
-use iscsi_target::{Starved, Target};
+use crate::reading::{HEADER, MOST_READ, ReadBuffer, read_one};
+use iscsi_ports::{Accepted, IoResult, Named, PortFault, Ports};
+use iscsi_target::Target;
 use media_store::Store;
 use target_limits::CONNECTIONS;
-
-/// The most bytes that a read has room for.
-const MOST_READ: usize = 65_536;
-
-/// The length in bytes of a header (RFC 7143 §11.2.1).
-const HEADER: usize = 48;
-
-/// A buffer for a read, and for the next header after it.
-type ReadBuffer = [u8; MOST_READ + HEADER];
 
 /// Returns the lowest free number, or 64 if there is none.
 fn free_number<S: Store>(target: &Target<S>) -> usize
@@ -62,111 +54,6 @@ fn accept_one<P: Ports, S: Store>(ports: &mut P, target: &mut Target<S>) -> Resu
         Err(PortFault) => return Err(ServeFault::Accept),
     }
     Ok(())
-}
-
-/// Feeds a connection. If an allocation fails, returns the connection that the target is closing; the others go on.
-fn feed<S: Store>(target: &mut Target<S>, c: usize, piece: &[u8]) -> Option<usize>
-    requires in_range { c < 64 }
-    requires open { is_open_at target.old c ≡ true }
-    ensures stands { IsSound target.new → StandsFed MayHappen c piece.now target.old target.new }
-    ensures bounded { length piece.now ≤ want_of (link_at target.old c) → Bounded target.old → Bounded target.new }
-    ensures feeds { Feeds c target.old target.new }
-    ensures fed { IsFed c piece.now target.old target.new }
-    ensures each { ReflectsSoundness target.old target.new }
-    ensures sure { IsSure target.old → IsSure target.new }
-{
-    match target.feed(c, piece) {
-        Ok(()) => None,
-        Err(Starved { connection }) => Some(connection),
-    }
-}
-
-/// Reports to the ports the connection that closes because an allocation failed, if there is one.
-fn tell_starved<P: Ports>(ports: &mut P, starved: Option<usize>)
-    ensures log { P.log ports.new ≡ P.log ports.old }
-    ensures tells { P.tells ports.new ≡ P.tells ports.old }
-{
-    if let Some(connection) = starved {
-        ports.starved(connection);
-    }
-}
-
-/// Returns how many bytes to read from a connection: 0 if no read is due.
-fn room_for<S: Store>(target: &Target<S>, named: &Named, c: usize) -> usize
-    requires { c < 64 }
-    ensures none { result ≡ 0 → is_read named.now c (link_at target.now c) ≡ false }
-    ensures due { 0 < result → IsDue named.now c result target.now }
-    ensures bound { result ≤ 65536 }
-{
-    if !named.connections[c] || !target.is_open(c) {
-        return 0;
-    }
-    target.want(c).min(MOST_READ)
-}
-
-/// Returns where the buffer ends for a read with this room: after one more header if a PDU ends in the room, so that the
-/// ports need no read for that alone.
-fn end_of<S: Store>(target: &Target<S>, c: usize, room: usize) -> usize
-    requires in_range { c < 64 }
-    requires open { is_open_at target.now c ≡ true }
-    requires bound { room ≤ 65536 }
-    ensures least { room ≤ result }
-    ensures most { result ≤ 65584 }
-{
-    if room == MOST_READ && target.want(c) > MOST_READ {
-        return room;
-    }
-    room + HEADER
-}
-
-/// Reads a piece from a connection, of at most `room` bytes, and feeds it.
-fn read_piece<P: Ports, S: Store>(
-    ports: &mut P,
-    target: &mut Target<S>,
-    buffer: &mut [u8],
-    room: usize,
-    ended: &mut [bool; CONNECTIONS],
-    c: usize,
-)
-    requires in_range { c < 64 }
-    requires open { is_open_at target.old c ≡ true }
-    requires room { room ≤ length buffer.old }
-    ensures { (named : Named) → IsDue named c room target.old → StepsBy (Reads named c) (P.tells ports.old) (P.tells ports.new)
-        (P.log ports.old) (P.log ports.new) target.old target.new ended.old ended.new }
-{
-    match ports.read_front(c, room, buffer) {
-        ReadResult::Bytes(0) => {}
-        ReadResult::Bytes(count) => {
-            let starved = feed(target, c, &buffer[..count]);
-            tell_starved(ports, starved);
-        }
-        ReadResult::Lent(lent) => {
-            let starved = feed(target, c, lent.as_slice());
-            tell_starved(ports, starved);
-            ports.take_back(lent);
-        }
-        ReadResult::End | ReadResult::Fault => ended[c] = true,
-    }
-}
-
-/// Reads from a connection if a read is due.
-fn read_one<P: Ports, S: Store>(
-    ports: &mut P,
-    target: &mut Target<S>,
-    named: &Named,
-    buffer: &mut ReadBuffer,
-    ended: &mut [bool; CONNECTIONS],
-    c: usize,
-)
-    requires { c < 64 }
-    ensures { StepsBy (Reads named.now c) (P.tells ports.old) (P.tells ports.new)
-        (P.log ports.old) (P.log ports.new) target.old target.new ended.old ended.new }
-{
-    let room = room_for(target, named, c);
-    if room > 0 {
-        let end = end_of(target, c, room);
-        read_piece(ports, target, &mut buffer[..end], room, ended, c);
-    }
 }
 
 /// Writes the next contiguous bytes of an open connection, as many as the ports accept.

@@ -4,7 +4,7 @@ use Rattle.iscsi_ports.specs.Log.{Read, Bytes, End, Fault}
 use Rattle.iscsi_serve.specs.Served.{MayHappen, MayComeOut}
 use Rattle.iscsi_serve.proofs.Goings.{read_some, read_none, read_ended}
 use Rattle.iscsi_serve.proofs.Keeping.{keeps_told, read_stays, fed_comes_out}
-use Rattle.iscsi_serve.proofs.serving.read_piece.Goals as goal
+use Rattle.iscsi_serve.proofs.reading.read_piece.Goals as goal
 
 pub returns-in-Bytes-eq0 : goal.returns-in-Bytes-eq0
 returns-in-Bytes-eq0 g c = λ named due.

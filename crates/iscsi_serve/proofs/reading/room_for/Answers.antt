@@ -1,6 +1,6 @@
 use Rattle.std.proofs.Common.{arith}
 use Rattle.std.proofs.lemmas.Grind.{common_steps}
-use Rattle.iscsi_serve.proofs.serving.room_for.Goals as goal
+use Rattle.iscsi_serve.proofs.reading.room_for.Goals as goal
 
 pub returns-clause-none : goal.returns-clause-none
 returns-clause-none c = grind (arith, common_steps)

@@ -1,5 +1,5 @@
 use Rattle.std.proofs.Common.{[], refl, inl, inr}
-use Rattle.iscsi_serve.proofs.serving.feed.Goals as goal
+use Rattle.iscsi_serve.proofs.reading.feed.Goals as goal
 
 pub returns-in-Err-clause-stands : goal.returns-in-Err-clause-stands
 returns-in-Err-clause-stands g c = λ sound s sent h stands.
