@@ -4,17 +4,21 @@ ghost use Rattle.std.specs.Prelude.{◌≡◌, ◌≤◌, [], length, IfOk, IfSo
 
 use std::alloc::{AllocError, Global};
 
-/// The capacity of a short buffer, in bytes: as much data as usually comes unsolicited.
-const SHORT: usize = 65_536;
+/// The length of a header, in bytes (RFC 7143 §11.2.1). A reader that fills a buffer with the data of a PDU can read the
+/// next header after it.
+const HEADER: usize = 48;
 
-/// The capacity of a long buffer, in bytes: the most data that one PDU brings.
-const LONG: usize = 262_144;
+/// The capacity of a short buffer, in bytes: for as much data as usually comes unsolicited, and a header.
+const SHORT: usize = 65_536 + HEADER;
 
-/// How many short buffers are kept at most: 1 MiB.
-const MOST_SHORT: usize = 16;
+/// The capacity of a long buffer, in bytes: for the most data that one PDU brings, and a header.
+const LONG: usize = 262_144 + HEADER;
 
-/// How many long buffers are kept at most: 3 MiB.
-const MOST_LONG: usize = 12;
+/// How many short buffers are kept at most: 2 MiB, the immediate data of a window of commands.
+const MOST_SHORT: usize = 31;
+
+/// How many long buffers are kept at most: 2 MiB.
+const MOST_LONG: usize = 8;
 
 /// Buffers that are no longer used, 4 MiB at most, kept so that their memory is not allocated again. A buffer that is
 /// taken is empty, or has the bytes that were left in it, so that a reader can overwrite them with no need to clear it.
@@ -88,16 +92,16 @@ impl SpareBuffers {
         Vec::with_capacity(self.alloc, room)
     }
 
-    /// Returns a buffer that was kept, with at least `room` bytes and room for less than twice as many. They are what was
-    /// left in it, to be overwritten. Returns `None` if no such buffer is kept.
+    /// Returns a buffer that was kept, with at least `room` bytes, and a header more if it has that capacity. They are what
+    /// was left in it, to be overwritten. Returns `None` if no such buffer is kept.
     pub fn take_used(&mut self, room: usize) -> Option<Vec<u8>>
         ensures { IfSome result (λ buffer. room ≤ length buffer.items) }
     {
         if room > LONG / 2 && room <= LONG {
-            return with_bytes(self.long.pop()?, room);
+            return with_bytes(self.long.pop()?, LONG.min(room + HEADER));
         }
         if room > SHORT / 2 && room <= SHORT {
-            return with_bytes(self.short.pop()?, room);
+            return with_bytes(self.short.pop()?, SHORT.min(room + HEADER));
         }
         None
     }
