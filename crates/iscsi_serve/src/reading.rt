@@ -147,9 +147,18 @@ fn lend_room<S: Store>(target: &mut Target<S>, c: usize, room: usize) -> Option<
     target.lend_room(c, room)
 }
 
-/// Reads at most `room` bytes from a connection into the lent buffer of its half-read PDU.
-fn read_into<P: Ports>(ports: &mut P, lent: &mut FrameRoom, room: usize, c: usize) -> ReadResult
+/// Reads at most `room` bytes from a connection into the lent buffer of its half-read PDU. The ports may use what stands
+/// after the room, up to `end` bytes in all.
+fn read_into<P: Ports>(
+    ports: &mut P,
+    lent: &mut FrameRoom,
+    room: usize,
+    end: usize,
+    c: usize,
+) -> ReadResult
     requires in_range { c < 64 }
+    requires least { room ≤ end }
+    requires most { end ≤ 65584 }
     requires room { lent.old.to ≡ lent.old.from + room }
     requires within { lent.old.to ≤ length lent.old.buffer.items }
     ensures count { read_count result ≤ room }
@@ -161,8 +170,9 @@ fn read_into<P: Ports>(ports: &mut P, lent: &mut FrameRoom, room: usize, c: usiz
     ensures front { take lent.old.from lent.new.buffer.items ≡ take lent.old.from lent.old.buffer.items }
     ensures long { length lent.new.buffer.items ≡ length lent.old.buffer.items }
 {
-    let (from, to) = (lent.from, lent.to);
-    ports.read_front(c, room, &mut lent.buffer.as_mut_slice()[from..to])
+    let from = lent.from;
+    let stop = lent.buffer.len().min(from + end);
+    ports.read_front(c, room, &mut lent.buffer.as_mut_slice()[from..stop])
 }
 
 /// Reads a piece from a connection, of at most `room` bytes, into the lent buffer of its half-read PDU, and feeds it.
@@ -171,10 +181,13 @@ fn read_room<P: Ports, S: Store>(
     target: &mut Target<S>,
     lent: FrameRoom,
     room: usize,
+    end: usize,
     ended: &mut [bool; CONNECTIONS],
     c: usize,
 )
     requires in_range { c < 64 }
+    requires least { room ≤ end }
+    requires most { end ≤ 65584 }
     requires reads { is_reading (link_at target.old c).phase ≡ true }
     requires header { length (link_at target.old c).half ≡ header_length }
     requires room { lent.to ≡ lent.from + room }
@@ -183,7 +196,7 @@ fn read_room<P: Ports, S: Store>(
         → StepsBy (Reads named c) (P.tells ports.old) (P.tells ports.new) (P.log ports.old) (P.log ports.new) before target.new ended.old ended.new }
 {
     let mut lent = lent;
-    match read_into(ports, &mut lent, room, c) {
+    match read_into(ports, &mut lent, room, end, c) {
         ReadResult::Bytes(0) => target.return_room(c, lent),
         ReadResult::Bytes(count) => {
             let starved = feed_room(target, c, lent, count);
@@ -219,10 +232,10 @@ pub(crate) fn read_one<P: Ports, S: Store>(
     if room == 0 {
         return;
     }
+    let end = end_of(target, c, room);
     if let Some(lent) = lend_room(target, c, room) {
-        read_room(ports, target, lent, room, ended, c);
+        read_room(ports, target, lent, room, end, ended, c);
         return;
     }
-    let end = end_of(target, c, room);
     read_piece(ports, target, &mut buffer[..end], room, ended, c);
 }
