@@ -1,6 +1,6 @@
 //! Buffers in which data came, kept for reuse.
 
-ghost use Rattle.std.specs.Prelude.{◌≡◌, ◌≤◌, [], length, IfOk, IfSome};
+ghost use Rattle.std.specs.Prelude.{◌≡◌, [], IfOk};
 
 use std::alloc::{AllocError, Global};
 
@@ -45,20 +45,6 @@ fn taken(alloc: Global, kept: &mut Vec<Vec<u8>>, room: usize) -> Result<Vec<u8>,
     Ok(buffer)
 }
 
-/// Returns a buffer that was kept, with at least `room` bytes: those that are missing are zeros. Returns `None` if an
-/// allocation fails.
-fn with_bytes(mut buffer: Vec<u8>, room: usize) -> Option<Vec<u8>>
-    ensures { IfSome result (λ buffer. room ≤ length buffer.items) }
-{
-    if buffer.len() >= room {
-        return Some(buffer);
-    }
-    match buffer.resize(room, 0) {
-        Ok(()) => Some(buffer),
-        Err(AllocError) => None,
-    }
-}
-
 /// Keeps a buffer if fewer than `most` are kept, and frees it otherwise. Returns whether there was a place for it.
 fn put(kept: &mut Vec<Vec<u8>>, most: usize, buffer: Vec<u8>) -> bool {
     if kept.len() >= most {
@@ -92,16 +78,14 @@ impl SpareBuffers {
         Vec::with_capacity(self.alloc, room)
     }
 
-    /// Returns a buffer that was kept, with at least `room` bytes, and a header more if it has that capacity. They are what
-    /// was left in it, to be overwritten. Returns `None` if no such buffer is kept.
-    pub fn take_used(&mut self, room: usize) -> Option<Vec<u8>>
-        ensures { IfSome result (λ buffer. room ≤ length buffer.items) }
-    {
+    /// Returns a buffer that was kept, with room for `room` bytes, and for less than twice as many. In it stands what was
+    /// left there, to be overwritten. Returns `None` if no such buffer is kept.
+    pub fn take_used(&mut self, room: usize) -> Option<Vec<u8>> {
         if room > LONG / 2 && room <= LONG {
-            return with_bytes(self.long.pop()?, LONG.min(room + HEADER));
+            return self.long.pop();
         }
         if room > SHORT / 2 && room <= SHORT {
-            return with_bytes(self.short.pop()?, SHORT.min(room + HEADER));
+            return self.short.pop();
         }
         None
     }

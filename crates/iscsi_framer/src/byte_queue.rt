@@ -4,7 +4,7 @@ ghost use Rattle.std.specs.Prelude.{◌≡◌, ◌+◌, ◌-◌, ◌^◌, ◌<�
 
 use crate::frame_buffer::{FrameBuffer, FrameRoom, put_zeros};
 use data_parts::SpareBuffers;
-use iscsi_pdu::PduFault;
+use iscsi_pdu::{MOST_DATA, PduFault};
 use std::alloc::Global;
 use std::marker::Model;
 use std::mem;
@@ -156,7 +156,7 @@ impl ByteQueue {
         ensures rest { IfSome result (λ _. self.new ≡ []) }
         ensures none { IfNone result (self.new ≡ self.old) }
     {
-        if self.taken > 0 || self.zeros > 0 {
+        if self.taken > 0 || self.zeros > 0 || room > MOST_DATA {
             return None;
         }
         self.bytes.lend(self.alloc, room)

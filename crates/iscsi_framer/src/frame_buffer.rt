@@ -3,7 +3,7 @@
 ghost use Rattle.std.specs.Prelude.{◌≡◌, ◌+◌, ◌^◌, ◌<◌, ◌≤◌, [], ◌++◌, length, take, drop, replicate, true, IfErr, IfSome, IfNone, OnOk, OnErr};
 
 use data_parts::SpareBuffers;
-use iscsi_pdu::PduFault;
+use iscsi_pdu::{HEADER_LENGTH, PduFault};
 use std::alloc::Global;
 use std::marker::Model;
 use std::mem;
@@ -90,6 +90,7 @@ impl FrameBuffer {
     }
 
     /// Removes the first `taken` bytes and appends `zeros` zeros.
+    #[inline(always)]
     pub(crate) fn pack(&mut self, taken: usize, zeros: usize) -> Result<(), PduFault>
         requires within { taken ≤ length self.old }
         requires few { zeros < 2 ^ 32 }
@@ -108,6 +109,7 @@ impl FrameBuffer {
     }
 
     /// Takes a spare buffer with room for `room` bytes in place of an empty one that has less.
+    #[inline(always)]
     pub(crate) fn prepare(&mut self, room: usize, spares: &mut SpareBuffers) -> Result<(), PduFault>
         ensures same { self.new ≡ self.old }
         ensures memory { IfErr result (λ fault. fault ≡ PduFault.Memory) }
@@ -123,18 +125,22 @@ impl FrameBuffer {
     }
 
     /// Appends a piece, with room for `room` bytes if that is more.
+    #[inline(always)]
     pub(crate) fn append(&mut self, piece: &[u8], room: usize) -> Result<(), PduFault>
         ensures ok { OnOk result (self.new ≡ self.old ++ piece.now) }
         ensures memory { IfErr result (λ fault. fault ≡ PduFault.Memory) }
         ensures err { OnErr result (self.new ≡ self.old) }
     {
-        if piece.len() <= self.buffer.len() - self.len {
+        let left = self.buffer.len() - self.len;
+        if piece.len() <= left {
             let end = self.len + piece.len();
             self.buffer.as_mut_slice()[self.len..end].copy_from_slice(piece);
             self.len = end;
             return Ok(());
         }
-        self.buffer.truncate(self.len);
+        if left > 0 {
+            self.buffer.truncate(self.len);
+        }
         self.buffer.reserve(room.max(piece.len()))?;
         self.buffer.extend_from_slice(piece)?;
         self.len = self.buffer.len();
@@ -150,15 +156,30 @@ impl FrameBuffer {
         bytes
     }
 
+    /// Makes the bytes after those that are there `count` at least, if few are missing: to clear many takes as long as to
+    /// copy them.
+    fn extend(&mut self, count: usize)
+        requires { count < 2 ^ 32 }
+        ensures { self.new ≡ self.old }
+    {
+        let left = self.buffer.len() - self.len;
+        if left < count && count - left <= count / 8 {
+            // If an allocation fails, the room is as it was.
+            let _ = self.buffer.resize(self.len + count, 0);
+        }
+    }
+
     /// Lends the buffer to a reader who is to fill `room` bytes after those that are there. Returns `None` if it is too
-    /// short.
+    /// short. There may be place for a header more.
     pub(crate) fn lend(&mut self, alloc: Global, room: usize) -> Option<FrameRoom>
+        requires { room < 2 ^ 31 }
         ensures bytes { IfSome result (λ lent. take lent.from lent.buffer.items ≡ self.old) }
         ensures room { IfSome result (λ lent. lent.to ≡ lent.from + room) }
         ensures within { IfSome result (λ lent. lent.to ≤ length lent.buffer.items) }
         ensures rest { IfSome result (λ _. self.new ≡ []) }
         ensures none { IfNone result (self.new ≡ self.old) }
     {
+        self.extend(room + HEADER_LENGTH);
         if room > self.buffer.len() - self.len {
             return None;
         }
