@@ -81,6 +81,7 @@ impl<S: Store> Target<S> {
 
     /// Lends the spare buffers of a target's units. Without a target there are none.
     #[tactic(auto, using(iscsi_world::proofs::Sent::same_units))]
+    #[inline(always)]
     pub(crate) fn lend_buffers(&mut self, target: Option<usize>) -> SpareBuffers
         requires { IsTargetBelow (length self.old.units) target }
         ensures { self.new ≡ self.old }
@@ -94,6 +95,7 @@ impl<S: Store> Target<S> {
 
     /// Returns the spare buffers to the target's units.
     #[tactic(auto, using(iscsi_world::proofs::Sent::same_units))]
+    #[inline(always)]
     pub(crate) fn return_buffers(&mut self, target: Option<usize>, spares: SpareBuffers)
         requires { IsTargetBelow (length self.old.units) target }
         ensures { self.new ≡ self.old }
@@ -123,6 +125,7 @@ impl<S: Store> Target<S> {
     }
 
     /// Takes all whole frames of a connection in order. Stops if the connection closes.
+    #[inline(always)]
     pub(crate) fn take_frames(&mut self, c: usize) -> Result<(), Starved>
         requires in_range { c < 64 }
         requires reads { is_reading (link_at self.old c).phase ≡ true }
