@@ -9,3 +9,4 @@ pub mod Turning
 pub mod Closing
 pub mod Flags
 pub mod Passing
+mod ReadSteps

@@ -2,13 +2,11 @@
 
 ghost use Rattle.std.specs.Prelude.{◌≡◌, ◌<◌, ◌≤◌, ◌+◌, ◌++◌, ◌∷◌, [], true, false, length, take, drop, IfSome, IfNone};
 ghost use Rattle.iscsi_target.specs.Header.{header_length};
-ghost use Rattle.iscsi_target.specs.Bounded.{Bounded};
 ghost use Rattle.iscsi_target.specs.Feeding.{LacksRoom, LendsRoomAt};
 ghost use Rattle.iscsi_target.specs.Rooms.{filled_in};
-ghost use Rattle.iscsi_target.specs.Machine.{Machine, Feeds, IsSound, ReflectsSoundness, IsSure, link_at, is_open_at, is_reading, want_of};
-ghost use Rattle.iscsi_serve.specs.Served.{MayHappen, IsFed};
+ghost use Rattle.iscsi_target.specs.Machine.{Machine, link_at, is_open_at, is_reading};
 ghost use Rattle.iscsi_serve.specs.Turn.{is_read, Reads};
-ghost use Rattle.iscsi_serve.specs.Progress.{FeedsPiece, IsDue, StandsFed, StepsBy};
+ghost use Rattle.iscsi_serve.specs.Progress.{FeedsPiece, IsDue, StepsBy};
 ghost use Rattle.iscsi_ports.specs.Log.{Read};
 ghost use Rattle.iscsi_ports.specs.Results.{carried_read, read_count, LendsSome};
 ghost use Rattle.iscsi_ports.specs.declared.results.Named.{Named};
@@ -34,12 +32,7 @@ pub(crate) type ReadBuffer = [u8; MOST_READ + HEADER];
 fn feed<S: Store>(target: &mut Target<S>, c: usize, piece: &[u8]) -> Option<usize>
     requires in_range { c < 64 }
     requires open { is_open_at target.old c ≡ true }
-    ensures stands { IsSound target.new → StandsFed MayHappen c piece.now target.old target.new }
-    ensures bounded { length piece.now ≤ want_of (link_at target.old c) → Bounded target.old → Bounded target.new }
-    ensures feeds { Feeds c target.old target.new }
-    ensures fed { IsFed c piece.now target.old target.new }
-    ensures each { ReflectsSoundness target.old target.new }
-    ensures sure { IsSure target.old → IsSure target.new }
+    ensures { FeedsPiece c piece.now target.old target.new }
 {
     match target.feed(c, piece) {
         Ok(()) => None,

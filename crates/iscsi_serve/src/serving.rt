@@ -3,11 +3,11 @@
 ghost use Rattle.std.specs.Prelude.{◌≡◌, ◌<◌, ◌≤◌, ◌++◌, ◌∷◌, [], List, true, false, ◌||◌, ◌&&◌, ◌==◌, length, slice_index_or, OnOk, IfErr};
 ghost use Rattle.iscsi_target.specs.Bounded.{Bounded};
 ghost use Rattle.iscsi_target.specs.History.{connections};
-ghost use Rattle.iscsi_target.specs.Machine.{Feeds, IsSound, ReflectsSoundness, IsSure, link_at, is_open_at, is_closing, want_of};
+ghost use Rattle.iscsi_target.specs.Machine.{IsSound, ReflectsSoundness, IsSure, is_open_at, is_closing};
 ghost use Rattle.iscsi_ports.specs.Log.{Entry, AcceptFailed};
-ghost use Rattle.iscsi_serve.specs.Served.{MayHappen, IsFed, StaysServed, ComesOutServed};
-ghost use Rattle.iscsi_serve.specs.Turn.{Moment, moment, log_of, beginning, free_number as lowest_free, HasAccepted, is_read, Accepts, Reads, Writes, Closes, InOrder, Carries, EndsTurn, EndsTurns};
-ghost use Rattle.iscsi_serve.specs.Progress.{AreEnded, none_ended, is_to_close, NoneToClose, KeepsOthers, IsDue, StandsFed, MovesBy, Keeps, StepsBy};
+ghost use Rattle.iscsi_serve.specs.Served.{StaysServed, ComesOutServed};
+ghost use Rattle.iscsi_serve.specs.Turn.{Moment, moment, log_of, beginning, free_number as lowest_free, HasAccepted, Accepts, Reads, Writes, Closes, InOrder, Carries, EndsTurn, EndsTurns};
+ghost use Rattle.iscsi_serve.specs.Progress.{AreEnded, none_ended, is_to_close, NoneToClose, KeepsOthers, MovesBy, Keeps, StepsBy};
 ghost use Rattle.iscsi_ports.specs.declared.results.Named.{Named};
 
 use crate::ending::{any_ended, either, has_ended, is_done};

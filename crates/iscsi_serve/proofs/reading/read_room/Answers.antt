@@ -1,32 +1,21 @@
-use Rattle.std.proofs.Common.{◌≡◌, ◌<◌, ◌≤◌, ◌+◌, [], length, true, inl, inr, refl, sym, ap, ◌∙◌, subst, arith, rules}
+use Rattle.std.proofs.Common.{◌≡◌, ◌<◌, ◌≤◌, ◌+◌, length, inl, inr, refl, sym, ◌∙◌, subst, arith, rules}
 use Rattle.iscsi_target.specs.Feeding.{LacksRoom}
 use Rattle.iscsi_target.specs.Machine.{Machine}
 use Rattle.iscsi_target.specs.Rooms.{filled_in}
-use Rattle.iscsi_ports.specs.Log.{Read, Bytes, End, Fault}
+use Rattle.iscsi_ports.specs.Log.{End, Fault}
 use Rattle.iscsi_serve.specs.Progress.{IsDue}
-use Rattle.iscsi_serve.specs.Served.{MayHappen, MayComeOut}
-use Rattle.iscsi_serve.proofs.Goings.{read_some, read_none, read_ended}
-use Rattle.iscsi_serve.proofs.Keeping.{keeps_told, read_stays, fed_comes_out}
+use Rattle.iscsi_serve.proofs.ReadSteps.{reads_none, reads_piece, reads_end}
 use Rattle.iscsi_serve.proofs.Rooms.{lacks_after, filled_count, filled_front, steps_to, steps_from}
 use Rattle.iscsi_serve.proofs.reading.read_room.Goals as goal
 
--- nothing came
 pub returns-in-Bytes-eq0 : goal.returns-in-Bytes-eq0
 returns-in-Bytes-eq0 g c = λ named before lacks due.
     (let lent = c.read_into.new.lent in
     let still = lacks_after c.args.c c.args.lent lent before c.args.target.now c.read_into.ensures.from c.read_into.ensures.front lacks in
-    let back = c.return_room.ensures.same before still in
-    steps_to before c.return_room.new.self back
-    (record {
-      keeps =
-          keeps_told _ _ _ _ before (Read c.args.c c.args.room (Bytes [])) refl (λ rows. refl) c.read_into.ensures.back
-          (λ tells. rw c.in-Bytes-eq0.field-0-test at (c.in-Bytes-eq0.ensures.log tells));
-      goes = λ tells.
-          read_none _ _ before named _ c.args.c c.args.room due
-          (rw c.in-Bytes-eq0.field-0-test at (c.in-Bytes-eq0.ensures.log tells));
-    }))
+    steps_to before c.return_room.new.self (c.return_room.ensures.same before still)
+    (reads_none named c.args.c c.args.room due c.read_into.ensures.back
+    (λ tells. rw c.in-Bytes-eq0.field-0-test at (c.in-Bytes-eq0.ensures.log tells))))
 
--- a piece was read into the buffer
 pub returns-in-Bytes : goal.returns-in-Bytes
 returns-in-Bytes g c = λ named before lacks due.
     (let lent = c.read_into.new.lent in
@@ -43,23 +32,8 @@ returns-in-Bytes g c = λ named before lacks due.
     let told = sym c.tell_starved.ensures.tells in
     let log = c.tell_starved.ensures.log in
     let front = filled_front lent count c.args.room c.in-Bytes.ensures.count in
-    let fed = c.feed_room-starved.ensures before still in
-    record {
-      keeps = record {
-        back = λ tells. c.read_into.ensures.back (told ∙ tells);
-        each = fed.each;
-        sure = fed.sure;
-        served = λ tells sound.
-            read_stays MayHappen _ _ _ _ c.args.c c.args.room piece some (rw front at (log ∙ c.in-Bytes.ensures.log (told ∙ tells))) (fed.stands sound);
-        came = λ tells.
-            read_stays (MayComeOut c.feed_room-starved.new.target) _ _ _ _ c.args.c c.args.room piece some
-            (rw front at (log ∙ c.in-Bytes.ensures.log (told ∙ tells))) (fed_comes_out _ _ _ _ fed.fed);
-        bounded = (let room = due.is_room in fed.bounded (omega (arith, fits, room)));
-      };
-      goes = λ tells.
-          read_some _ _ _ _ named _ c.args.c c.args.room piece due some fits (rw front at (log ∙ c.in-Bytes.ensures.log (told ∙ tells)))
-          fed.feeds fed.fed;
-    })
+    reads_piece named c.args.c c.args.room due (λ tells. c.read_into.ensures.back (told ∙ tells)) piece some fits
+    (λ tells. rw front at (log ∙ c.in-Bytes.ensures.log (told ∙ tells))) (c.feed_room-starved.ensures before still))
 
 -- the ports lent a buffer of theirs
 pub returns-in-Lent : goal.returns-in-Lent
@@ -76,47 +50,18 @@ returns-in-Lent g c = λ named before lacks due.
     let told = sym (c.take_back.ensures.tells ∙ c.tell_starved-in-Lent.ensures.tells) in
     let log = c.take_back.ensures.log ∙ c.tell_starved-in-Lent.ensures.log in
     steps_from before mid c.feed-starved.new.target back
-    (record {
-      keeps = record {
-        back = λ tells. c.read_into.ensures.back (told ∙ tells);
-        each = c.feed-starved.ensures.each;
-        sure = c.feed-starved.ensures.sure;
-        served = λ tells sound.
-            read_stays MayHappen _ _ _ _ c.args.c c.args.room piece some (rw is (log ∙ c.in-Lent.ensures.log (told ∙ tells)))
-            (c.feed-starved.ensures.stands sound);
-        came = λ tells.
-            read_stays (MayComeOut c.feed-starved.new.target) _ _ _ _ c.args.c c.args.room piece some
-            (rw is (log ∙ c.in-Lent.ensures.log (told ∙ tells))) (fed_comes_out _ _ _ _ c.feed-starved.ensures.fed);
-        bounded = (let room = now_due.is_room in c.feed-starved.ensures.bounded (omega (arith, fits, room)));
-      };
-      goes = λ tells.
-          read_some _ _ _ _ named _ c.args.c c.args.room piece now_due some fits (rw is (log ∙ c.in-Lent.ensures.log (told ∙ tells)))
-          c.feed-starved.ensures.feeds c.feed-starved.ensures.fed;
-    }))
+    (reads_piece named c.args.c c.args.room now_due (λ tells. c.read_into.ensures.back (told ∙ tells)) piece some fits
+    (λ tells. rw is (log ∙ c.in-Lent.ensures.log (told ∙ tells))) c.feed-starved.ensures))
 
--- the connection ended
 pub returns-in-End : goal.returns-in-End
 returns-in-End g c = λ named before lacks due.
     (let lent = c.read_into.new.lent in
     let still = lacks_after c.args.c c.args.lent lent before c.args.target.now c.read_into.ensures.from c.read_into.ensures.front lacks in
-    let back = c.return_room-in-End.ensures.same before still in
     let long : length c.args.ended.now ≡ 64 = search rules in
-    steps_to before c.return_room-in-End.new.self back
+    steps_to before c.return_room-in-End.new.self (c.return_room-in-End.ensures.same before still)
     (elim c.in-End.is [
-      | inl is ↦ record {
-        keeps =
-            keeps_told _ _ _ _ before (Read c.args.c c.args.room End) refl (λ rows. refl) c.read_into.ensures.back
-            (λ tells. rw is at (c.read_into.ensures.log tells));
-        goes = λ tells.
-            read_ended _ _ before named _ c.args.c c.args.room End c.requires.in_range long due refl
-            (rw is at (c.read_into.ensures.log tells));
-      }
-      | inr is ↦ record {
-        keeps =
-            keeps_told _ _ _ _ before (Read c.args.c c.args.room Fault) refl (λ rows. refl) c.read_into.ensures.back
-            (λ tells. rw is at (c.read_into.ensures.log tells));
-        goes = λ tells.
-            read_ended _ _ before named _ c.args.c c.args.room Fault c.requires.in_range long due refl
-            (rw is at (c.read_into.ensures.log tells));
-      }
+      | inl is ↦ reads_end named c.args.c c.args.room due c.read_into.ensures.back End c.requires.in_range long refl
+          (λ tells. rw is at (c.read_into.ensures.log tells))
+      | inr is ↦ reads_end named c.args.c c.args.room due c.read_into.ensures.back Fault c.requires.in_range long refl
+          (λ tells. rw is at (c.read_into.ensures.log tells))
     ]))
