@@ -26,8 +26,8 @@ impl Model for FrameBuffer {
     ghost invariant = { λ b. b.len ≤ length b.buffer.items };
 }
 
-/// The buffer of a PDU of which a part has come, lent to a reader, who overwrites what stands there between `from` and
-/// `to`.
+/// The buffer of a PDU of which a part has come, lent to a reader, who overwrites what stands there from `from` on. What it
+/// puts between `from` and `to` belongs to the PDU.
 #[derive(Drop)]
 pub struct FrameRoom {
     /// The bytes after the header of the PDU that have come, and what was left in the buffer after them.
