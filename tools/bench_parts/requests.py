@@ -44,7 +44,7 @@ AIMS = {("READ of 4 KiB", ONE): Aim(calls=3),
         ("WRITE of 4 KiB", MANY): Aim(beside={"limit": 2.0}),
         **{("WRITE of 256 KiB", flight): COPIED_TWICE for flight in LARGE}}
 # Beside what a load stands, with one in flight, and the aim: times its cost.
-BESIDE = {"VERIFY of 256 KiB": ("READ of 256 KiB", 1.5)}
+BESIDE = {"VERIFY of 256 KiB": ("READ of 256 KiB", 1.3)}
 
 
 @contextmanager

@@ -1,7 +1,7 @@
 -- Where bytes that are read differ from data.
 use Rattle.std.proofs.Common.{◌≡◌, ℕ, ◌+◌, ◌-◌, ◌≤◌, List, [], ◌∷◌, ◌++◌, length, take, drop, slice_range, Some, None, option_map, refl, ap, sym, ◌∙◌, arith}
 use Rattle.std.proofs.Math.Seq.{take-add}
-use Rattle.std.proofs.lemmas.List.{drop-drop, length-append, length-take-le}
+use Rattle.std.proofs.lemmas.List.{drop-drop, length-append, length-take-le, take_all}
 use Rattle.media_block.specs.Blocks.{first_difference}
 
 -- bytes do not differ from themselves
@@ -82,3 +82,9 @@ same-more at k p held bytes content «data» enough before held_long held_is byt
         ← none,
       ) refl;
     }
+
+-- the slice of bytes from their first on is the bytes
+pub slice-whole : (bytes : List ℕ) → slice_range bytes 0 (0 + length bytes) ≡ bytes
+slice-whole bytes =
+    let all : 0 + length bytes - 0 ≡ length bytes = omega arith in
+    rw all (take_all (length bytes) bytes (omega arith))

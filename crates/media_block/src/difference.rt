@@ -25,6 +25,25 @@ fn difference(held: &[u8], bytes: &[u8]) -> Option<usize>
     None
 }
 
+/// Returns the least index at which bytes differ from the first bytes of the data, slice by slice.
+pub(crate) fn difference_from(held: &[u8], data: &Data) -> Option<usize>
+    requires enough { length held.now ≤ length «data».now }
+    ensures least { result ≡ first_difference held.now (take (length held.now) «data».now) }
+    ensures within { IfSome result (λ at. at < length held.now) }
+{
+    let (mut front, mut behind) = data.split_front();
+    let mut done = 0;
+    while done < held.len() {
+        let part = front.len().min(held.len() - done);
+        if let Some(found) = difference(&held[done..done + part], &front[..part]) {
+            return Some(done + found);
+        }
+        done += part;
+        (front, behind) = behind.split_front();
+    }
+    None
+}
+
 /// Returns the slice that comes first in some bytes followed by data, and the data after that slice.
 fn next_slice<'a>(bytes: &'a [u8], behind: Data<'a>) -> (&'a [u8], Data<'a>)
     ensures joined { bytes.now ++ behind.entry ≡ result.0.now ++ result.1 }

@@ -6,7 +6,7 @@ ghost use Rattle.media_block.specs.Fault.{failures_after};
 ghost use Rattle.media_block.specs.Blocks.{block_length, blocks_of, is_disk, disk_of, data_of, replaced, first_difference, AreWhole, KeepsOthers};
 
 use crate::data::write_data;
-use crate::difference::compare_data;
+use crate::difference::{compare_data, difference_from};
 use crate::fault::{DiskOpenFault, NotOpened};
 use crate::part::{LONG_PART_LENGTH, PART, PART_LENGTH, repeated};
 use data_parts::Data;
@@ -188,12 +188,27 @@ impl<S: Store> Disk<S> {
         ensures disk { self.new ≡ record self.old { failures = counted result self.old.failures; honest = self.new.honest } }
         ensures succeeds { IsTrue self.old.steady → IsTrue self.old.honest → IsOk result × (self.new ≡ self.old) }
     {
+        if let Some(held) = self.lend(first, count) {
+            return Ok(difference_from(held, data));
+        }
         // No larger buffer is filled than a few blocks need.
         match count {
             0..=1 => self.compare_in(first, count, data, &mut [0; BLOCK_LENGTH]),
             2..=PART => self.compare_few(first, count, data),
             _ => self.compare_many(first, count, data),
         }
+    }
+
+    /// Lends the data of blocks, if the store holds it in memory.
+    fn lend(&self, first: u64, count: u64) -> Option<&[u8]>
+        requires range { first + count ≤ length self.now.blocks }
+        ensures whole { IfSome result (λ bytes. length bytes.now ≡ block_length * count) }
+        ensures lent { IfSome result (λ bytes. bytes.now ≡ data_of self.now.blocks first count) }
+    {
+        // With this the disk's invariant shows that the place of each block fits a u64.
+        let _ = &self.block_count;
+        self.store
+            .lend(BLOCK_LENGTH as u64 * first, BLOCK_LENGTH * count as usize)
     }
 
     /// Compares a few blocks. It stays a call, since its buffer would lie on the stack of every command.

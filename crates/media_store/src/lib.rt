@@ -5,7 +5,7 @@
 //! where the store is honest after the call: every answer so far agreed with the content.
 //!
 //! - [`MemStore`] keeps the bytes in memory. It is always honest, and calls succeed within its content and up to the
-//!   length that it was made for.
+//!   length that it was made for. It alone lends its bytes.
 //! - [`FileStore`] keeps them in a file. Each call of the system is noted with its answer ([`FileCalls`]),
 //!   so its content is what the file held when it was opened ([`Start`]), after these calls; it is
 //!   honest exactly as long as the answers agree with that, and synced if a sync succeeded after all that changed the

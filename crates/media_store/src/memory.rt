@@ -1,6 +1,6 @@
 //! A store in memory.
 
-ghost use Rattle.std.specs.Prelude.{◌≡◌, ◌+◌, ◌≤◌, ◌↔◌, ◌++◌, take, drop, length, vec_capacity, replicate, true, false, IsOk, IsTrue, IfOk, OnOk, OnErr, slice_range};
+ghost use Rattle.std.specs.Prelude.{◌≡◌, ◌+◌, ◌≤◌, ◌↔◌, ◌++◌, take, drop, length, vec_capacity, replicate, true, false, IsOk, IsSome, IsTrue, IfOk, IfSome, OnOk, OnErr, slice_range};
 ghost use Rattle.media_store.specs.Content.{resized, written};
 ghost use Rattle.media_store.specs.Failures.{risen};
 
@@ -139,6 +139,17 @@ impl Store for MemStore {
         let at = at as usize;
         buf.copy_from_slice(&self.content[at..at + buf.len()]);
         Ok(())
+    }
+
+    fn lend(&self, at: u64, len: usize) -> Option<&[u8]>
+        ensures within { IsSome result ↔ (at + len ≤ length self.now.content) }
+        ensures lent { IfSome result (λ bytes. bytes.now ≡ slice_range self.now.content at (at + len)) }
+    {
+        if !is_below(at, len, self.content.len()) {
+            return None;
+        }
+        let at = at as usize;
+        Some(&self.content[at..at + len])
     }
 
     fn write_at(&mut self, at: u64, bytes: &[u8]) -> Result<(), StoreFault>

@@ -1,6 +1,6 @@
 //! What every store does.
 
-ghost use Rattle.std.specs.Prelude.{◌≡◌, ◌+◌, ◌≤◌, ℕ, List, length, Bool, false, is_ok, IsTrue, IsOk, IfOk, OnOk, OnErr, slice_range};
+ghost use Rattle.std.specs.Prelude.{◌≡◌, ◌+◌, ◌≤◌, ℕ, List, length, Bool, false, is_ok, IsTrue, IsOk, IfOk, IfSome, OnOk, OnErr, slice_range};
 ghost use Rattle.media_store.specs.Content.{resized, written, KeepsOutside, KeepsFront};
 ghost use Rattle.media_store.specs.Failures.{counted};
 ghost use Rattle.media_store.specs.Honesty.{HasAgreed};
@@ -66,6 +66,14 @@ pub trait Store {
         ensures atomic { atomic self.new ≡ atomic self.old }
         ensures succeeds { IsTrue (steady self.old) → at + length buf.old ≤ length (content self.old)
             → IsOk result × (honest self.new ≡ honest self.old) };
+
+    /// Lends the bytes of a range within the content, if they lie in memory. Others have to be read.
+    fn lend(&self, at: u64, len: usize) -> Option<&[u8]>
+        ensures within { IfSome result (λ _. at + len ≤ length (content self.now)) }
+        ensures lent { IfSome result (λ bytes. bytes.now ≡ slice_range (content self.now) at (at + len)) }
+    {
+        None
+    }
 
     /// Writes bytes from an offset on, past the end too. Where it fails, any bytes may stand in the
     /// range.

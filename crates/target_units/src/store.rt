@@ -44,6 +44,13 @@ impl<F: Store> Store for MediumStore<F> {
         }
     }
 
+    fn lend(&self, at: u64, len: usize) -> Option<&[u8]> {
+        match self {
+            MediumStore::Memory(store) => store.lend(at, len),
+            MediumStore::File(store) => store.lend(at, len),
+        }
+    }
+
     fn write_at(&mut self, at: u64, bytes: &[u8]) -> Result<(), StoreFault> {
         match self {
             MediumStore::Memory(store) => store.write_at(at, bytes),

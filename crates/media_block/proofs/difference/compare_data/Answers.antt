@@ -1,6 +1,6 @@
-use Rattle.std.proofs.Common.{◌≡◌, ℕ, zero, suc, true, false, ◌==◌, ◌+◌, ◌<◌, ◌≤◌, List, ◌++◌, length, take, drop, slice_range, arith, rules, ap, sym, ◌∙◌}
+use Rattle.std.proofs.Common.{◌≡◌, ℕ, ◌+◌, List, ◌++◌, length, take, drop, arith, rules, ap, sym, ◌∙◌}
 use Rattle.std.proofs.lemmas.List.{length-append, length-drop, length-take-le, drop-append-le, drop-drop}
-use Rattle.media_block.proofs.Slices.{front-slice, behind-slice}
+use Rattle.media_block.proofs.Slices.{front-slice}
 use Rattle.media_block.proofs.Differences.{found-difference, same-more}
 use Rattle.media_block.proofs.difference.compare_data.Goals as goal
 

@@ -1,6 +1,5 @@
-use Rattle.std.proofs.Common.{◌≡◌, ◌+◌, ◌*◌, ◌≤◌, ◌<◌, length, take, refl, arith, rules, ap, sym, ◌∙◌}
-use Rattle.std.proofs.lemmas.Result.{IfOk-weaker}
-use Rattle.media_block.specs.Blocks.{block_length, data_of, blocks_of, first_difference}
+use Rattle.std.proofs.Common.{◌+◌, ◌*◌, ◌≤◌, refl, arith}
+use Rattle.media_block.specs.Blocks.{block_length}
 use Rattle.media_block.proofs.Blocks.{length-blocks_of}
 use Rattle.media_block.proofs.Writes.{read-blocks}
 use Rattle.media_block.proofs.disk.Disk.compare_in.Goals as goal
