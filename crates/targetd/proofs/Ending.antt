@@ -34,15 +34,15 @@ use Rattle.target_replay.specs.Printed.{all_sent, HasSentAll}
 use Rattle.target_replay.specs.Replay.{Ends, EndsBy, EndsAsCame, EndsAsCameBy}
 use Rattle.target_replay.specs.declared.fault.ReplayFault.{ReplayFault}
 use Rattle.target_replay.specs.declared.fault.ReplayFault.TheVariants as replays
-use Rattle.targetd.specs.declared.fault.Fault.{Fault}
-use Rattle.targetd.specs.declared.fault.Fault.TheVariants as faults
-use Rattle.targetd.specs.Fault.{config_fault, replay_fault, bind_fault}
+use Rattle.target_serving.specs.declared.fault.Fault.{Fault}
+use Rattle.target_serving.specs.declared.fault.Fault.TheVariants as faults
+use Rattle.target_serving.specs.Fault.{config_fault, replay_fault, bind_fault}
 use Rattle.target_config.specs.Loading.{Loads, told_of}
 use Rattle.target_units.specs.Opened.{Held, IsMediumOf, IsUnitOf, AreEach, AreUnitsOf}
 use Rattle.target_units.specs.Refusal.{Refusal}
 use Rattle.targetd.specs.Help.{RefusesWords}
-use Rattle.targetd.specs.Logging.{OpensLog}
-use Rattle.targetd.specs.Serve.{listening_line, HasServed, Serves}
+use Rattle.target_serving.specs.Logging.{OpensLog}
+use Rattle.target_serving.specs.Serve.{listening_line, HasServed, Serves}
 use Rattle.targetd.specs.Unopened.{IsUnopened}
 use Rattle.targetd.specs.Run.{FailsToListen, FailsEarly, LeftState, ServedState, listening, known_of, setting_of, IsReplay, IsServing, Replays, ServesAt, Runs}
 
@@ -194,21 +194,6 @@ serving_unbound held left w count document (Ok end) fault is why = absurd is
 serving_unbound held left w count document (Err seen) fault is (inl unbound) = inl (Keeps-refl w, inl (is ∙ unbound.0, unbound.1))
 serving_unbound held left w count document (Err seen) fault is (inr starved) =
     inl (Keeps-refl w, inr (subst (FailsEarly held left.refused (Ok document)) (sym (is ∙ starved)) (early_memory held left.refused (Ok document))))
-
-pub fails_to_print : (line : List ℕ) (count : ℕ) (tells : Bool) (log : List Entry) (target : Machine) (w0 w1 : Option (List ℕ))
-    (result : Result (Unit {0}) Fault) (fault : ReplayFault) (text : List ℕ)
-    → IsErrAnd result (λ seen. seen ≡ replay_fault fault) → fault ≡ replays.Output → text ≡ line
-    → (part : List ℕ) × (unprinted : List ℕ) × (text ≡ part ++ unprinted) × Appends w0 w1 part → Serves line count tells log log target target w0 w1 result
-fails_to_print line count tells log target w0 w1 (Ok end) fault text told output same cut = absurd told
-fails_to_print line count tells log target w0 w1 (Err seen) fault text told output same cut =
-    inl (inr (told ∙ ap replay_fault output, (cut.0, cut.1, sym same ∙ cut.2, cut.3)), refl, refl)
-
-pub serving_fails : (line : List ℕ) (count : ℕ) (tells : Bool) (log log_then : List Entry) (target target_then : Machine) (w0 w1 : Option (List ℕ))
-    (result : Result (Unit {0}) Fault) (fault : ServeFault)
-    → IsErrAnd result (λ seen. seen ≡ faults.Socket) → HasServed line count tells log log_then target target_then w0 w1 (Err fault)
-    → Serves line count tells log log_then target target_then w0 w1 result
-serving_fails line count tells log log_then target target_then w0 w1 (Ok end) fault told served = absurd told
-serving_fails line count tells log log_then target target_then w0 w1 (Err seen) fault told served = inr (Err fault, ap (λ (f : Fault). Err f) told, served)
 
 sure_behind : (line : List ℕ) (count : ℕ) (tells : Bool) (log log_then : List Entry) (target target_then : Machine) (w0 w1 : Option (List ℕ))
     (result : Result (Unit {0}) Fault)

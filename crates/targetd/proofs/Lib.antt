@@ -1,3 +1,2 @@
 pub mod Made
 pub mod Ending
-pub mod LogOpened

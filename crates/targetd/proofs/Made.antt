@@ -12,7 +12,7 @@ use Rattle.target_units.specs.Refusal.{Refusal}
 use Rattle.target_units.specs.Unopened.{IsUnopened as AreUnopened}
 use Rattle.target_units.specs.declared.fault.OpenFault.{OpenFault}
 use Rattle.target_units.specs.declared.fault.OpenFault.TheVariants as opens
-use Rattle.targetd.specs.Fault.{opening_fault}
+use Rattle.target_serving.specs.Fault.{opening_fault}
 use Rattle.targetd.specs.Run.{known_of}
 use Rattle.targetd.specs.Unopened.{IsUnopened}
 

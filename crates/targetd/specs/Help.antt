@@ -2,8 +2,8 @@
 use Rattle.std.specs.Prelude.{◌≡◌, ◌⊎◌, ℕ, List, ◌++◌, Bool, true, false, Option}
 use Rattle.std.specs.Io.KnownBytes.{Appends, Keeps}
 use Rattle.command_line.specs.Help.{usage_text}
-use Rattle.targetd.specs.declared.fault.Fault.{Fault}
-use Rattle.targetd.specs.declared.fault.Fault.TheVariants.{Usage, Output}
+use Rattle.target_serving.specs.declared.fault.Fault.{Fault}
+use Rattle.target_serving.specs.declared.fault.Fault.TheVariants.{Usage, Output}
 
 -- a text was printed as far as the output accepted it
 abbrev pub PrintsFront : List ℕ → Option (List ℕ) → Option (List ℕ) → Type 0

@@ -21,16 +21,16 @@ use Rattle.target_config.specs.declared.fault.ConfigFault.{ConfigFault}
 use Rattle.target_config.specs.declared.fault.ConfigFault.TheVariants.{Unreadable}
 use Rattle.target_replay.specs.Replay.{Ends, EndsBy, EndsAsCame, EndsAsCameBy}
 use Rattle.target_replay.specs.declared.fault.ReplayFault.{ReplayFault}
-use Rattle.targetd.specs.declared.fault.Fault.{Fault}
-use Rattle.targetd.specs.declared.fault.Fault.TheVariants.{Socket, Streams, OutOfMemory}
-use Rattle.targetd.specs.Fault.{config_fault, replay_fault}
+use Rattle.target_serving.specs.declared.fault.Fault.{Fault}
+use Rattle.target_serving.specs.declared.fault.Fault.TheVariants.{Socket, Streams, OutOfMemory}
+use Rattle.target_serving.specs.Fault.{config_fault, replay_fault}
 use Rattle.target_config.specs.Loading.{told_of}
 use Rattle.target_units.specs.Opened.{Held, AreUnitsOf}
 use Rattle.target_units.specs.Refusal.{Refusal}
 use Rattle.targetd.specs.Unopened.{IsUnopened}
-use Rattle.targetd.specs.Logging.{OpensLog}
+use Rattle.target_serving.specs.Logging.{OpensLog}
 use Rattle.targetd.specs.Help.{RefusesWords}
-use Rattle.targetd.specs.Serve.{listening_line, Serves}
+use Rattle.target_serving.specs.Serve.{listening_line, Serves}
 
 -- the targets of a configuration, and their portal
 abbrev pub known_of : Document → KnownTargets

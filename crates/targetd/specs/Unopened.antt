@@ -5,8 +5,8 @@ use Rattle.target_units.specs.Opened.{Held}
 use Rattle.target_units.specs.Refusal.{Refusal}
 use Rattle.target_units.specs.Unopened.{IsRefusedAt}
 use Rattle.target_units.specs.declared.cause.DeviceCause.{DeviceCause}
-use Rattle.targetd.specs.declared.fault.Fault.{Fault}
-use Rattle.targetd.specs.declared.fault.Fault.TheVariants as faults
+use Rattle.target_serving.specs.declared.fault.Fault.{Fault}
+use Rattle.target_serving.specs.declared.fault.Fault.TheVariants as faults
 
 -- one of the units is refused, whatever the cause, or an allocation failed
 abbrev pub IsUnopened : Held → List TargetEntry → Refusal → Fault → Type 0

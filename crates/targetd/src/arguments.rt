@@ -2,10 +2,10 @@
 
 ghost use Rattle.std.specs.Prelude.{◌≡◌, ◌≢◌, IfErr};
 
-use crate::fault::Fault;
 use std::env::{self, FillError};
 use std::io::ErrorKind;
 use std::rt::Env;
+use target_serving::Fault;
 
 /// The environment, with the words of the command line counted from the first after the program's name. The name
 /// itself need not be UTF-8.

@@ -4,10 +4,10 @@ ghost use Rattle.std.specs.Prelude.{map};
 ghost use Rattle.command_line.specs.Help.{calls_for_help};
 ghost use Rattle.targetd.specs.Help.{RefusesWords};
 
-use crate::fault::Fault;
 use command_line::{is_help, usage};
 use std::io::Write;
 use target_replay::print_all;
+use target_serving::Fault;
 
 /// Returns the fault of a run whose words are no command. If they call for help, prints the usage first.
 pub fn refuse_words<W: Write>(words: &[&str], writer: &mut W) -> Fault

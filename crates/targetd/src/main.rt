@@ -29,21 +29,18 @@
 
 mod arguments;
 mod causes;
-mod fault;
 mod help;
 mod left;
-mod logging;
 mod opening;
 mod run;
-mod serve;
 
 use arguments::arguments;
-use fault::{Fault, status_of};
 use left::Left;
 use media_store::Unknown;
 use run::run;
 use std::io;
 use std::process::ExitCode;
+use target_serving::{Fault, status_of};
 
 /// Runs the program with the words of the command line.
 fn run_with_words(rt: &HostRuntime) -> Result<(), Fault> {

@@ -8,7 +8,6 @@ ghost use Rattle.target_units.specs.Refusal.{refusal_of};
 ghost use Rattle.targetd.specs.Unopened.{IsUnopened};
 
 use crate::causes::Causes;
-use crate::fault::Fault;
 use iscsi_target::Config;
 use media_store::Start;
 use scsi_unit::Units;
@@ -16,6 +15,7 @@ use std::fs::File;
 use std::net::Net;
 use std::rt::{Clock, Files};
 use target_config::Configuration;
+use target_serving::Fault;
 use target_units::{OpenedTargets, Refused, SystemStore};
 
 /// What a target is made from.

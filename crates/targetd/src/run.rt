@@ -14,10 +14,8 @@ ghost use Rattle.targetd.specs.Left.{left_view};
 ghost use Rattle.targetd.specs.Run.{Replays, ServesAt, Runs, listening};
 
 use crate::causes::Causes;
-use crate::fault::Fault;
 use crate::help::refuse_words;
 use crate::left::{Left, Served};
-use crate::logging::serve_logged;
 use crate::opening::{Setup, open, open_telling};
 use call_record::Record;
 use command_line::{Mode, WordsFault, as_texts, mode_of};
@@ -31,6 +29,7 @@ use std::net::{Net, SocketAddr};
 use std::rt::{Clock, Files};
 use target_config::{file_config, load};
 use target_replay::{Engine, replay};
+use target_serving::{Fault, serve_logged};
 
 /// Takes the descriptors of the standard streams, so that no file that is opened later gets one of them.
 fn take_streams<S: Start>(rt: &impl Files<File = File>, left: &mut Left<S>) -> Result<(), Fault>

@@ -1,9 +1,9 @@
 //! Serving with a log, if the configuration names one.
 
 ghost use Rattle.std.specs.Prelude.{◌≡◌, ◌⊎◌, IfErr, OnOk, OnErr, option_map, string_bytes};
-ghost use Rattle.targetd.specs.Logging.{HasOpenedLog, HasNoLog, OpensLog};
-ghost use Rattle.targetd.specs.Serve.{listening_line, Serves};
-ghost use Rattle.targetd.specs.declared.fault.Fault.TheVariants.{Output, OutOfMemory};
+ghost use Rattle.target_serving.specs.Logging.{HasOpenedLog, HasNoLog, OpensLog};
+ghost use Rattle.target_serving.specs.Serve.{listening_line, Serves};
+ghost use Rattle.target_serving.specs.declared.fault.Fault.TheVariants.{Output, OutOfMemory};
 
 use crate::fault::Fault;
 use crate::serve::serve;

@@ -3,7 +3,7 @@ use Rattle.std.proofs.Common.{ℕ, List, Option, None, Some, inl, inr, refl}
 use Rattle.std.proofs.KnownBytes.{Keeps-refl}
 use Rattle.call_record.specs.Noted.{Noted}
 use Rattle.iscsi_ports.specs.Log.{Entry}
-use Rattle.targetd.specs.Logging.{HasOpenedLog, HasNoLog, OpensLog}
+use Rattle.target_serving.specs.Logging.{HasOpenedLog, HasNoLog, OpensLog}
 
 pub log_opened : (path : Option (List ℕ)) (old new : List Noted) (log log_then : List Entry) (w w_then : Option (List ℕ))
     → HasOpenedLog path old new → OpensLog path old new log log_then w w_then

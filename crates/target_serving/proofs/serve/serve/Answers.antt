@@ -1,6 +1,6 @@
 use Rattle.std.proofs.Common.{inr, refl, Ok, ◌∙◌}
-use Rattle.targetd.proofs.Ending.{fails_to_print, serving_fails}
-use Rattle.targetd.proofs.serve.serve.Goals as goal
+use Rattle.target_serving.proofs.Failing.{fails_to_print, serving_fails}
+use Rattle.target_serving.proofs.serve.serve.Goals as goal
 
 pub returns-in_err-print_all : goal.returns-in_err-print_all
 returns-in_err-print_all g c =

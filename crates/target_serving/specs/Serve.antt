@@ -9,8 +9,8 @@ use Rattle.iscsi_ports.specs.Log.{Entry}
 use Rattle.iscsi_serve.specs.Served.{StaysServed, ComesOutServed}
 use Rattle.iscsi_serve.specs.Turn.{Moment, log_of, beginning, EndsTurns}
 use Rattle.iscsi_serve.specs.declared.fault.ServeFault.{ServeFault}
-use Rattle.targetd.specs.declared.fault.Fault.{Fault}
-use Rattle.targetd.specs.declared.fault.Fault.TheVariants as faults
+use Rattle.target_serving.specs.declared.fault.Fault.{Fault}
+use Rattle.target_serving.specs.declared.fault.Fault.TheVariants as faults
 
 -- profile: the line that says where the target listens
 abbrev pub listening_line : SocketAddr → List ℕ

@@ -1,7 +1,7 @@
 -- Logs that are opened and that are not, computed.
 use Rattle.std.specs.Prelude.{[], ◌∷◌, Some, None, true, false, refl}
 use Rattle.std.proofs.Common.{inr}
-use Rattle.targetd.specs.Logging.{log_notes, HasOpenedLog, HasNoLog}
+use Rattle.target_serving.specs.Logging.{log_notes, HasOpenedLog, HasNoLog}
 
 -- no log is configured; the one at the path 47 is opened; it is not
 no_log : HasOpenedLog None [] []

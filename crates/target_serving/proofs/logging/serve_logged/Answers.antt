@@ -1,7 +1,7 @@
 use Rattle.std.proofs.Common.{[], inl, inr, refl}
 use Rattle.std.proofs.KnownBytes.{Appends-nil, Keeps-refl}
-use Rattle.targetd.proofs.LogOpened.{log_opened, log_unopened}
-use Rattle.targetd.proofs.logging.serve_logged.Goals as goal
+use Rattle.target_serving.proofs.LogOpened.{log_opened, log_unopened}
+use Rattle.target_serving.proofs.logging.serve_logged.Goals as goal
 
 -- nothing of the line was printed
 pub returns-in-Err-clause-serves : goal.returns-in-Err-clause-serves

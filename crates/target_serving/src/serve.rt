@@ -1,7 +1,7 @@
 //! Serving: the target listens, and initiators connect to it.
 
 ghost use Rattle.std.specs.Prelude.{◌≡◌, ◌++◌, ◌∷◌, [], IfOk, string_bytes};
-ghost use Rattle.targetd.specs.Serve.{listening_line, Serves};
+ghost use Rattle.target_serving.specs.Serve.{listening_line, Serves};
 
 use crate::fault::Fault;
 use iscsi_ports::Ports;

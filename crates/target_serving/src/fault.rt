@@ -1,8 +1,8 @@
 //! How a run ends if it does not reach the end of its input or of its turns.
 
 ghost use Rattle.std.specs.Prelude.{◌≡◌, Result};
-ghost use Rattle.targetd.specs.Fault.{status_of as exit_status, words_fault, config_fault, opening_fault, replay_fault, bind_fault};
-ghost use Rattle.targetd.specs.declared.fault.Fault.TheVariants.{OutOfMemory, Socket};
+ghost use Rattle.target_serving.specs.Fault.{status_of as exit_status, words_fault, config_fault, opening_fault, replay_fault, bind_fault};
+ghost use Rattle.target_serving.specs.declared.fault.Fault.TheVariants.{OutOfMemory, Socket};
 
 use command_line::WordsFault;
 use iscsi_ports::BindFault;

@@ -10,8 +10,8 @@ use Rattle.target_replay.specs.declared.fault.ReplayFault.{ReplayFault}
 use Rattle.target_replay.specs.declared.fault.ReplayFault.TheVariants as replays
 use Rattle.target_units.specs.declared.fault.OpenFault.{OpenFault}
 use Rattle.target_units.specs.declared.fault.OpenFault.TheVariants as opens
-use Rattle.targetd.specs.declared.fault.Fault.{Fault}
-use Rattle.targetd.specs.declared.fault.Fault.TheVariants as faults
+use Rattle.target_serving.specs.declared.fault.Fault.{Fault}
+use Rattle.target_serving.specs.declared.fault.Fault.TheVariants as faults
 
 -- profile: 0 means the end of the input or of the turns, 1 a fault of the configuration. 2 means a fault in what the
 -- caller wrote, 3 a failure around the program

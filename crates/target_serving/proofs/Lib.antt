@@ -1,0 +1,2 @@
+pub mod LogOpened
+pub mod Failing

@@ -1,0 +1,4 @@
+pub mod Fault
+pub mod Serve
+pub mod Logging
+pub mod ExamplesLogging
