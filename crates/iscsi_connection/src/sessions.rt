@@ -5,7 +5,7 @@ ghost use Rattle.iscsi_login.specs.Session.{is_of as is_session_of, named_by, ol
 ghost use Rattle.iscsi_world.specs.Machine.{session_in_phase, sessions};
 
 use crate::connection::Connection;
-use iscsi_login::{SessionParams, is_same_target};
+use iscsi_login::SessionParams;
 use iscsi_world::Phase;
 use target_limits::Memory;
 
@@ -14,10 +14,7 @@ fn is_of(connection: &Connection, session: &SessionParams) -> bool
     ensures { result ≡ is_session_of session.now.nexus session.now.target (session_in_phase connection.now.phase) }
 {
     match &connection.phase {
-        Phase::FullFeature(other) => {
-            let other = other.params();
-            other.nexus.is_same(&session.nexus) && is_same_target(other.target, session.target)
-        }
+        Phase::FullFeature(other) => other.params().is_of(&session.nexus, session.target),
         _ => false,
     }
 }

@@ -9,14 +9,11 @@ ghost use Rattle.iscsi_text.specs.Pairs.{text_pairs};
 use crate::send_targets::answer_text;
 use crate::told::{Piece, Told};
 use iscsi_login::SessionParams;
-use iscsi_pdu::{EXCHANGE_TAG, Frame, MOST_DATA, NO_EXCHANGE_TAG, TextStep};
-use iscsi_text::{TextFault, pairs};
+use iscsi_pdu::{EXCHANGE_TAG, Frame, MOST_DATA, RESERVED_TAG, TextStep};
+use iscsi_text::{LONGEST_TEXT, TextFault, pairs};
 use std::alloc::Global;
 use std::marker::Model;
 use target_limits::Memory;
-
-/// The longest text that is kept, in bytes.
-const LONGEST_TEXT: usize = 65536;
 
 /// The state of an exchange of texts (RFC 7143 §11.10). It has the text so far that is to be continued, and the rest of
 /// an answer that is still to be sent. A session has one exchange at a time.
@@ -80,7 +77,7 @@ impl Exchange {
         ensures short { IfOk result (λ told. IsShort told.piece) }
     {
         let tag = request.header.target_transfer_tag();
-        if tag == NO_EXCHANGE_TAG {
+        if tag == RESERVED_TAG {
             return Exchange::none(self.alloc).hear_in(request, params);
         }
         if self.is_open && tag == EXCHANGE_TAG {

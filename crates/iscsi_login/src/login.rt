@@ -22,12 +22,10 @@ use crate::session_params::SessionParams;
 use crate::values::Values;
 use bytes::BytesMut;
 use iscsi_pdu::{Frame, Header, LoginRefusal, Stage};
+use iscsi_text::LONGEST_TEXT;
 use std::alloc::Global;
 use std::marker::Model;
 use target_limits::Memory;
-
-/// The longest text of a login that is kept, in bytes.
-const LONGEST_TEXT: usize = 65536;
 
 /// A login in progress. Clauses see it as what it remembers of its requests.
 #[derive(Drop)]

@@ -8,7 +8,7 @@ ghost use Rattle.iscsi_login.specs.Rules.{refusal_by, rules_of_names, rules_of_h
 
 use crate::directory::Directory;
 use crate::fault::Fault;
-use crate::requested_session::{RequestedSession, is_same_target};
+use crate::requested_session::RequestedSession;
 use crate::session_params::SessionParams;
 use iscsi_pdu::{Header, LoginRefusal};
 use iscsi_text::Pairs;
@@ -132,8 +132,7 @@ impl RequestedSession {
         ensures { result ≡ is_session_of self.now.nexus self.now.target other.now }
     {
         match other {
-            Some(other) => other.nexus.is_same(&self.nexus)
-                && is_same_target(other.target, self.target),
+            Some(other) => other.is_of(&self.nexus, self.target),
             None => false,
         }
     }

@@ -1,8 +1,9 @@
 //! The parameters with which full feature phase begins.
 
-ghost use Rattle.std.specs.Prelude.{◌≡◌};
+ghost use Rattle.std.specs.Prelude.{◌≡◌, Some};
 
 use crate::directory::Directory;
+use crate::requested_session::is_same_target;
 use crate::values::Values;
 use scsi_sense::Nexus;
 use std::alloc::AllocError;
@@ -22,6 +23,17 @@ pub struct SessionParams {
     /// StatSN of the next answer, after those of the login (RFC 7143 §4.2.2.2)
     pub next_stat_sn: u32,
     pub values: Values,
+}
+
+impl SessionParams {
+    ghost use Rattle.iscsi_login.specs.Session.{is_of as is_session_of};
+
+    /// Returns whether it is a session of this nexus with this target. A discovery session is with none.
+    pub fn is_of(&self, nexus: &Nexus, target: Option<usize>) -> bool
+        ensures { result ≡ is_session_of nexus.now target (Some self.now) }
+    {
+        self.nexus.is_same(nexus) && is_same_target(self.target, target)
+    }
 }
 
 impl Clone for SessionParams {

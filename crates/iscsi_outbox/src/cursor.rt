@@ -13,10 +13,10 @@ ghost use Rattle.iscsi_outbox.specs.Cursor.{pieces_left, left, IsPlaced, IsReady
 ghost use Rattle.iscsi_outbox.specs.Offered.{EndsPdu};
 
 use crate::limits::Limits;
-use crate::put::{padding, put};
+use crate::put::put;
 use crate::shared::SharedFields;
 use bytes::BytesMut;
-use iscsi_pdu::{Answer, DataIn};
+use iscsi_pdu::{Answer, DataIn, padding};
 use iscsi_transfer::{Piece, piece_at, piece_count};
 use scsi_sense::HEADROOM;
 use std::alloc::AllocError;

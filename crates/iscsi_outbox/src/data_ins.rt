@@ -8,11 +8,10 @@ ghost use Rattle.iscsi_outbox.specs.Offered.{AreWhole};
 
 use crate::cursor::Cursor;
 use crate::limits::Limits;
-use crate::put::padding;
 use crate::shared::SharedFields;
 use crate::unsent::Unsent;
 use bytes::BytesMut;
-use iscsi_pdu::Answer;
+use iscsi_pdu::{Answer, padding};
 use iscsi_transfer::piece_count;
 use scsi_sense::HEADROOM;
 use std::marker::Model;

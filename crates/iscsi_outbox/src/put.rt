@@ -1,8 +1,7 @@
 //! Writing answers into reserved room.
 
-ghost use Rattle.std.specs.Prelude.{◌≡◌, ◌≤◌, ◌<◌, ◌+◌, ◌-◌, ◌^◌, ◌++◌, length};
+ghost use Rattle.std.specs.Prelude.{◌≡◌, ◌≤◌, ◌+◌, ◌++◌, length};
 ghost use Rattle.iscsi_pdu.specs.Answer.{spelling};
-ghost use Rattle.iscsi_pdu.specs.Segment.{padded};
 
 use bytes::BytesMut;
 use iscsi_pdu::Answer;
@@ -15,12 +14,4 @@ pub(crate) fn put(buffer: &mut BytesMut, answer: &Answer)
 {
     // There is room for it, so this does not fail.
     let _ = answer.write(buffer);
-}
-
-/// Returns how many bytes pad a data segment of this length to a multiple of 4 (RFC 7143 §11.1).
-pub(crate) fn padding(length: usize) -> usize
-    ensures value { result ≡ padded length - length }
-    ensures bound { result ≤ 3 }
-{
-    (4 - length % 4) % 4
 }

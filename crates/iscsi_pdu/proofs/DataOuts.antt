@@ -1,12 +1,12 @@
 -- Data-Outs of whose data only the length is kept.
-use Rattle.std.proofs.Common.{◌≡◌, ℕ, ◌+◌, ◌-◌, ◌<◌, ◌≤◌, true, false, List, [], ◌++◌, length, take, drop, replicate, refl, sym, ap, ◌∙◌, inl, inr, arith, append_assoc, append-nil, length-append, length-drop}
+use Rattle.std.proofs.Common.{◌≡◌, ℕ, ◌+◌, ◌-◌, ◌<◌, ◌≤◌, true, false, List, [], ◌++◌, length, take, drop, replicate, refl, sym, ap, ◌∙◌, inl, inr, arith, append-nil, length-append, length-drop}
 use Rattle.std.proofs.lemmas.Bool.{leb-true, le-leb, and_parts, cases_Bool}
 use Rattle.std.proofs.lemmas.List.{take-append-le, take-append-drop, take-take, take_all, drop_all, length-take-le, length-replicate, get_or_append_left, append_cancel_left}
 use Rattle.iscsi_pdu.specs.Header.{header_length, additional_length, data_length}
 use Rattle.iscsi_pdu.specs.Frames.{has_frame, frame_length}
 use Rattle.iscsi_pdu.specs.Parts.{is_data_out, data_so_far, shown, HoldsOne}
 use Rattle.iscsi_pdu.proofs.Frames.{has_frame-true, frame_length-header, no_frame}
-use Rattle.iscsi_pdu.proofs.Cuts.{frame_length-append, additional_length-append, data_length-append, additional_length-take, data_length-take}
+use Rattle.iscsi_pdu.proofs.Cuts.{additional_length-append, data_length-append, additional_length-take, data_length-take}
 use Rattle.iscsi_pdu.proofs.Zeros.{drop_append, take_append}
 
 -- ---- the header says whether it is one

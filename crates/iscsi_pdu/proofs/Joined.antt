@@ -4,7 +4,7 @@ use Rattle.std.proofs.lemmas.Bool.{cases_Bool}
 use Rattle.std.proofs.lemmas.List.{drop_all}
 use Rattle.iscsi_pdu.specs.Header.{header_length}
 use Rattle.iscsi_pdu.specs.Frames.{Frame, has_frame, first_frame, frame_length, frames, rest}
-use Rattle.iscsi_pdu.specs.Parts.{is_data_out, data_so_far, shown, Brings, Takes, Call, AreCalls, bytes_used, bytes_left, joined, parts_given}
+use Rattle.iscsi_pdu.specs.Parts.{is_data_out, data_so_far, shown, Brings, Call, AreCalls, bytes_used, bytes_left, joined, parts_given}
 use Rattle.iscsi_pdu.specs.Laws.{PartsAreFrames, LeftIsTheRest}
 use Rattle.iscsi_pdu.specs.declared.part.Part.{Part}
 use Rattle.iscsi_pdu.specs.declared.part.Part.TheVariants as parts

@@ -4,7 +4,7 @@ ghost use Rattle.std.specs.Prelude.{◌≡◌, ◌+◌, ◌≤◌, length};
 ghost use Rattle.iscsi_pdu.specs.Header.{header_length};
 ghost use Rattle.iscsi_pdu.specs.Segment.{most_data};
 
-use crate::header::HEADER_LENGTH;
+use crate::header::{HEADER_LENGTH, RESERVED_TAG};
 use crate::segment::padded;
 use byteorder::{BigEndian, ByteOrder};
 use std::marker::Model;
@@ -14,9 +14,6 @@ const OPCODE: u8 = 0x25;
 
 /// F, bit 7 of byte 1.
 const FINAL: u8 = 0x80;
-
-/// The Target Transfer Tag of data that asks for no acknowledgement.
-const NO_TRANSFER_TAG: u32 = 0xffff_ffff;
 
 /// A piece of the data that a command returns (RFC 7143 §11.7). It carries no status, so its StatSN is 0, and it asks
 /// for no acknowledgement.
@@ -76,7 +73,7 @@ impl<'a> DataIn<'a> {
         header[1] = if self.is_final { FINAL } else { 0 };
         BigEndian::write_u24(&mut header[5..8], self.body.len() as u32);
         BigEndian::write_u32(&mut header[16..20], self.initiator_task_tag);
-        BigEndian::write_u32(&mut header[20..24], NO_TRANSFER_TAG);
+        BigEndian::write_u32(&mut header[20..24], RESERVED_TAG);
         BigEndian::write_u32(&mut header[28..32], self.exp_cmd_sn);
         BigEndian::write_u32(&mut header[32..36], self.max_cmd_sn);
         BigEndian::write_u32(&mut header[36..40], self.data_sn);

@@ -11,6 +11,10 @@ use std::marker::Model;
 /// The length of a header in bytes.
 pub const HEADER_LENGTH: usize = 48;
 
+/// The reserved tag: as an Initiator Task Tag it names no task (RFC 7143 §11.2.1.8), as a Target Transfer Tag no transfer
+/// and no exchange of texts (§11.7.4, §11.10.4, §11.11.4).
+pub const RESERVED_TAG: u32 = 0xffff_ffff;
+
 /// I, in byte 0.
 const IMMEDIATE: u8 = 0x40;
 

@@ -5,14 +5,11 @@ ghost use Rattle.iscsi_pdu.specs.Header.{header_length};
 ghost use Rattle.iscsi_pdu.specs.Segment.{most_data};
 
 use crate::header::HEADER_LENGTH;
+use crate::result_header::result_header;
 use crate::stamp::Stamp;
-use byteorder::{BigEndian, ByteOrder};
 
 /// The opcode, byte 0.
 const OPCODE: u8 = 0x26;
-
-/// The bit of byte 1 that is always set.
-const FINAL: u8 = 0x80;
 
 /// The result of a logout (RFC 7143 §11.15.1).
 #[derive(Clone, Copy)]
@@ -60,12 +57,7 @@ impl LogoutResponse {
     pub(crate) fn header(&self) -> [u8; HEADER_LENGTH]
         ensures { result ≡ logout_response_header self.now }
     {
-        let mut header = [0; HEADER_LENGTH];
-        header[0] = OPCODE;
-        header[1] = FINAL;
-        header[2] = self.response.code();
-        BigEndian::write_u32(&mut header[16..20], self.initiator_task_tag);
-        header[24..36].copy_from_slice(&self.stamp.bytes());
-        header
+        let code = self.response.code();
+        result_header(OPCODE, code, self.initiator_task_tag, self.stamp)
     }
 }

@@ -4,7 +4,7 @@ ghost use Rattle.std.specs.Prelude.{◌≡◌, ◌+◌, ◌≤◌, length};
 ghost use Rattle.iscsi_pdu.specs.Header.{header_length};
 ghost use Rattle.iscsi_pdu.specs.Segment.{most_data};
 
-use crate::header::HEADER_LENGTH;
+use crate::header::{HEADER_LENGTH, RESERVED_TAG};
 use crate::segment::padded;
 use crate::stamp::Stamp;
 use byteorder::{BigEndian, ByteOrder};
@@ -15,9 +15,6 @@ const OPCODE: u8 = 0x20;
 
 /// The bit of byte 1 that is always set.
 const FINAL: u8 = 0x80;
-
-/// The Target Transfer Tag of a NOP-In that answers a NOP-Out.
-const NO_TRANSFER_TAG: u32 = 0xffff_ffff;
 
 /// The answer to a NOP-Out (RFC 7143 §11.19). It asks for no answer, so its LUN is 0.
 #[derive(Drop)]
@@ -61,7 +58,7 @@ impl<'a> NopIn<'a> {
         header[1] = FINAL;
         BigEndian::write_u24(&mut header[5..8], self.body.len() as u32);
         BigEndian::write_u32(&mut header[16..20], self.initiator_task_tag);
-        BigEndian::write_u32(&mut header[20..24], NO_TRANSFER_TAG);
+        BigEndian::write_u32(&mut header[20..24], RESERVED_TAG);
         header[24..36].copy_from_slice(&self.stamp.bytes());
         header
     }

@@ -4,7 +4,7 @@ ghost use Rattle.std.specs.Prelude.{◌≡◌, ◌+◌, ◌≤◌, length};
 ghost use Rattle.iscsi_pdu.specs.Header.{header_length};
 ghost use Rattle.iscsi_pdu.specs.Segment.{most_data};
 
-use crate::header::{HEADER_LENGTH, Header};
+use crate::header::{HEADER_LENGTH, Header, RESERVED_TAG};
 use crate::segment::padded;
 use crate::stamp::Stamp;
 use byteorder::{BigEndian, ByteOrder};
@@ -14,9 +14,6 @@ const OPCODE: u8 = 0x3F;
 
 /// The bit of byte 1 that is always set.
 const FINAL: u8 = 0x80;
-
-/// The value in the place of the Initiator Task Tag.
-const NO_TASK_TAG: u32 = 0xffff_ffff;
 
 /// The reason why a PDU is refused (RFC 7143 §11.17.1).
 #[derive(Clone, Copy)]
@@ -71,7 +68,7 @@ impl Reject {
         header[1] = FINAL;
         header[2] = self.reason.code();
         BigEndian::write_u24(&mut header[5..8], self.segment().len() as u32);
-        BigEndian::write_u32(&mut header[16..20], NO_TASK_TAG);
+        BigEndian::write_u32(&mut header[16..20], RESERVED_TAG);
         header[24..36].copy_from_slice(&self.stamp.bytes());
         header
     }

@@ -1,6 +1,6 @@
 //! Data segments and their padding (RFC 7143 §11.1).
 
-ghost use Rattle.std.specs.Prelude.{◌≡◌, ◌+◌, ◌<◌, ◌≤◌, ◌^◌, ◌++◌, length, IfErr, OnOk, OnErr};
+ghost use Rattle.std.specs.Prelude.{◌≡◌, ◌+◌, ◌-◌, ◌<◌, ◌≤◌, ◌^◌, ◌++◌, length, IfErr, OnOk, OnErr};
 ghost use Rattle.iscsi_pdu.specs.Segment.{most_data, padded, segment};
 
 use crate::fault::PduFault;
@@ -18,6 +18,14 @@ pub fn padded(length: usize) -> usize
     4 * ((length + 3) / 4)
 }
 
+/// Returns how many bytes pad a data segment of this length to a multiple of 4.
+pub fn padding(length: usize) -> usize
+    ensures value { result ≡ padded length - length }
+    ensures bound { result ≤ 3 }
+{
+    (4 - length % 4) % 4
+}
+
 /// Writes a header, its data segment and the padding, or nothing.
 pub fn put(out: &mut BytesMut, header: &[u8; HEADER_LENGTH], body: &[u8]) -> Result<(), PduFault>
     requires { length body.now ≤ most_data }
@@ -28,7 +36,7 @@ pub fn put(out: &mut BytesMut, header: &[u8; HEADER_LENGTH], body: &[u8]) -> Res
     ensures memory { IfErr result (λ fault. fault ≡ PduFault.Memory) }
     ensures full { OnErr result (out.old.spare < length (header.now ++ segment body.now)) }
 {
-    let padding = &[0; 3][..padded(body.len()) - body.len()];
+    let padding = &[0; 3][..padding(body.len())];
     let length = header.len() + body.len() + padding.len();
     if out.capacity() - out.len() < length {
         out.reserve(length)?;

@@ -4,7 +4,7 @@ ghost use Rattle.std.specs.Prelude.{◌≡◌, ◌+◌, ◌≤◌, length};
 ghost use Rattle.iscsi_pdu.specs.Header.{header_length};
 ghost use Rattle.iscsi_pdu.specs.Segment.{most_data};
 
-use crate::header::HEADER_LENGTH;
+use crate::header::{HEADER_LENGTH, RESERVED_TAG};
 use crate::login_request::CONTINUED;
 use crate::segment::padded;
 use crate::stamp::Stamp;
@@ -20,10 +20,6 @@ const FINAL: u8 = 0x80;
 /// The Target Transfer Tag of an exchange that goes on. A connection has one exchange at a time, so one tag is enough
 /// (RFC 7143 §11.11.4).
 pub const EXCHANGE_TAG: u32 = 0xffff_fffe;
-
-/// The Target Transfer Tag of an answer that ends its exchange, and of a request that begins one
-/// (RFC 7143 §11.10.4, §11.11.4).
-pub const NO_EXCHANGE_TAG: u32 = 0xffff_ffff;
 
 /// Whether the exchange of texts goes on after an answer (RFC 7143 §11.11.1, §11.11.2).
 #[derive(Clone, Copy)]
@@ -79,7 +75,7 @@ impl TextStep {
     {
         match self {
             TextStep::Continued | TextStep::GoesOn => EXCHANGE_TAG,
-            TextStep::Ends => NO_EXCHANGE_TAG,
+            TextStep::Ends => RESERVED_TAG,
         }
     }
 }

@@ -9,8 +9,8 @@ ghost use Rattle.iscsi_requests.specs.State.{transfer_at, asking_place, r2ts_at,
 
 use crate::transfers::Transfers;
 use iscsi_outbox::Outbox;
-use iscsi_pdu::{Answer, HEADER_LENGTH, Header, R2t, Stamp};
-use iscsi_transfer::{Ask, MOST_OPEN, NO_TRANSFER_TAG};
+use iscsi_pdu::{Answer, HEADER_LENGTH, Header, R2t, RESERVED_TAG, Stamp};
+use iscsi_transfer::{Ask, MOST_OPEN};
 
 /// The most bytes that the due R2Ts of one command take.
 pub const ROOM_TO_ASK: usize = MOST_OPEN * HEADER_LENGTH;
@@ -72,7 +72,7 @@ fn next_after(tag: u32) -> u32
     requires { tag < 0xFFFFFFFF }
     ensures { result ≡ (tag + 1) % 0xFFFFFFFF }
 {
-    if tag + 1 == NO_TRANSFER_TAG {
+    if tag + 1 == RESERVED_TAG {
         return 0;
     }
     tag + 1

@@ -316,18 +316,13 @@ written_over header items post long above is =
     ∙ take_all (length items) (header ++ post) (omega (arith, whole))
     ∙ ap (λ (xs : List ℕ). header ++ xs) is
 
--- the padding of so many bytes, in numbers that cannot overflow
-padding_is : (n : ℕ) → (4 - n % 4) % 4 ≡ padded n - n
-padding_is n = omega arith
-
 -- the padding after the data
 pub padded_behind : (header items : List ℕ) (n : ℕ) → n ≡ length (drop 48 items)
-    → (header ++ drop 48 items) ++ take ((4 - n % 4) % 4) (0 ∷ 0 ∷ 0 ∷ []) ≡ header ++ segment (drop 48 items)
+    → (header ++ drop 48 items) ++ take (padded n - n) (0 ∷ 0 ∷ 0 ∷ []) ≡ header ++ segment (drop 48 items)
 padded_behind header items n is =
-    let least : (4 - n % 4) % 4 ≤ 3 = omega arith in
-    let zeros : take ((4 - n % 4) % 4) (0 ∷ 0 ∷ 0 ∷ []) ≡ replicate (padded (length (drop 48 items)) - length (drop 48 items)) 0 =
-    take-replicate ((4 - n % 4) % 4) 3 0 least ∙ ap (λ (k : ℕ). replicate k 0) (padding_is n ∙ ap (λ (k : ℕ). padded k - k) is) in
-    append_assoc header (drop 48 items) (take ((4 - n % 4) % 4) (0 ∷ 0 ∷ 0 ∷ [])) ∙ ap (λ (xs : List ℕ). header ++ (drop 48 items ++ xs)) zeros
+    let zeros : take (padded n - n) (0 ∷ 0 ∷ 0 ∷ []) ≡ replicate (padded (length (drop 48 items)) - length (drop 48 items)) 0 =
+    take-replicate (padded n - n) 3 0 (omega arith) ∙ ap (λ (k : ℕ). replicate (padded k - k) 0) is in
+    append_assoc header (drop 48 items) (take (padded n - n) (0 ∷ 0 ∷ 0 ∷ [])) ∙ ap (λ (xs : List ℕ). header ++ (drop 48 items ++ xs)) zeros
 
 -- ---- one Data-In
 

@@ -16,13 +16,13 @@ ghost use Rattle.iscsi_requests.specs.Texts.{is_text as is_text_in};
 
 use crate::act::Act;
 use crate::answers::rejected;
-use crate::session::{RESERVED_TAG, Session};
+use crate::session::Session;
 use crate::task_management::is_function;
 use crate::texts::is_text;
 use iscsi_outbox::Outbox;
 use iscsi_pdu::{
-    Answer, Frame, Header, LogoutResponse, LogoutResult, MOST_DATA, NopIn, Opcode, RejectReason,
-    Stamp,
+    Answer, Frame, Header, LogoutResponse, LogoutResult, MOST_DATA, NopIn, Opcode, RESERVED_TAG,
+    RejectReason, Stamp,
 };
 use iscsi_requests::is_command;
 use target_limits::Memory;

@@ -12,7 +12,7 @@ ghost use Rattle.scsi_unit.specs.DiskCommands.{most_given};
 use bytes::BytesMut;
 use iscsi_login::Values;
 use iscsi_outbox::{Outbox, SharedFields};
-use iscsi_pdu::{Answer, DataIn, Frame, Stamp};
+use iscsi_pdu::{Answer, DataIn, Frame, Stamp, padding};
 use iscsi_transfer::{Piece, piece_at, piece_count};
 use scsi_sense::HEADROOM;
 
@@ -119,7 +119,7 @@ fn put_header(buffer: &mut BytesMut, header: &[u8; HEADROOM])
     ensures spare { buffer.old.spare ≤ buffer.new.spare + 3 }
 {
     let length = buffer.len() - HEADROOM;
-    let padding = (4 - length % 4) % 4;
+    let padding = padding(length);
     put_over(buffer, header);
     buffer.extend_reserved(&[0; 3][..padding]);
 }

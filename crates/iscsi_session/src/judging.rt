@@ -12,10 +12,10 @@ ghost use Rattle.iscsi_requests.specs.Draining.{judged_in, is_live_in};
 ghost use Rattle.iscsi_requests.specs.State.{Stands, is_vacant_for, function_place, IsAcceptable, IsLawfulTask};
 
 use crate::answers::rejected;
-use crate::session::{RESERVED_TAG, Session};
+use crate::session::Session;
 use crate::task_management::is_function;
 use iscsi_outbox::Outbox;
-use iscsi_pdu::{Frame, Header, Opcode, RejectReason};
+use iscsi_pdu::{Frame, Header, Opcode, RESERVED_TAG, RejectReason};
 use iscsi_requests::{Verdict, is_command};
 use iscsi_transfer::command_fault;
 use target_limits::Memory;

@@ -19,9 +19,6 @@ use std::alloc::Global;
 use std::marker::Model;
 use target_limits::Memory;
 
-/// No request that is to be answered has this tag (RFC 7143 §11.2.1.8).
-pub(crate) const RESERVED_TAG: u32 = 0xffff_ffff;
-
 /// A session (RFC 7143 §4.2): its parameters, its numbers, and its requests that are not finished. Clauses see what it
 /// remembers of its past.
 #[derive(Drop)]

@@ -23,5 +23,5 @@ mod writing;
 pub use cutting::cut;
 pub use fault::TextFault;
 pub use list::Pairs;
-pub use reading::pairs;
+pub use reading::{LONGEST_TEXT, pairs};
 pub use writing::{put_pair, text};

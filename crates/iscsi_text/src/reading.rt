@@ -11,7 +11,7 @@ use std::alloc::Global;
 use std::collections::BTreeSet;
 
 /// The most bytes that a text may have.
-const LONGEST_TEXT: usize = 65536;
+pub const LONGEST_TEXT: usize = 65536;
 
 /// The most bytes that a key may have (RFC 7143 §6.1).
 const LONGEST_KEY: usize = 63;

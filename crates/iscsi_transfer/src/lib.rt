@@ -42,5 +42,5 @@ mod write_data;
 
 pub use data_in::{Piece, data_ins, piece_at, piece_count};
 pub use fault::DataFault;
-pub use progress::{Ask, MOST_OPEN, NO_TRANSFER_TAG, Progress};
+pub use progress::{Ask, MOST_OPEN, Progress};
 pub use write_data::{WriteData, command_fault};

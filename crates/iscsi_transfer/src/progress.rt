@@ -10,7 +10,7 @@ ghost use Rattle.iscsi_transfer.specs.Counted.{brought};
 use crate::fault::DataFault;
 use arrayvec::ArrayVec;
 use iscsi_login::Values;
-use iscsi_pdu::{Frame, Header};
+use iscsi_pdu::{Frame, Header, RESERVED_TAG};
 use std::marker::Model;
 
 /// The longest payload that R2Ts ask for, in bytes.
@@ -18,9 +18,6 @@ pub(crate) const MOST_WANTED: usize = 1_048_576;
 
 /// The most R2Ts of a command that are open at a time. No login agrees on more.
 pub const MOST_OPEN: usize = 4;
-
-/// The Target Transfer Tag of unsolicited data (RFC 7143 §11.7.4). The tag of an R2T is below it.
-pub const NO_TRANSFER_TAG: u32 = 0xffff_ffff;
 
 /// A part of a command's data for which an R2T asks (RFC 7143 §11.8).
 #[derive(Clone, Copy)]
@@ -185,9 +182,9 @@ impl Progress {
         ensures { result ≡ sequence_tag self.now }
     {
         if self.is_open {
-            NO_TRANSFER_TAG
+            RESERVED_TAG
         } else {
-            self.open_tags.first().copied().unwrap_or(NO_TRANSFER_TAG)
+            self.open_tags.first().copied().unwrap_or(RESERVED_TAG)
         }
     }
 

@@ -7,10 +7,7 @@ use crate::connection::{Connection, State};
 use crate::login_values::LoginValues;
 use crate::transfer::{expected, unsolicited_bound};
 use crate::violation::{Offence, Violation};
-use iscsi_pdu::{Header, Opcode};
-
-/// The reserved Initiator Task Tag (RFC 7143 §11.2.1.8).
-const RESERVED_TAG: u32 = 0xFFFF_FFFF;
+use iscsi_pdu::{Header, Opcode, RESERVED_TAG};
 
 /// Returns the first rule that the data of a SCSI Command breaks, in the order in which a target tests them.
 fn command_violation(command: &Header, values: &LoginValues) -> Option<Violation> {

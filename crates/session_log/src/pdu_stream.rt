@@ -2,7 +2,7 @@
 
 ghost use Rattle.std.specs.Prelude.{◌≤◌, ◌<◌, length};
 
-use iscsi_pdu::{HEADER_LENGTH, Header, MOST_DATA};
+use iscsi_pdu::{HEADER_LENGTH, Header, MOST_DATA, padding};
 
 /// What the first bytes of a piece are.
 #[derive(Clone, Copy)]
@@ -102,7 +102,7 @@ impl PduStream {
         let header = Header::new(self.header);
         self.additional = header.additional_length();
         self.data = header.data_length();
-        self.padding = (4 - self.data % 4) % 4;
+        self.padding = padding(self.data);
         if self.additional == 0 && self.data == 0 {
             self.come = 0;
         }

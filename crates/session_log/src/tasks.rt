@@ -4,7 +4,7 @@ ghost use Rattle.std.specs.Prelude.{◌<◌};
 
 use crate::operation::CDB;
 use crate::transfer::{Ask, Transfer};
-use iscsi_pdu::{HEADER_LENGTH, Header};
+use iscsi_pdu::{HEADER_LENGTH, Header, RESERVED_TAG};
 
 /// The number of tasks that are remembered: more than a session may have unanswered.
 const TASKS: usize = 64;
@@ -70,7 +70,7 @@ impl RecentTasks {
     /// Returns no tasks.
     pub(crate) fn new() -> RecentTasks {
         let mark = Mark {
-            tag: 0xFFFF_FFFF,
+            tag: RESERVED_TAG,
             standing: Standing::Answered,
         };
         let task = Task {

@@ -3,14 +3,11 @@
 ghost use Rattle.std.specs.Prelude.{◌≤◌};
 
 use crate::violation::{Bound, Violation};
-use iscsi_pdu::Header;
+use iscsi_pdu::{Header, RESERVED_TAG};
 
 /// The most R2Ts that are kept of a command: four may be open (RFC 7143 §13.17), and the next one may be seen before the
 /// Data-Out that ends the first is taken.
 const MOST_ASKS: usize = 5;
-
-/// The Target Transfer Tag of unsolicited data (RFC 7143 §11.7.4).
-const NO_TRANSFER_TAG: u32 = 0xFFFF_FFFF;
 
 /// An R2T.
 #[derive(Clone, Copy)]
@@ -23,7 +20,7 @@ pub(crate) struct Ask {
 
 /// The content of a free place for an R2T.
 const NO_ASK: Ask = Ask {
-    tag: NO_TRANSFER_TAG,
+    tag: RESERVED_TAG,
     end: 0,
 };
 
@@ -132,7 +129,7 @@ impl Transfer {
         if self.is_open {
             let (end, bound) = unsolicited_bound(first_burst, self.expected);
             return Some(Sequence {
-                tag: NO_TRANSFER_TAG,
+                tag: RESERVED_TAG,
                 end,
                 bound,
             });
