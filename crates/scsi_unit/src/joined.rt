@@ -1,7 +1,7 @@
 //! The nexuses that are joined to a unit.
 
 ghost use Rattle.std.specs.Prelude.{◌≡◌, ◌<◌, [], length, map, IfSome, OnOk};
-ghost use Rattle.scsi_unit.specs.Joined.{place_of, newly_joined, with_nexus, without_nexus, told, raised_where, raised_for, raised_for_others, raised_in, raised_for_all, raised_due};
+ghost use Rattle.scsi_unit.specs.Joined.{place_of, newly_joined, with_nexus, without_nexus, told, told_in, raised_where, raised_for, raised_for_others, raised_in, raised_for_all, raised_due};
 
 use scsi_reserve::Due;
 use scsi_sense::{Attention, Attentions, Nexus};
@@ -67,11 +67,16 @@ impl JoinedList {
         position(self.list.as_slice(), nexus)
     }
 
-    /// Keeps the place of a nexus, so that it is found there.
-    pub fn look_for(&mut self, nexus: &Nexus)
-        ensures { self.new ≡ self.old }
+    /// Returns the first attention that is pending for the nexus, which stays pending. Keeps the place of the nexus, so
+    /// that it is found there.
+    #[tactic(auto, unfolding(crate::specs::Joined::told))]
+    pub fn look_for(&mut self, nexus: &Nexus) -> Option<Attention>
+        ensures pending { result ≡ (told nexus.now self.old.items).1 }
+        ensures same { self.new ≡ self.old }
     {
-        self.found = self.place(nexus);
+        let place = self.place(nexus);
+        self.found = place;
+        pending_at(self.list.as_slice(), place)
     }
 
     /// Establishes a unit attention for the nexus. It allocates nothing.
@@ -160,13 +165,21 @@ pub(crate) fn tell(joined: &mut JoinedList, nexus: &Nexus) -> Option<Attention>
     Some(code)
 }
 
+/// Returns the first attention that is pending at a place, where it stays pending.
+fn pending_at(joined: &[Joined], place: Option<usize>) -> Option<Attention>
+    requires { IfSome place (λ at. at < length joined.now) }
+    ensures { result ≡ (told_in joined.now place).1 }
+{
+    let at = place?;
+    joined[at].attentions.first()
+}
+
 /// Returns the first attention that is pending for the nexus, which stays pending.
 #[tactic(auto, unfolding(crate::specs::Joined::told))]
 pub(crate) fn pending(joined: &JoinedList, nexus: &Nexus) -> Option<Attention>
     ensures { result ≡ (told nexus.now joined.now.items).1 }
 {
-    let at = joined.place(nexus)?;
-    joined.list[at].attentions.first()
+    pending_at(joined.list.as_slice(), joined.place(nexus))
 }
 
 impl Joined {

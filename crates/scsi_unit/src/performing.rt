@@ -214,9 +214,17 @@ impl<S: Store> Unit<S> {
         }
     }
 
-    /// Returns the command that the bytes encode, or the first check that refuses it (own, after SPC-4).
+    /// Returns the command that the bytes encode, or the first check that refuses it (own, after SPC-4). This attention is
+    /// pending for the nexus.
     #[tactic(auto, unfolding(crate::specs::Checks::judged))]
-    fn judge(&self, nexus: &Nexus, cdb: [u8; 16], data: &Data) -> Result<Command, Refusal>
+    fn judge(
+        &self,
+        nexus: &Nexus,
+        attention: Option<Attention>,
+        cdb: [u8; 16],
+        data: &Data,
+    ) -> Result<Command, Refusal>
+        requires pending { attention ≡ (told nexus.now self.now.joined).1 }
         ensures judged { result ≡ judged nexus.now cdb «data».now self.now }
         ensures range { IfOk result (λ command. IsTrue (has_range self.now.device (range_of command))) }
         ensures needed { IfOk result (λ command. needed command ≤ length «data».now) }
@@ -225,7 +233,7 @@ impl<S: Store> Unit<S> {
             return Err(Refusal::Refused(Cdb::no_operation()));
         };
         if !row.passes_attention {
-            if let Some(attention) = pending(&self.joined, nexus) {
+            if let Some(attention) = attention {
                 return Err(Refusal::Told(attention));
             }
         }
@@ -285,8 +293,8 @@ impl<S: Store> Unit<S> {
         ensures given { IfOk result (λ done. length done.given ≤ most_given) }
         ensures err { OnErr result (self.new ≡ self.old) }
     {
-        self.joined.look_for(nexus);
-        match self.judge(nexus, cdb, data) {
+        let attention = self.joined.look_for(nexus);
+        match self.judge(nexus, attention, cdb, data) {
             Ok(command) => self.carry_out(used, nexus, command, data),
             Err(refusal) => Ok(self.refuse(nexus, refusal)),
         }

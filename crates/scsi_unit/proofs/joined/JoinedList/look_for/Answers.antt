@@ -5,5 +5,5 @@ use Rattle.scsi_unit.proofs.Places.{found_first}
 use Rattle.scsi_unit.proofs.joined.JoinedList.look_for.Goals as goal
 
 pub invariant_of-self : goal.invariant_of-self
-invariant_of-self c = found_first c.self.inside.list.items c.args.nexus.now c.place-self-inside.result
-    (c.place-self-inside.ensures.value ∙ ap (λ (joined : JoinedState). place_of c.args.nexus.now joined.items) (sym c.self.view_is))
+invariant_of-self c = found_first c.self.inside.list.items c.args.nexus.now c.place-place.result
+    (c.place-place.ensures.value ∙ ap (λ (joined : JoinedState). place_of c.args.nexus.now joined.items) (sym c.self.view_is))

@@ -24,7 +24,7 @@ returns-in-Err-clause-done g c =
       reservations = inside.reservations;
       joined = joined.items;
     } in
-    let same : looked c.look_for.new.self ≡ unit = ap looked c.look_for.ensures ∙ c.self.view_is in
+    let same : looked c.look_for-attention.new.self ≡ unit = ap looked c.look_for-attention.ensures.same ∙ c.self.view_is in
     let refusal : judged nexus c.args.cdb bytes unit ≡ Err c.in-Err.refusal =
     sym (c.judge.ensures.judged ∙ ap (judged nexus c.args.cdb bytes) same) ∙ c.in-Err.is in
     performed_defined _ _ unit c.refuse.new.self c.refuse.result
