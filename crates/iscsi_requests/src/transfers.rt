@@ -1,6 +1,6 @@
 //! The data that the initiator sends for the SCSI Commands of a session.
 
-ghost use Rattle.std.specs.Prelude.{◌≡◌, ◌++◌, ◌∷◌, ◌<◌, ◌^◌, List, [], None, OnOk, OnErr};
+ghost use Rattle.std.specs.Prelude.{◌≡◌, ◌++◌, ◌∷◌, ◌<◌, ◌^◌, List, [], None, length, remove, true, is_some, OnOk, OnErr};
 ghost use Rattle.std.specs.List.{list_any};
 ghost use Rattle.iscsi_login.specs.Values.{AreInRange};
 ghost use Rattle.iscsi_transfer.specs.Counted.{brought};
@@ -42,6 +42,18 @@ impl Transfer {
         self.header.initiator_task_tag() == header.initiator_task_tag()
             && self.task.fault_by(header, size).is_none()
     }
+}
+
+/// Removes the transfer at a place. Most often it is the last, after which none has to move.
+fn take_at(list: &mut Vec<Transfer>, place: usize) -> Option<Transfer>
+    requires { place < length list.old.items }
+    ensures rest { list.new.items ≡ remove list.old.items place }
+    ensures there { is_some result ≡ true }
+{
+    if place + 1 == list.len() {
+        return list.pop();
+    }
+    Some(list.remove(place))
 }
 
 /// The data of a session's SCSI Commands.
@@ -213,7 +225,7 @@ impl Transfers {
         ensures { self.new ≡ record self.old { list = removed_at self.old.list (place_with tag self.old.list) } }
     {
         let place = self.place_of(tag)?;
-        let transfer = self.list.remove(place);
+        let transfer = take_at(&mut self.list, place)?;
         Some(transfer.task.into_payload())
     }
 
