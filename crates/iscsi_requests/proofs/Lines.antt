@@ -185,14 +185,6 @@ turns w key e = turns_by w.next w.unfinished key w.keys e
 pub moves_on : (w : WindowKeys) (due : List ℕ) (key : ℕ) → get_or w.keys 0 None ≡ Some key → moves_all (turned w, due ++ key ∷ []) ≡ moves_all (w, due)
 moves_on w due key e = grind (arith, turns)
 
-pub moves_end : (w : WindowKeys) (due : List ℕ) → get_or w.keys 0 None ≡ None → moves_all (w, due) ≡ (w, due)
-moves_end w due e = by_keys w.keys e
-  where
-    by_keys : (l : List (Option ℕ)) → get_or l 0 None ≡ None → moves (prefix_len (λ k. is_some k) l) (w, due) ≡ (w, due)
-    by_keys [] f = refl
-    by_keys (None ∷ l) f = refl
-    by_keys (Some k ∷ l) f = absurd cc
-
 -- ---- what the lists show of it
 
 some_first : (l : List (Option ℕ)) → 0 < prefix_len (λ k. is_some k) l → (key : ℕ) × (get_or l 0 None ≡ Some key)

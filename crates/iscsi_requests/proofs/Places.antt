@@ -42,28 +42,43 @@ index_map f d (a ∷ xs) (suc i) x e = index_map f d xs i x e
 pub or_known : (a b : Bool) → b ≡ true → (a || b) ≡ true
 or_known a b e = grind arith
 
+in_named : {X : Type 0} (name : X → ℕ) (xs : List X) (i : ℕ) (x : X) → slice_get xs i ≡ Some x → is_in (name x) (map name xs) ≡ true
+in_named name [] i x e = absurd cc
+in_named name (a ∷ xs) zero x e = let same : a ≡ x = cc in rw (eq-eqb (name a) (name x) (ap name same)) refl
+in_named name (a ∷ xs) (suc i) x e = or_known (eqb (name a) (name x)) (is_in (name x) (map name xs)) (in_named name xs i x e)
+
+named_so : (names : List ℕ) → map (λ k. k) names ≡ names
+named_so [] = refl
+named_so (k ∷ names) = ap (λ (l : List ℕ). k ∷ l) (named_so names)
+
 pub in_get : (names : List ℕ) (i k : ℕ) → slice_get names i ≡ Some k → is_in k names ≡ true
-in_get [] i k e = absurd cc
-in_get (a ∷ names) zero k e = let same : a ≡ k = cc in rw (eq-eqb a k same) refl
-in_get (a ∷ names) (suc i) k e = or_known (eqb a k) (is_in k names) (in_get names i k e)
+in_get names i k e = ap (is_in k) (sym (named_so names)) ∙ in_named (λ a. a) names i k e
 
 differs : (a k : ℕ) (names : List ℕ) → is_in a names ≡ false → is_in k names ≡ true → k ≢ a
 differs a k names none there same = let h = sym there ∙ ap (λ (n : ℕ). is_in n names) same ∙ none in cc
 
 -- ---- one is changed
 
-pub same_all : {Y : Type 0} (f g : ℕ → Y) (k : ℕ) (names : List ℕ) → is_in k names ≡ false → ((j : ℕ) → j ≢ k → g j ≡ f j) → map f names ≡ map g names
-same_all f g k [] none same = refl
-same_all f g k (a ∷ names) none same = elim (cases_eq a k) [
-  | inl here ↦ absurd (let h = rw (eq-eqb a k here) at none in cc)
-  | inr apart ↦ let rest = rw (ne_eqb a k apart) at none in rw (same a apart, same_all f g k names rest same) refl
+all_same : {X Y : Type 0} (name : X → ℕ) (f g : X → Y) (k : ℕ) (xs : List X) → is_in k (map name xs) ≡ false → ((x : X) → name x ≢ k → g x ≡ f x)
+    → map f xs ≡ map g xs
+all_same name f g k [] none same = refl
+all_same name f g k (a ∷ xs) none same = elim (cases_eq (name a) k) [
+  | inl here ↦ absurd (let h = rw (eq-eqb (name a) k here) at none in cc)
+  | inr apart ↦ let rest = rw (ne_eqb (name a) k apart) at none in rw (same a apart, all_same name f g k xs rest same) refl
 ]
+
+pub same_all : {Y : Type 0} (f g : ℕ → Y) (k : ℕ) (names : List ℕ) → is_in k names ≡ false → ((j : ℕ) → j ≢ k → g j ≡ f j) → map f names ≡ map g names
+same_all f g k names none same = all_same (λ a. a) f g k names (ap (is_in k) (named_so names) ∙ none) same
+
+set_named : {X Y : Type 0} (name : X → ℕ) (f g : X → Y) (xs : List X) (i : ℕ) (x : X) → AreDistinct (map name xs) → slice_get xs i ≡ Some x
+    → ((y : X) → name y ≢ name x → g y ≡ f y) → set (map f xs) i (g x) ≡ map g xs
+set_named name f g [] i x distinct at same = absurd cc
+set_named name f g (a ∷ xs) zero x distinct at same = grind (arith, all_same)
+set_named name f g (a ∷ xs) (suc i) x distinct at same = grind (arith, set_named name f g xs i x distinct.1 at same, differs, in_named)
 
 pub set_map : {Y : Type 0} (f g : ℕ → Y) (names : List ℕ) (i k : ℕ) → AreDistinct names → slice_get names i ≡ Some k
     → ((j : ℕ) → j ≢ k → g j ≡ f j) → set (map f names) i (g k) ≡ map g names
-set_map f g [] i k distinct at same = absurd cc
-set_map f g (a ∷ names) zero k distinct at same = grind (arith, same_all)
-set_map f g (a ∷ names) (suc i) k distinct at same = grind (arith, set_map f g names i k distinct.1 at same, differs, in_get)
+set_map f g names i k distinct at same = set_named (λ a. a) f g names i k (subst AreDistinct (sym (named_so names)) distinct) at same
 
 -- ---- one is removed
 
@@ -142,9 +157,7 @@ one_more false name value x j l e = grind (arith, filter-append, map-append)
 pub none_named : {A : Type 0} (name : A → ℕ) (l : List A) (n : ℕ) → All (λ a. name a < n) l → filter (λ a. name a == n) l ≡ []
 none_named name [] n below = refl
 none_named name (a ∷ l) n below =
-    let lt : name a < n = All-head (λ a. name a < n) a l below in
-    let ne : name a ≢ n = λ e. absurd (omega arith) in
-    rw (ne_eqb (name a) n ne) (none_named name l n (All-tail (λ a. name a < n) a l below))
+    grind (arith, none_named name l n (All-tail (λ a. name a < n) a l below), All-head (λ a. name a < n) a l below, ne_eqb)
 
 -- ---- the data that functions wait for
 
@@ -183,32 +196,14 @@ drain_at P [] i d all e = absurd cc
 drain_at P (first ∷ drains) zero d all e = let same : first ≡ d = cc in subst P same (All-head P first drains all)
 drain_at P (first ∷ drains) (suc i) d all e = drain_at P drains i d (All-tail P first drains all) e
 
-in_commands : (drains : List Drain) (i : ℕ) (d : Drain) → slice_get drains i ≡ Some d → is_in d.command (commands_in drains) ≡ true
-in_commands [] i d e = absurd cc
-in_commands (first ∷ drains) zero d e = let same : first ≡ d = cc in rw (eq-eqb first.command d.command (ap (λ (x : Drain). x.command) same)) refl
-in_commands (first ∷ drains) (suc i) d e = or_known (first.command == d.command) (is_in d.command (commands_in drains)) (in_commands drains i d e)
-
 -- ---- one is changed
 
 pub same_drains : {Y : Type 0} (f g : Drain → Y) (drains : List Drain) → All (λ d. g d ≡ f d) drains → map f drains ≡ map g drains
 same_drains f g drains all = sym (map_cong g f drains all)
 
-apart : (c k : ℕ) (names : List ℕ) → is_in c names ≡ false → is_in k names ≡ true → c ≢ k
-apart c k names none there same = let h = sym there ∙ ap (λ (n : ℕ). is_in n names) (sym same) ∙ none in cc
-
-all_same : {Y : Type 0} (f g : Drain → Y) (k : ℕ) (drains : List Drain) → is_in k (commands_in drains) ≡ false
-    → ((e : Drain) → e.command ≢ k → g e ≡ f e) → map f drains ≡ map g drains
-all_same f g k [] none same = refl
-all_same f g k (d ∷ drains) none same = elim (cases_eq d.command k) [
-  | inl there ↦ absurd (let h = rw (eq-eqb d.command k there) at none in cc)
-  | inr differs ↦ let rest = rw (ne_eqb d.command k differs) at none in rw (same d differs, all_same f g k drains rest same) refl
-]
-
 pub set_drains : {Y : Type 0} (f g : Drain → Y) (drains : List Drain) (i : ℕ) (d : Drain) → AreDistinct (commands_in drains) → slice_get drains i ≡ Some d
     → ((e : Drain) → e.command ≢ d.command → g e ≡ f e) → set (map f drains) i (g d) ≡ map g drains
-set_drains f g [] i d distinct at same = absurd cc
-set_drains f g (first ∷ drains) zero d distinct at same = grind (arith, all_same)
-set_drains f g (first ∷ drains) (suc i) d distinct at same = grind (arith, set_drains f g drains i d distinct.1 at same, apart, in_commands)
+set_drains f g drains i d = set_named (λ e. e.command) f g drains i d
 
 -- ---- a search among the functions that wait
 

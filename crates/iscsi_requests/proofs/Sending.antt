@@ -116,9 +116,4 @@ sending_more {i} {numbers} {old} {now} {next} {before} {items} {more} {spare} {l
 pub sending_ends : {i : ℕ} {numbers : Stamp} {old now : TransferList} {before items : List ℕ} {spare : ℕ} → IsSent i numbers old now before items spare
     → now.next_tag < 0xFFFFFFFF → first (due_asks (transfer_at now.list i).task) ≡ None
     → (items ≡ before ++ flat_map spelling (r2t_answers (r2ts_at old numbers i))) × (now ≡ sent_at i (r2ts_at old numbers i) old)
-sending_ends {i} {numbers} {old} {now} {before} {items} {spare} sent below none =
-    let transfer = transfer_at now.list i in
-    let no_more : r2ts_at now numbers i ≡ [] = ap (r2ts_for transfer.header now.next_tag numbers) (no_first (due_asks transfer.task) none) in (
-      sym (append-nil items) ∙ ap (λ (l : List R2t). items ++ flat_map spelling (r2t_answers l)) (sym no_more) ∙ sent.written,
-      sym (sent_nothing i now below) ∙ ap (λ (l : List R2t). sent_at i l now) (sym no_more) ∙ sent.rest,
-    )
+sending_ends {i} {numbers} {old} {now} {before} {items} {spare} sent below none = grind (arith, no_first, append-nil, sent_nothing)

@@ -3,7 +3,7 @@ use Rattle.std.proofs.Common.{◌≡◌, ℕ, zero, suc, ◌+◌, ◌-◌, ◌%�
 use Rattle.std.proofs.lemmas.List.{drop_all}
 use Rattle.iscsi_pdu.specs.declared.r2t.R2t.{R2t}
 use Rattle.iscsi_pdu.specs.declared.stamp.Stamp.{Stamp}
-use Rattle.iscsi_transfer.specs.WriteData.{WriteDataState, filled, due_asks, with_asked}
+use Rattle.iscsi_transfer.specs.WriteData.{WriteDataState, due_asks, with_asked}
 use Rattle.iscsi_transfer.specs.declared.progress.Ask.{Ask}
 use Rattle.iscsi_transfer.proofs.Due.{sent_is_due_no_more}
 use Rattle.iscsi_requests.specs.Transfers.{r2ts_for}
@@ -22,22 +22,12 @@ no_tags = []
 
 pub sent_none : (task : WriteDataState) → with_asked [] task ≡ task
 unfolding with_asked
-sent_none task =
-    let same : task.sent + 0 ≡ task.sent = omega arith in
-    ap (λ (l : List ℕ). record task { sent = task.sent + 0; open_tags = task.open_tags ++ l }) (drop_all (filled task - task.sent) no_tags (omega arith))
-    ∙ ap (λ (l : List ℕ). record task { sent = task.sent + 0; open_tags = l }) (append-nil task.open_tags)
-    ∙ ap (λ (k : ℕ). record task { sent = k }) same
+sent_none task = grind (arith, drop_all, append-nil)
 
 after_one : (n m : ℕ) (open_tags : List ℕ) (tag : ℕ) (tags : List ℕ) → m ≡ n - 1
     → (open_tags ++ drop n (tag ∷ [])) ++ drop m tags ≡ open_tags ++ drop n (tag ∷ tags)
-after_one zero m open_tags tag tags e =
-    let none : m ≡ 0 = omega (arith, e) in
-    ap (λ (k : ℕ). (open_tags ++ tag ∷ []) ++ drop k tags) none ∙ append_assoc open_tags (tag ∷ []) tags
-after_one (suc n) m open_tags tag tags e =
-    let less : m ≡ n = omega (arith, e) in
-    ap (λ (k : ℕ). (open_tags ++ drop n no_tags) ++ drop k tags) less
-    ∙ ap (λ (l : List ℕ). (open_tags ++ l) ++ drop n tags) (drop_all n no_tags (omega arith))
-    ∙ ap (λ (l : List ℕ). l ++ drop n tags) (append-nil open_tags)
+after_one zero m open_tags tag tags e = grind (arith, append_assoc)
+after_one (suc n) m open_tags tag tags e = grind (arith, drop_all, append-nil)
 
 pub sent_then : (task : WriteDataState) (tag : ℕ) (tags : List ℕ) → with_asked tags (with_asked (tag ∷ []) task) ≡ with_asked (tag ∷ tags) task
 unfolding with_asked

@@ -1,5 +1,5 @@
 -- The requests of a slab that a Task Management Function Request reaches: those that wait are voided, and those of the queue leave it.
-use Rattle.std.proofs.Common.{◌≡◌, ℕ, zero, suc, ◌<◌, ◌≤◌, List, [], ◌∷◌, ◌++◌, length, map, take, get_or, Bool, true, false, cond, eqb, Option, Some, None, refl, sym, ap, ◌∙◌, arith, inl, inr, ◌+◌, ◌-◌, append_assoc, append-nil}
+use Rattle.std.proofs.Common.{◌≡◌, ℕ, zero, suc, ◌<◌, ◌≤◌, List, [], ◌∷◌, ◌++◌, length, map, take, get_or, Bool, true, false, cond, eqb, Option, Some, None, refl, sym, ap, ◌∙◌, arith, inl, inr, ◌+◌, ◌-◌, append_assoc}
 use Rattle.std.specs.Prelude.{All, option_map, filter, is_some}
 use Rattle.std.proofs.lemmas.Bool.{cases_eq, eq-eqb, ne_eqb}
 use Rattle.std.proofs.lemmas.List.Elements.{filter_map-append, All-tail}
@@ -178,22 +178,3 @@ sweep_goes_on reach given now next left s step = by_rest s.rest refl
         (ap (λ (l : List Frame). length l) (sym e) ∙ s.count)
         (ap (λ (l : List Frame). s.done ++ filter (stays reach) l) (sym e) ∙ s.kept)
         (ap (λ (l : List Frame). now.unfinished - length (filter (counts_out reach) l)) (sym e) ∙ s.fewer) s.same (step frame (rest ++ s.done) queue)
-
-pub sweep_ends : (reach : FunctionReach) (given now : TaskLists) → Swept reach given now 0 → now ≡ record given {
-  unfinished = given.unfinished - length (filter (counts_out reach) given.queue);
-  queue = filter (stays reach) given.queue;
-}
-sweep_ends reach given now s = by_rest s.rest refl
-  where
-    by_rest : (l : List Frame) → s.rest ≡ l → now ≡ record given {
-      unfinished = given.unfinished - length (filter (counts_out reach) given.queue);
-      queue = filter (stays reach) given.queue;
-    }
-    by_rest (frame ∷ rest) e = absurd (omega (arith, s.count, ap (λ (l : List Frame). length l) e))
-    by_rest [] e =
-        let queue : now.queue ≡ filter (stays reach) given.queue = s.queue ∙ ap (λ (l : List Frame). l ++ s.done) e ∙ sym (append-nil s.done)
-        ∙ ap (λ (l : List Frame). s.done ++ filter (stays reach) l) (sym e) ∙ s.kept in
-        let left : now.unfinished ≡ given.unfinished - length (filter (counts_out reach) given.queue) =
-        (let none : now.unfinished ≡ now.unfinished - 0 = omega arith in none)
-        ∙ ap (λ (l : List Frame). now.unfinished - length (filter (counts_out reach) l)) (sym e) ∙ s.fewer in
-        s.same ∙ rw (left, queue) refl

@@ -192,8 +192,7 @@ module _ (past : Past) (lawful : IsLawful past) where
         window = window;
         distinct = distinct;
         delivered = All-push IsDelivered past.came x lawful.delivered delivered;
-        in_order = taken_more past.came x ∙ ap (λ (l : List ℕ). l ++ new) lawful.in_order ∙ append_assoc past.acted (due past) new
-            ∙ ap (λ (l : List ℕ). past.acted ++ l) (sym (due_more x));
+        in_order = grind (arith, taken_more, append_assoc, due_more);
         below = λ i d lt. (let le = lawful.below i d lt in omega (arith, length-append past.came (x ∷ [])));
         acted = lawful.acted;
         queued = rw (kind_same is_command past x past.finished finished_below, queue_same x, kind_same is_command past x past.acted lawful.below) lawful.queued;
@@ -206,8 +205,7 @@ module _ (past : Past) (lawful : IsLawful past) where
         tags = tags_joined (is_command x.frame) past x refl finished_below removed_below lawful.tags free.command;
         function_tags = function_tags_joined x free;
         removed_below = λ i d lt. (let le = lawful.removed_below i d lt in omega (arith, length-append past.came (x ∷ [])));
-        removed_commands = λ i d lt. ap (λ (r : Request). is_command r.frame) (request_before past.came x _ (lawful.removed_below i d lt))
-            ∙ lawful.removed_commands i d lt;
+        removed_commands = grind (arith, request_before);
         apart = lawful.apart;
         drained = drained_joined past x lawful.drained finished_below;
       }
@@ -263,11 +261,7 @@ module _ (past : Past) (lawful : IsLawful past) where
       let line = frames_of st (due past) in
       let handed : (numbers past).handed ≡ (numbers (joined x past)).handed = ap (λ (p : order.Past). p.handed) (sym (numbers_now frame)) in
       let dues : line ++ kept.frame ∷ [] ≡ frames_of stands (due (joined x past)) =
-      ap (λ (l : List Frame). l ++ kept.frame ∷ []) (sym (frames_same st kept (due past) due_stands))
-      ∙ ap (λ (r : Request). frames_of (st ++ kept ∷ []) (due past) ++ r.frame ∷ []) (sym (standing_new kept))
-      ∙ sym (map-append (frame_of (st ++ kept ∷ [])) (due past) (length past.came ∷ []))
-      ∙ ap (frames_of (st ++ kept ∷ [])) (sym (due_more x ∙ ap (λ (l : List ℕ). due past ++ l) (taken_just frame)))
-      ∙ ap (λ (l : List Request). frames_of l (due (joined x past))) (sym (standing_with x)) in
+      grind (arith, frames_same, due_stands, standing_new, map-append, due_more, taken_just, joined, standing_with) in
       let held : map (frame_numbered st) (range_with_len (numbers past).handed window) ≡ map (frame_numbered stands)
       (range_with_len (numbers past).handed window) =
       map_cong (frame_numbered st) (frame_numbered (st ++ kept ∷ [])) (range_with_len (numbers past).handed window)
@@ -294,18 +288,16 @@ module _ (past : Past) (lawful : IsLawful past) where
 
   window_lawful : (k ahead : ℕ) (frame : Frame) → IsAhead k ahead → windows.IsLawful (numbers (joined (with k frame) past))
   window_lawful k ahead frame at =
-      let before = window_with (numbers past) ahead lawful.window at.near in
-      let more = first_with k frame in
-      let e = handed_is past in
-      let e' = handed_is (joined (with k frame) past) in
-      let same = counted_same past (with k frame) (over past) over_below in
-      let few = lawful.window.finished in
-      record {
-        finished = omega arith;
-        handed = handed_le (joined (with k frame) past);
-        within = λ j come. (let lt = before.within j (ap (λ (l : List ℕ). order.has_come l j) (ap (λ (n : ℕ). numbered past.came ++ n ∷ []) (sym at.number)
-            ∙ sym (numbered_with k frame)) ∙ come) in omega arith);
-      }
+      grind (
+        arith,
+        window_with (numbers past) ahead lawful.window at.near,
+        first_with k frame,
+        handed_is past,
+        handed_is (joined (with k frame) past),
+        counted_same past (with k frame) (over past) over_below,
+        handed_le (joined (with k frame) past),
+        numbered_with,
+      )
 
   pub lawful_with : (k ahead : ℕ) (frame : Frame) → is_immediate frame.header ≡ false → IsAhead k ahead → HasFreeTag past frame
       → IsLawful (joined (with k frame) past)
@@ -332,14 +324,11 @@ module _ (past : Past) (lawful : IsLawful past) where
       let line = frames_of st (due past) in
       let more = first_with k frame in
       let e = handed_is past in
-      let e' = handed_is (joined x past) in
       let after = window_lawful k ahead frame at in
-      let few = lawful.window.finished in
       let same = counted_same past x (over past) over_below in
       let numbers_same : numbered stands ≡ numbered came = ap numbered (sym (standing_with x)) ∙ numbered_standing (joined x past) in
       let all : (j : ℕ) → f ≤ j → j < g → order.has_come (numbered came) j ≡ true = λ j le lt. front_come (numbered came) j (omega arith) in
-      let beyond : (j : ℕ) → f ≤ j → order.has_come (numbered came) (j + window) ≡ false = λ j le.
-      false_from_ne_true (order.has_come (numbered came) (j + window)) (λ h. let lt = after.within (j + window) h in absurd (omega arith)) in
+      let beyond : (j : ℕ) → f ≤ j → order.has_come (numbered came) (j + window) ≡ false = grind (arith, false_from_ne_true) in
       let none : frame_numbered st k ≡ None = frame_missing st k (ap (λ (l : List ℕ). order.has_come l k) (numbered_standing past) ∙ at.missing) in
       let held : set (map (frame_numbered st) (range_with_len f window)) ahead (Some kept.frame) ≡ map (frame_numbered stands) (range_with_len f window) =
       set_range (frame_numbered st) (frame_numbered stands) (Some kept.frame) f window ahead k (let near = at.near in omega arith) at.number

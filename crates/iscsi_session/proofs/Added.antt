@@ -73,20 +73,24 @@ pub same_answering : (more : List Answer) (past : Past) → (pending_in (answeri
     × (immediate_of (answering more past) ≡ immediate_of past)
 same_answering more past = same_load past past.data_outs past.r2ts (past.answers ++ more)
 
--- a past that is answered more
+-- a past that is answered more, with no more requests than before
+adds_answering : (n : ℕ) (more : List Answer) (past middle : Past) → IsWithinLimits past → IsLawful (answering more middle)
+    → All (λ request. length request.frame.header ≡ header_length) middle.came → immediate_of middle ≤ immediate_of past → pending_in middle ≤ pending_in past
+    → length (flat_map spelling more) + pending_in middle * request_weight ≤ pending_in past * request_weight + n
+    → middle.params ≡ past.params → middle.answers ++ more ≡ past.answers ++ more → Adds n 0 past (answering more middle)
+adds_answering n more past middle w lawful headers few less short params answers =
+    let same = same_answering more middle in
+    let was = w.few in
+    record {
+      within = record { lawful = lawful; headers = headers; few = omega (arith, was, few, same.1) };
+      added = omega (arith, ap (λ (l : List Answer). length (flat_map spelling l)) answers, spelled_more past.answers more, same.0, short);
+      more = omega (arith, same.0, less);
+      params = params;
+    }
+
 answered_adds : (n : ℕ) (more : List Answer) (past : Past) → IsWithinLimits past → length (flat_map spelling more) ≤ n → Adds n 0 past (answering more past)
 answered_adds n more past w short =
-    let few = w.few in
-    record {
-      within = record {
-        lawful = lawful_answering more past w.lawful;
-        headers = w.headers;
-        few = omega (arith, few, (same_answering more past).1);
-      };
-      added = omega (arith, spelled_more past.answers more, (same_answering more past).0, short);
-      more = omega (arith, (same_answering more past).0);
-      params = refl;
-    }
+    adds_answering n more past past w (lawful_answering more past w.lawful) w.headers (omega arith) (omega arith) (omega (arith, short)) refl refl
 
 -- ---- a frame is judged
 
@@ -219,8 +223,7 @@ module _ (luns : List ℕ) (past : Past) (k : ℕ) (rest : List ℕ) (f : is_fun
       let names = first ∷ others in
       let after = draining k names (removing gone done) in
       let is_after : after ≡ ended luns k past = ends_are luns past w.lawful k rest is f first others e in
-      let functions_are : functions after ≡ left gone (functions past) = ap functions is_after
-      ∙ functions_waits luns past w.lawful k rest is f first others e ∙ functions_removing past gone in
+      let functions_are : functions after ≡ left gone (functions past) = grind (arith, functions_waits, functions_removing) in
       omega (
         arith,
         ap pending_in is_after,
@@ -235,8 +238,7 @@ module _ (luns : List ℕ) (past : Past) (k : ℕ) (rest : List ℕ) (f : is_fun
   waits_turns first others e =
       let few = waits_pending first others e in
       record {
-        headers = subst (λ (l : List Request). All (λ (request : Request). length request.frame.header ≡ header_length) l)
-            (sym (came_waits luns past w.lawful k rest is f first others e)) w.headers;
+        headers = grind (arith, came_waits);
         pending = omega (arith, few);
         immediate = grind (arith, immediate_less, came_waits, unfinished_waits, unfinished_removing, functions_waits, functions_removing);
       }
@@ -274,18 +276,9 @@ acted_adds : (luns : List ℕ) (n : ℕ) (past : Past) (k : ℕ) → IsWithinLim
     → Turns n past (behind luns k past (ended luns k past)) → length (flat_map spelling (act_answers luns k past)) ≤ n * request_weight + 48
     → Adds 48 0 past (acted luns k past)
 acted_adds luns n past k w lawful t short =
-    let more = act_answers luns k past in
-    let same = same_answering more (behind luns k past (ended luns k past)) in
-    let few = w.few in
-    let less = t.immediate in
     let fewer = t.pending in
-    let answers = ap (λ (l : List Answer). length (flat_map spelling l)) (acted_same luns k past).1 in
-    record {
-      within = record { lawful = lawful; headers = t.headers; few = omega (arith, few, less, same.1) };
-      added = omega (arith, answers, spelled_more past.answers more, fewer, same.0, short);
-      more = omega (arith, fewer, same.0);
-      params = (acted_same luns k past).0;
-    }
+    adds_answering 48 (act_answers luns k past) past (behind luns k past (ended luns k past)) w lawful t.headers t.immediate (omega (arith, fewer))
+    (omega (arith, fewer, short)) (acted_same luns k past).0 (acted_same luns k past).1
 
 header_whole : (past : Past) (k : ℕ) → IsWithinLimits past → k < length past.came → length (frame_of past.came k).header ≡ header_length
 header_whole past k w lt = w.headers k _ lt
@@ -333,15 +326,10 @@ pub ask_adds : (work : Work) (k : ℕ) (rest : List ℕ) → asking work.past �
 unfolding ask
 ask_adds work k rest is range w =
     let past = work.past in
-    let few = w.few in
-    let more = r2t_answers (r2ts_of past k) in
-    let same = same_load past past.data_outs (past.r2ts ++ map (sent_for k) (r2ts_of past k)) (past.answers ++ more) in
-    record {
-      within = record { lawful = ask_lawful work k rest is w.lawful; headers = w.headers; few = omega (arith, few, same.1) };
-      added = omega (arith, spelled_more past.answers more, asks_long past k range, same.0);
-      more = omega (arith, same.0);
-      params = refl;
-    }
+    let r2ts = past.r2ts ++ map (sent_for k) (r2ts_of past k) in
+    let same = same_load past past.data_outs r2ts past.answers in
+    adds_answering 98304 (r2t_answers (r2ts_of past k)) past (record past { r2ts = r2ts }) w (ask_lawful work k rest is w.lawful) w.headers
+    (omega (arith, same.1)) (omega (arith, same.0)) (omega (arith, same.0, asks_long past k range)) refl refl
 
 -- ---- a function is answered whose data has come
 
@@ -362,17 +350,7 @@ pub tell_adds : (work : Work) (k : ℕ) (rest : List ℕ) → drained_functions 
 unfolding tell
 tell_adds work k rest is w =
     let past = work.past in
-    let more = told_answers past k in
-    let few = w.few in
     let waits = first_waits past k rest is in
     let fewer = told_pending past k w.lawful waits in
-    record {
-      within = record {
-        lawful = tell_lawful work k rest is w.lawful;
-        headers = w.headers;
-        few = omega (arith, few, (same_answering more (told k past)).1, told_immediate past k w.lawful waits);
-      };
-      added = omega (arith, spelled_more past.answers more, told_short past k, (same_answering more (told k past)).0, fewer);
-      more = omega (arith, (same_answering more (told k past)).0, fewer);
-      params = refl;
-    }
+    adds_answering 48 (told_answers past k) past (told k past) w (tell_lawful work k rest is w.lawful) w.headers (told_immediate past k w.lawful waits) fewer
+    (omega (arith, fewer, told_short past k)) refl refl

@@ -26,7 +26,7 @@ use Rattle.iscsi_requests.specs.Transfers.{tag_of}
 use Rattle.iscsi_pdu.specs.declared.task_management_response.TaskResult.{TaskResult}
 use Rattle.iscsi_requests.specs.Functions.{own_reach, awaited, function_result, function_answer}
 use Rattle.iscsi_requests.proofs.Heads.{same_head}
-use Rattle.iscsi_session.specs.Runs.{Output, ActsAs, ActsFirst}
+use Rattle.iscsi_session.specs.Runs.{Output, output, ActsAs, ActsFirst}
 use Rattle.iscsi_session.specs.declared.act.Act.{Act}
 use Rattle.iscsi_session.specs.declared.act.Act.TheVariants.{Idle, Taken, Ended}
 use Rattle.iscsi_session.specs.Acts.{acted, reach_of, ended, behind, act_answers, ordered, act_answers_by, acted_answers, ends, ends_by, closes, logout_answer, ping_answers}
@@ -158,9 +158,6 @@ one_bearing x e = rw e refl
 pub text_bears : (numbers_now : Stamp) (piece : Option TextPiece) (frame : Frame) → bearing (text_answer numbers_now piece frame ∷ []) ≡ 1
 text_bears numbers_now piece frame = grind arith
 
-pub logout_bears : (numbers_now : Stamp) (params : SessionParams) (frame : Frame) → bearing (logout_answer numbers_now params frame ∷ []) ≡ 1
-logout_bears numbers_now params frame = grind arith
-
 -- ---- what is written
 
 pub record PingIs (values : Values) (frame : Frame) (tag : ℕ) (body : List ℕ) : Type 0 where
@@ -216,9 +213,7 @@ pub function_at : (past : Past) (k : ℕ) (at : Option ℕ) → IsLawful past �
 function_at past k None lawful there found =
     absurd (let no = sym (found_self (tag_of past.came) k (functions past) lawful.function_tags there) ∙ found in cc)
 function_at past k (Some i) lawful there found =
-    let both : Some found.0 ≡ Some k = sym found.1 ∙ found_self (tag_of past.came) k (functions past) lawful.function_tags there in
-    let same : found.0 ≡ k = cc in
-    remove_map (λ a. (frame_of past.came a).header) (functions past) i k (functions_distinct past) (found.2 ∙ ap (λ (n : ℕ). Some n) same)
+    grind (arith, sym found.1 ∙ found_self (tag_of past.came) k (functions past) lawful.function_tags there, remove_map, functions_distinct)
 
 function_gone : (past : Past) (state : SessionState) (k : ℕ) → Stands past state → is_in k (functions past) ≡ true → is_in k (pending past) ≡ false
     → function_removed state.functions (function_place (tag_of past.came k) state.functions) ≡ functions_of (finished k past)
@@ -302,31 +297,14 @@ module _ (past : Past) (state : SessionState) (k : ℕ) (rest : List ℕ) (s : S
       → tasks ≡ record state.tasks { due = others; queue = state.tasks.queue ++ frame ∷ [] } → Stands (acted luns k past) (record state { tasks = tasks })
   stands_queued luns frame others tasks e stays here left same =
       let after : Past = record past { acted = past.acted ++ k ∷ [] } in
-      let goes : after ≡ acted luns k past = moved_command k past e
-      ∙ answering_none (moved k past) (act_answers luns k past) (command_answers_none luns k past e) ∙ sym (acted_plain luns k past (command_no_function (frame_of past.came k) e)) in
-      rw (same, here, left) (subst (λ (p : Past). Stands p
-      (record state {
-        tasks = record state.tasks { due = frames_of (standing past) rest; queue = state.tasks.queue ++ bare (frame_of past.came k) ∷ [] };
-      })) goes
-      (stands_tasks past after state _ s (lawful_command past s.lawful k rest is e) refl refl
-      (ap (λ (t : TaskLists). record t { due = frames_of (standing past) rest; queue = t.queue ++ bare (frame_of past.came k) ∷ [] })
-      (parts past state s).tasks_is
-      ∙ tasks_command past s.lawful k rest is stays e) (transfers_command past s.lawful k rest is) (functions_command past s.lawful k rest is)
-      (exchange_command e)))
+      let goes : after ≡ acted luns k past = grind (arith, moved_command, answering_none, command_answers_none, acted_plain, command_no_function) in
+      grind (arith, stands_tasks, lawful_command, parts, tasks_command, transfers_command, functions_command, exchange_command)
 
   -- one that was removed comes to nothing
   stands_gone : is_command (frame_of past.came k) ≡ true → is_in k past.removed ≡ true → Stands (moved k past)
       (record state { tasks = one_fewer (frame_of (standing past) k) (record state.tasks { due = drop 1 state.tasks.due }) })
   stands_gone e gone =
-      let after : Past = record past { acted = past.acted ++ k ∷ [] } in
-      subst (λ (p : Past). Stands p (record state {
-        tasks = one_fewer (frame_of (standing past) k) (record state.tasks { due = drop 1 state.tasks.due });
-      })) (moved_command k past e)
-      (stands_tasks past after state _ s (lawful_command past s.lawful k rest is e) refl refl
-      (ap (λ (l : List Frame). one_fewer (frame_of (standing past) k) (record state.tasks { due = l })) (ap (drop 1) first_due)
-      ∙ ap (λ (t : TaskLists). one_fewer (frame_of (standing past) k) (record t { due = frames_of (standing past) rest })) (parts past state s).tasks_is
-      ∙ tasks_gone past s.lawful k rest is gone e) (transfers_command past s.lawful k rest is) (functions_command past s.lawful k rest is)
-      (exchange_command e))
+      grind (arith, moved_command, stands_tasks, lawful_command, first_due, parts, tasks_gone, transfers_command, functions_command, exchange_command)
 
   -- ---- every other request is finished, in the code
 
@@ -337,19 +315,7 @@ module _ (past : Past) (state : SessionState) (k : ℕ) (rest : List ℕ) (s : S
         exchange = exchange;
       })
   stands_other headers exchange e left_over heard =
-      let after : Past = record past { acted = past.acted ++ k ∷ []; finished = past.finished ++ k ∷ [] } in
-      subst (λ (p : Past). Stands p (record state {
-        tasks = one_fewer (frame_of past.came k) (record state.tasks { due = drop 1 state.tasks.due });
-        functions = headers;
-        exchange = exchange;
-      }))
-      (moved_other k past e)
-      (stands_parts past after state _ state.transfers headers _ s (lawful_other past s.lawful k rest is e) refl refl
-      (ap (λ (l : List Frame). one_fewer (frame_of past.came k) (record state.tasks { due = l })) (ap (drop 1) first_due)
-      ∙ ap (λ (t : TaskLists). one_fewer (frame_of past.came k) (record t { due = frames_of (standing past) rest })) (parts past state s).tasks_is
-      ∙ tasks_other past s.lawful k rest is e)
-      ((parts past state s).transfers_is ∙ sym (transfers_other past s.lawful k rest is e))
-      (left_over ∙ functions_acted past s.lawful k rest is) (heard ∙ sym (exchange_acted past after k refl refl refl)))
+      grind (arith, moved_other, stands_parts, lawful_other, first_due, parts, tasks_other, transfers_other, functions_acted, exchange_acted)
 
   -- no Text
   exchange_kept : is_text (frame_of past.came k) ≡ false → state.exchange ≡ exchange_behind past.params (exchange_of past) (frame_of past.came k)
@@ -370,6 +336,17 @@ module _ (past : Past) (state : SessionState) (k : ℕ) (rest : List ℕ) (s : S
           rw (stands_other_kind no_command) (stands_other state.functions state.exchange no_command (same_functions past state k s no_function)
           (exchange_kept no_text))
 
+  -- one that is answered by its kind
+  pub answered_here : {o : Opcode} (frame : Frame) (tasks : TaskLists) → is_command (frame_of (standing past) k) ≡ false
+      → is_text (frame_of past.came k) ≡ false → is_function (frame_of past.came k) ≡ false → state.tasks.due ≡ frame ∷ drop 1 state.tasks.due
+      → tasks ≡ one_fewer frame (record state.tasks { due = drop 1 state.tasks.due }) → kind_of frame ≡ o → (opcodes.Other 0x3F ≡ o → ⊥)
+      → (frame ≡ frame_of past.came k) × (kind_of (frame_of past.came k) ≡ o) × Stands (moved k past) (record state { tasks = tasks })
+  answered_here frame tasks e no_text no_function some same kind other =
+      let f = finished_here frame tasks e no_text no_function some same in
+      let there = sym (ap kind_of f.0) ∙ kind in
+      let as_came = came_as e there other in
+      (f.0 ∙ as_came, sym (ap kind_of as_came) ∙ there, f.1)
+
   -- a Task Management Function Request
   pub function_here : (frame : Frame) (tasks : TaskLists) (tag : ℕ) (headers : List (List ℕ)) → is_function (frame_of past.came k) ≡ true
       → state.tasks.due ≡ frame ∷ drop 1 state.tasks.due → tasks ≡ one_fewer frame (record state.tasks { due = drop 1 state.tasks.due })
@@ -379,9 +356,7 @@ module _ (past : Past) (state : SessionState) (k : ℕ) (rest : List ℕ) (s : S
       let f = frame_of past.came k in
       let no_command = function_no_command f e in
       let here = here_is frame some ∙ stands_other_kind no_command in
-      let left_over : headers ≡ functions_of (finished k past) = gone
-      ∙ ap (λ (t : ℕ). function_removed state.functions (function_place t state.functions)) tag_is
-      ∙ function_gone past state k s (due_function past s.lawful k rest is e) (not_pending past s.lawful k rest is) in
+      let left_over : headers ≡ functions_of (finished k past) = grind (arith, tag_is, function_gone, due_function, not_pending) in
       (here, rw (same, here) (stands_other headers state.exchange no_command left_over (exchange_kept (function_no_text f e))))
 
   -- a Text, and its exchange goes on or is over
@@ -395,8 +370,7 @@ module _ (past : Past) (state : SessionState) (k : ℕ) (rest : List ℕ) (s : S
       let f = frame_of past.came k in
       let no_command = text_no_command f e in
       let here = here_is frame some ∙ stands_other_kind no_command in
-      let heard : told ≡ hears (exchange_of past) f past.params = hears_so ∙ ap (λ (x : ExchangeState). hears x f state.params) p.exchange_is
-      ∙ ap (hears (exchange_of past) f) p.params_is in
+      let heard : told ≡ hears (exchange_of past) f past.params = grind arith in
       let next : told.exchange ≡ exchange_behind past.params (exchange_of past) f = ap (λ (t : ToldState). t.exchange) heard
       ∙ sym (exchange_text past.params (exchange_of past) f e) in (
         here,
@@ -479,6 +453,13 @@ none_ordered past k orders e = rw e (sym (append-nil orders))
 pub function_ordered : (past : Past) (k : ℕ) (header : List ℕ) (orders : List (List ℕ)) → is_function (frame_of past.came k) ≡ true
     → header ≡ (frame_of past.came k).header → orders ++ header ∷ [] ≡ orders ++ ordered k past
 function_ordered past k header orders e same = rw e (ap (λ (h : List ℕ). orders ++ h ∷ []) same)
+
+-- a request that is no function is finished, and answered at once
+pub acts_plain : (luns : List ℕ) (k : ℕ) (past : Past) (answers : List Answer) (a : Act) (new : SessionState) (bytes items : List ℕ)
+    (orders : List (List ℕ)) → is_function (frame_of past.came k) ≡ false → answers ≡ act_answers luns k past
+    → a ≡ cond (ends past.params (frame_of past.came k)) Ended Taken → Stands (answering answers (moved k past)) new
+    → items ≡ bytes ++ flat_map spelling answers → ActsAs luns k past a new (output bytes orders) (output items orders)
+acts_plain luns k past answers a new bytes items orders e same act stands out = grind (arith, stands_plain, none_ordered)
 
 -- ---- the first of the queue is finished
 

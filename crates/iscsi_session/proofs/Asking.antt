@@ -1,18 +1,17 @@
 -- The R2Ts that are due of a command are sent, and a command of the queue is done where its data is whole.
-use Rattle.std.proofs.Common.{◌≡◌, ◌≢◌, ◌==◌, ℕ, zero, suc, ◌+◌, ◌-◌, ◌%◌, ◌<◌, List, [], ◌∷◌, ◌++◌, length, map, set, drop, Bool, true, false, Option, Some, None, refl, sym, ap, subst, ◌∙◌, arith, append-nil, append_assoc}
+use Rattle.std.proofs.Common.{◌≡◌, ◌≢◌, ◌==◌, ℕ, ◌+◌, ◌%◌, ◌<◌, List, [], ◌∷◌, ◌++◌, length, map, set, Bool, true, false, Option, Some, None, refl, sym, ap, subst, ◌∙◌, arith, append-nil, append_assoc}
 use Rattle.std.specs.Prelude.{All, filter, find, is_some, slice_get}
 use Rattle.std.proofs.lemmas.Bool.{eq-eqb, ne_eqb}
-use Rattle.std.proofs.lemmas.List.{length-append, length-map, map-append, drop_all}
-use Rattle.std.proofs.lemmas.List.Elements.{All-cons, All-push, filter-append}
+use Rattle.std.proofs.lemmas.List.{length-append, length-map, map-append}
+use Rattle.std.proofs.lemmas.List.Elements.{All-push, filter-append}
 use Rattle.iscsi_pdu.specs.declared.r2t.R2t.{R2t}
 use Rattle.iscsi_pdu.specs.declared.stamp.Stamp.{Stamp}
-use Rattle.iscsi_transfer.specs.WriteData.{WriteDataState, remembered as task_of, filled, due_asks, is_due, with_asked}
+use Rattle.iscsi_transfer.specs.WriteData.{WriteDataState, remembered as task_of, due_asks, is_due, with_asked}
 use Rattle.iscsi_transfer.specs.declared.progress.Ask.{Ask}
 use Rattle.iscsi_transfer.proofs.Standing.{remembered-asked}
-use Rattle.iscsi_transfer.proofs.Due.{sent_is_due_no_more}
 use Rattle.iscsi_requests.specs.declared.transfers.Transfer.{Transfer}
 use Rattle.iscsi_requests.specs.Requests.{Past, SentR2t, frame_of, is_in, due, queue, unfinished, stamp, statuses, bearing, functions}
-use Rattle.iscsi_requests.specs.Transfers.{outs_of, tags_of, data_past, task_at, asks_of, is_due_of, asking, next_transfer_tag, drains_of, r2t_for, r2ts_for, r2ts_of, r2t_answers, sent_for, asked, asked_by, r2ts_by}
+use Rattle.iscsi_requests.specs.Transfers.{outs_of, tags_of, data_past, task_at, asks_of, is_due_of, asking, next_transfer_tag, drains_of, r2ts_for, r2ts_of, r2t_answers, sent_for, asked, asked_by, r2ts_by}
 use Rattle.iscsi_requests.specs.State.{SessionState, AreDrained, drained_of, IsLawful, Stands, tasks_of, transfers_of, transfer_of, transfer_at, no_transfer, asking_place, r2ts_at, sent_at, sent_to, functions_of, standing}
 use Rattle.iscsi_session.specs.Steps.{ready, ready_in}
 use Rattle.iscsi_session.specs.Laws.{R2tsAreSentAtOnce}
@@ -37,8 +36,7 @@ all_sent task [] [] e same = ap due_asks (sent_none task) ∙ e
 all_sent task [] (tag ∷ tags) e same = absurd (omega (arith, same))
 all_sent task (ask ∷ asks) [] e same = absurd (omega (arith, same))
 all_sent task (ask ∷ asks) (tag ∷ tags) e same =
-    ap due_asks (sym (sent_then task tag tags))
-    ∙ all_sent (with_asked (tag ∷ []) task) asks tags (one_less task ask asks tag e) (omega (arith, same))
+    grind (arith, all_sent (with_asked (tag ∷ []) task) asks tags (one_less task ask asks tag e) (omega (arith, same)), sent_then, one_less)
 
 -- ---- what a command remembers of them
 
@@ -75,9 +73,7 @@ asked_there past k =
 
 pub asked_elsewhere : (past : Past) (k j : ℕ) → j ≢ k → transfer_of (asked k past) j ≡ transfer_of past j
 unfolding task_at
-asked_elsewhere past k j differ =
-    tags_grown past k j _ (tags_more past k j ∙ ap (λ (l : List ℕ). tags_of past j ++ l) (tags_elsewhere k j (r2ts_of past k) (ne_eqb k j (λ e. differ (sym e))))
-    ∙ append-nil (tags_of past j))
+asked_elsewhere past k j differ = grind (arith, tags_grown, tags_more, tags_elsewhere, ne_eqb, append-nil)
 
 -- none is due of it after them
 pub asks_gone : (past : Past) (k : ℕ) → asks_of (asked k past) k ≡ []
@@ -146,9 +142,7 @@ statuses_asked past k = grind (arith, statuses_answering, r2ts_bear_none)
 
 alike : (header : List ℕ) (tag : ℕ) (numbers : Stamp) (asks : List Ask) → All (λ r2t. r2t.stamp ≡ numbers) (r2ts_for header tag numbers asks)
 alike header tag numbers [] = λ i d lt. absurd (omega (arith, lt))
-alike header tag numbers (ask ∷ asks) =
-    All-cons (λ (r2t : R2t). r2t.stamp ≡ numbers) (r2t_for header tag numbers ask) (r2ts_for header ((tag + 1) % 0xFFFFFFFF) numbers asks) refl
-    (alike header ((tag + 1) % 0xFFFFFFFF) numbers asks)
+alike header tag numbers (ask ∷ asks) = grind (arith, alike header ((tag + 1) % 0xFFFFFFFF) numbers asks)
 
 stamps_alike : (past : Past) (k : ℕ) → All (λ r2t. r2t.stamp ≡ stamp past) (r2ts_of past k)
 unfolding r2ts_of

@@ -1,8 +1,8 @@
 -- Sessions between two frames: how many requests they hold, and what the calls on them add.
-use Rattle.std.proofs.Common.{◌≡◌, ℕ, zero, suc, ◌+◌, ◌*◌, ◌≤◌, List, [], ◌∷◌, length, Bool, true, false, cond, not, refl, arith, ◌-◌, ◌<◌, ◌==◌, get_or, Option, None, Result, Ok, Err, sym, ap, subst, ◌∙◌}
+use Rattle.std.proofs.Common.{◌≡◌, ℕ, zero, suc, ◌+◌, ◌*◌, ◌≤◌, List, [], ◌∷◌, length, Bool, true, false, cond, not, refl, arith, ◌-◌, ◌<◌, ◌==◌, Option, None, Result, Ok, Err, sym, ap, subst, ◌∙◌}
 use Rattle.iscsi_pdu.specs.Header.{header_length, is_immediate}
 use Rattle.iscsi_pdu.specs.Frames.{Frame}
-use Rattle.iscsi_requests.specs.Requests.{Past, due, begun, no_request, frame_of, request_at, is_command, is_in, left, commands, others, numbers, numbered, held, queue, unfinished, pending as awaiting, functions, finished, removing, stamp, counted, over, taken, place_of}
+use Rattle.iscsi_requests.specs.Requests.{Past, due, begun, frame_of, request_at, is_command, is_in, left, commands, others, numbers, numbered, held, queue, unfinished, pending as awaiting, functions, finished, removing, stamp, counted, over, taken, place_of}
 use Rattle.iscsi_requests.specs.Functions.{drained_functions, FunctionReach, reached}
 use Rattle.iscsi_requests.specs.Transfers.{asking}
 use Rattle.iscsi_session.specs.Steps.{Step, Judging, Taking, Asking, Answering, Work, reaches, take_step, judge, act, ask, tell, first_steps, one_by_one, waiting_in, act_all, ask_due, tell_due, taken_in, asked_in, served, begun_work, answered_command, is_serving}
@@ -90,10 +90,7 @@ served_adds fails place frame work whole range w few =
     let asks = first_steps fails (Asking place) ask (asking acts.past) acts in
     let fourth = first_adds 48 fails (Answering place) drained_functions tell (drained_functions asks.past) asks refl
     (λ k rest is. tell_adds (reaches (Answering place) asks) k rest is third.within) third.within in
-    let more = first.more in
-    adds_less (request_weight + 99 + fuel * 48 + 98304 + 48) (2 * request_weight) (1 + 0 + 0 + 0) 1 work.past _ (omega (arith, more, few)) (omega arith)
-    (adds_then (request_weight + 99 + fuel * 48 + 98304) 48 (1 + 0 + 0) 0 work.past asks.past _
-    (adds_then (request_weight + 99 + fuel * 48) 98304 (1 + 0) 0 work.past acts.past asks.past so_far third) fourth)
+    grind (arith, adds_then, adds_less)
 
 -- ---- how many are pending
 
@@ -160,12 +157,9 @@ taken_counted past lawful idle =
     let c : counted came (commands came past.finished) + counted came (queue past) ≡ counted came (left past.removed (commands came past.acted)) = sym
     (counted_append came (commands came past.finished) (queue past)) ∙ ap (counted came) lawful.queued in
     let d : counted came (others came past.finished) ≡ counted came (others came past.acted) = ap (counted came) lawful.at_once in
-    let e : counted came (taken came) ≡ counted came past.acted + counted came (due past) = ap (counted came) lawful.in_order
-    ∙ counted_append came past.acted (due past) in
-    let none : counted came (due past) ≡ 0 = ap (counted came) idle in
+    let e : counted came (taken came) ≡ counted came past.acted + counted came (due past) = grind (arith, counted_append) in
     let f = counted_append came (left (awaiting past) past.finished) (filter (λ k. is_in k past.removed) past.acted) in
     let g = done_counted past lawful in
-    let handed = lawful.handed in
     omega arith
 
 queue_came : (past : Past) → IsLawful past → (k : ℕ) → is_in k (queue past) ≡ true → k < length past.came
@@ -186,10 +180,7 @@ both_kinds past names lawful below =
     let p : ℕ → Bool = λ k. is_some (request_at past.came k).number in
     let q : ℕ → Bool = λ k. not (p k) in
     let both : length (filter p names) + length (filter q names) ≡ length names = length-filter_both p q (λ k. refl) names in
-    let same : filter q names ≡ filter (λ k. is_immediate (frame_of past.came k).header) names =
-    filter_cong q (λ k. is_immediate (frame_of past.came k).header) names
-    (λ i d lt. flipped (is_some (request_at past.came (get_or names i d)).number) (is_immediate (frame_of past.came (get_or names i d)).header)
-    (lawful.delivered (get_or names i d) no_request (below i d lt))) in
+    let same : filter q names ≡ filter (λ k. is_immediate (frame_of past.came k).header) names = grind (arith, filter_cong, flipped) in
     omega (arith, both, ap (λ (l : List ℕ). length l) same)
   where
     flipped : (a b : Bool) → a ≡ not b → not a ≡ b
@@ -333,12 +324,7 @@ run_loads frame failed goes_on old new before waiting units runs whole idle rang
     let adds = served_adds fails 0 frame work whole in_range r.within few in
     let added = adds.added in
     record {
-      rests = λ on. record {
-        past = after;
-        within = adds.within;
-        idle = none_due after new s (idle on);
-        remembered = leaves.remembered;
-      };
+      rests = grind (arith, none_due);
       heavier = omega (
         arith,
         added,

@@ -77,12 +77,7 @@ pub came_then : (target : Option ℕ) (First Second Both : TargetUnits → Targe
 came_then target First Second Both units middle after first second back joined = record {
   came = first.came ++ second.came;
   own = of_both target first.came second.came first.own second.own;
-  leads = λ comings ahead. (
-      let behind = drop (length first.came) comings in
-      let both = joined (lend units comings) (lend middle behind) (lend after (drop (length second.came) behind))
-      (first.leads comings (ahead_of first.came second.came comings ahead))
-      (second.leads behind (ahead_behind first.came second.came comings ahead)) in
-      subst (λ (left : List Coming). Both (lend units comings) (lend after left)) (left_behind first.came second.came comings) both);
+  leads = grind (arith, ahead_of, ahead_behind, left_behind);
   plain = λ sound. plain_both first.came second.came (first.plain (back sound)) (second.plain sound);
 }
 

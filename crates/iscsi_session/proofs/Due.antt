@@ -279,13 +279,7 @@ behind_fewer luns true past k rest e lawful is =
     let m = more_over luns past k rest both.0 (plugs_unasked past (reach_of luns k past) both.1) lawful is moves in
     let tasks = plugged_tasks n past (ended luns k past) m.1 m.2 lawful (ended_lawful luns _ past k rest refl lawful is moves) m.0
     (plugs_new past (reach_of luns k past) both.1) in
-    rw e (omega (
-      arith,
-      ap waiting tasks,
-      waiting_held n plug (tasks_of (ended luns k past)),
-      weight_by false plug refl,
-      ended_fewer luns true past k rest both.0 lawful is,
-    ))
+    grind (arith, waiting_held, weight_by, ended_fewer)
 
 act_fewer : (work : Work) (k : ℕ) (rest : List ℕ) → due work.past ≡ k ∷ rest → IsLawful work.past
     → waiting (tasks_of (act k work).past) < waiting (tasks_of work.past)

@@ -18,7 +18,7 @@ use Rattle.iscsi_session.proofs.Accepted.{HasFreeTag, IsAhead, finished_below, r
 use Rattle.std.specs.Prelude.{filter, if◌then◌else◌}
 use Rattle.std.specs.List.{list_any, range_with_len}
 use Rattle.std.proofs.lemmas.List.{nil_from_length, get_or_past}
-use Rattle.std.proofs.lemmas.List.FromFn.{get_or-map-range_with_len, length-map-range_with_len}
+use Rattle.std.proofs.lemmas.List.FromFn.{get_or-map-range_with_len}
 use Rattle.iscsi_pdu.specs.TaskManagement.{ref_cmd_sn}
 use Rattle.iscsi_requests.specs.declared.abort_scope.Scope.{Scope}
 use Rattle.iscsi_requests.specs.declared.abort_scope.Scope.TheVariants as scopes
@@ -211,10 +211,7 @@ plugged_in past n lawful =
           ap is_some_plug (get_or-map-range_with_len (frame_numbered (standing past)) h window d (h + d) None near.1 refl)
           ∙ held_plug _ past lawful (h + d) refl
       | inl far ↦
-          let long = length-map-range_with_len (frame_numbered (standing past)) h window in
-          let few = lawful.window.finished in
-          let none : order.has_come (numbered past.came) (h + d) ≡ false = false_from_ne_true (order.has_come (numbered past.came) (h + d))
-          (λ e. let lt = lawful.window.within (h + d) e in absurd (omega arith)) in
+          let none : order.has_come (numbered past.came) (h + d) ≡ false = grind (arith, false_from_ne_true) in
           ap is_some_plug (get_or_past (map (frame_numbered (standing past)) (range_with_len h window)) d None (omega arith))
           ∙ sym (ap (λ (p : ℕ). is_plug (frame_of past.came p)) (place_missing past.came (h + d) none) ∙ missing_plug past.came)
     ]

@@ -243,10 +243,7 @@ fed_drained past frame (Some i) drained found =
     (sym (fed_there past k frame))
     ∙ set_drains (drained_of past) (drained_of (feeding k frame past)) (drains_of past) i d (drains_once past drained) found.2
     (λ e differ. ap (drained_with (frame_of past.came e.function).header) (fed_elsewhere past k e.command frame differ)) in
-    ap (λ (l : List Drained). record (transfers_of past) { drains = l }) set_there
-    ∙ ap (λ (l : List Transfer). record (transfers_of (feeding k frame past)) { list = l })
-    (fed_others past k frame (drain_there past i d drained found.2) ∙ ap (map (transfer_of (feeding k frame past))) (sym (unfinished_fed past k frame)))
-    ∙ ap (λ (c : Option ℕ). transfers_of (fed c frame past)) (sym found.1)
+    grind (arith, fed_others, drain_there, unfinished_fed)
 
 pub fed_is : (past : Past) (state : SessionState) (frame : Frame) → Stands past state
     → fed_in state.transfers frame ≡ transfers_of (fed (command_with past (tag_in frame)) frame past)

@@ -96,10 +96,7 @@ waits_by : (past : Past) → IsLawful past → (l : List Drain) (k : ℕ) → is
 waits_by past lawful [] k there all = refl
 waits_by past lawful (d ∷ l) k there all =
     let open_one = pending_open past lawful d.function (All-head (λ (x : Drain). is_in x.function (awaiting past) ≡ true) d l all) in
-    rw (
-      open_tag past lawful d.function k open_one there,
-      waits_by past lawful l k there (All-tail (λ (x : Drain). is_in x.function (awaiting past) ≡ true) d l all),
-    ) refl
+    grind (arith, waits_by past lawful l k there (All-tail (λ (x : Drain). is_in x.function (awaiting past) ≡ true) d l all), open_tag)
 
 waiting_is : (past : Past) → IsLawful past → waiting_functions (remembered past) ≡ waiting_of past
 unfolding transfers_of functions_of

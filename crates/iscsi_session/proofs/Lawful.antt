@@ -46,10 +46,7 @@ in_order past q lawful = ap (filter q) lawful.in_order ∙ filter-append q past.
 pub finished_as_taken : FinishedAsTaken
 finished_as_taken past lawful = record {
   later_commands = queue past ++ left past.removed (commands past.came (due past));
-  commands = ap (left past.removed) (in_order past (λ k. is_command (frame_of past.came k)) lawful)
-      ∙ left_append past.removed (commands past.came past.acted) (commands past.came (due past))
-      ∙ ap (λ (l : List ℕ). l ++ left past.removed (commands past.came (due past))) (sym lawful.queued)
-      ∙ append_assoc (commands past.came past.finished) (queue past) (left past.removed (commands past.came (due past)));
+  commands = grind (arith, in_order, left_append, append_assoc);
   later_others = others past.came (due past);
   others = in_order past (λ k. not (is_command (frame_of past.came k))) lawful ∙ ap (λ (l : List ℕ). l ++ others past.came (due past)) (sym lawful.at_once);
 }
@@ -115,16 +112,12 @@ more_over luns past k rest f none lawful is moves =
     let reach = reach_of luns k past in
     let no_command = function_no_command (frame_of past.came k) f in
     let same : record past { acted = past.acted ++ k ∷ []; finished = past.finished ++ k ∷ [] } ≡ moved k past = moved_other k past no_command in
-    let removes : removing (reached reach (moved k past)) (moved k past) ≡ ended luns k past =
-    ap (λ (l : List ℕ). removing l (moved k past)) (reached_moved luns past k f) ∙ ended_now luns past k f none in
+    let removes : removing (reached reach (moved k past)) (moved k past) ≡ ended luns k past = grind (arith, reached_moved, ended_now) in
     let a = over_other past k (stays_other past lawful k rest is no_command) (not_pending past lawful k rest is) in
     let b = removing_over reach (moved k past) moves in
     let c = ap (λ (p : Past). (numbers p).finished) same in
-    let d = ap (λ (p : Past). (numbers p).finished) removes in (
-      omega (arith, a, b, c, d),
-      ap (λ (p : Past). p.came) (sym removes) ∙ ap (λ (p : Past). p.came) (sym same),
-      ap (λ (p : Past). p.params) (sym removes) ∙ ap (λ (p : Past). p.params) (sym same),
-    )
+    let d = ap (λ (p : Past). (numbers p).finished) removes in
+    grind arith
 
 behind_lawful : (luns : List ℕ) (b : Bool) (past : Past) (k : ℕ) (rest : List ℕ) → (is_function (frame_of past.came k) && plugs past (reach_of luns k past)) ≡ b
     → due past ≡ k ∷ rest → IsLawful past → IsLawful (ended luns k past) → IsLawful (behind luns k past (ended luns k past))

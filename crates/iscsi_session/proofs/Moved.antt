@@ -44,8 +44,7 @@ module _ (past : Past) (lawful : IsLawful past) where
 
     not_acted : is_in k past.acted ≡ false
     not_acted =
-        let none : is_in (get_or (left past.acted (taken past.came)) 0 k) past.acted ≡ false = left_passes past.acted (taken past.came) 0 k
-        (omega (arith, ap (λ (l : List ℕ). length l) (sym (due_is past lawful) ∙ is))) in
+        let none : is_in (get_or (left past.acted (taken past.came)) 0 k) past.acted ≡ false = grind (arith, left_passes, due_is) in
         ap (λ (n : ℕ). is_in n past.acted) (ap (λ (l : List ℕ). get_or l 0 k) (sym (sym (due_is past lawful) ∙ is))) ∙ none
 
     pub not_finished : is_in k past.finished ≡ false
@@ -99,26 +98,20 @@ module _ (past : Past) (lawful : IsLawful past) where
     pub lawful_command : is_command (frame_of past.came k) ≡ true → IsLawful with_command
     unfolding unfinished functions
     lawful_command e =
-        let in_order = in_order_after ∙ ap (λ (l : List ℕ). (past.acted ++ k ∷ []) ++ l) (sym due_after) in
-        let queued : commands past.came past.finished ++ queue with_command ≡ left past.removed (commands past.came (past.acted ++ k ∷ [])) =
-        ap (λ (l : List ℕ). commands past.came past.finished ++ l) (queue_by e)
-        ∙ sym (append_assoc (commands past.came past.finished) (queue past) (left past.removed (k ∷ [])))
-        ∙ ap (λ (l : List ℕ). l ++ left past.removed (k ∷ [])) lawful.queued ∙ sym (left_commands e) in
-        let at_once = lawful.at_once ∙ sym (others_none e) in
-        lawful_step past (past.acted ++ k ∷ []) past.finished past.removed past.drains past.answered lawful (record {
-          over = over_more past k;
-          in_order = in_order;
-          below = below_after;
-          acted = acted_after;
-          queued = queued;
-          at_once = at_once;
-          tags = lawful.tags;
-          function_tags = lawful.function_tags;
-          removed_below = lawful.removed_below;
-          removed_commands = lawful.removed_commands;
-          apart = lawful.apart;
-          drained = drained_acted past (past.acted ++ k ∷ []) lawful.drained;
-        })
+        grind (
+          arith,
+          in_order_after,
+          due_after,
+          queue_by,
+          append_assoc,
+          left_commands,
+          others_none,
+          lawful_step,
+          over_more,
+          below_after,
+          acted_after,
+          drained_acted,
+        )
 
     -- one that is not removed
     module _ (stays : is_in k past.removed ≡ false) where
@@ -195,28 +188,18 @@ module _ (past : Past) (lawful : IsLawful past) where
     pub lawful_other : is_command (frame_of past.came k) ≡ false → IsLawful with_other
     unfolding functions
     lawful_other e =
-        let in_order : taken past.came ≡ (past.acted ++ k ∷ []) ++ due with_other = in_order_after
-        ∙ ap (λ (l : List ℕ). (past.acted ++ k ∷ []) ++ l) (sym due_other) in
+        let in_order : taken past.came ≡ (past.acted ++ k ∷ []) ++ due with_other = grind (arith, in_order_after, due_other) in
         let queued : commands past.came (past.finished ++ k ∷ []) ++ queue with_other ≡ left past.removed (commands past.came (past.acted ++ k ∷ [])) =
         rw (commands_none past.finished e, queue_other e, commands_none past.acted e) lawful.queued in
-        let at_once : others past.came (past.finished ++ k ∷ []) ≡ others past.came (past.acted ++ k ∷ []) = rw
-        (others_one past.finished e, others_one past.acted e) (ap (λ (l : List ℕ). l ++ k ∷ []) lawful.at_once) in
-        lawful_step past (past.acted ++ k ∷ []) (past.finished ++ k ∷ []) past.removed past.drains past.answered lawful (record {
-          over = omega (arith, over_other past k (stays_other e) not_pending);
-          in_order = in_order;
-          below = below_after;
-          acted = All-push (λ a. is_in a (past.acted ++ k ∷ []) ≡ true) past.finished k acted_after
-              (in_back k past.acted (k ∷ []) (in_at (k ∷ []) 0 0 (omega arith)));
-          queued = queued;
-          at_once = at_once;
-          tags = subst (λ (l : List ℕ). AreDistinct (map (tag_of past.came) l)) (sym (unfinished_with_other e)) lawful.tags;
-          function_tags = subst (λ (l : List ℕ). AreDistinct (map (tag_of past.came) l)) (sym (functions_without past k not_pending))
-              (tags_left past k (functions past) lawful.function_tags);
-          removed_below = lawful.removed_below;
-          removed_commands = lawful.removed_commands;
-          apart = All-push (λ a. is_in a past.removed ≡ false) past.finished k lawful.apart (stays_other e);
-          drained = drained_finished past (past.acted ++ k ∷ []) k lawful.drained;
-        })
+        let at_once : others past.came (past.finished ++ k ∷ []) ≡ others past.came (past.acted ++ k ∷ []) = grind (arith, others_one) in
+        let function_tags = subst (λ (l : List ℕ). AreDistinct (map (tag_of past.came) l)) (sym (functions_without past k not_pending))
+        (tags_left past k (functions past) lawful.function_tags) in
+        let last = in_back k past.acted (k ∷ []) (in_at (k ∷ []) 0 0 (omega arith)) in
+        let acted = All-push (λ a. is_in a (past.acted ++ k ∷ []) ≡ true) past.finished k acted_after last in
+        let apart = All-push (λ a. is_in a past.removed ≡ false) past.finished k lawful.apart (stays_other e) in
+        let drained = drained_finished past (past.acted ++ k ∷ []) k lawful.drained in
+        lawful_step past (past.acted ++ k ∷ []) (past.finished ++ k ∷ []) past.removed past.drains past.answered lawful
+        (grind (arith, over_other, below_after, unfinished_with_other, not_pending, stays_other))
 
     pub tasks_other : is_command (frame_of past.came k) ≡ false
         → one_fewer (frame_of past.came k) (record (tasks_of past) { due = frames_of (standing past) rest }) ≡ tasks_of with_other
@@ -267,29 +250,16 @@ module _ (past : Past) (lawful : IsLawful past) where
     pub lawful_finished : IsLawful (finished k past)
     unfolding due
     lawful_finished =
-        let one : commands past.came (past.finished ++ k ∷ []) ≡ commands past.came past.finished ++ k ∷ [] = filter-append
-        (λ a. is_command (frame_of past.came a)) past.finished (k ∷ []) ∙ rw is_done refl in
-        let none : others past.came (past.finished ++ k ∷ []) ≡ others past.came past.finished = filter-append
-        (λ a. not (is_command (frame_of past.came a))) past.finished (k ∷ []) ∙ rw is_done (append-nil (others past.came past.finished)) in
+        let one : commands past.came (past.finished ++ k ∷ []) ≡ commands past.came past.finished ++ k ∷ [] = grind (arith, filter-append, is_done) in
+        let none : others past.came (past.finished ++ k ∷ []) ≡ others past.came past.finished = grind (arith, filter-append, is_done, append-nil) in
         let queued : commands past.came (past.finished ++ k ∷ []) ++ queue (finished k past) ≡ left past.removed (commands past.came past.acted) =
-        rw (one, queue_after) (append_assoc (commands past.came past.finished) (k ∷ []) rest
-        ∙ ap (λ (l : List ℕ). commands past.came past.finished ++ l) (sym is) ∙ lawful.queued) in
+        grind (arith, queue_after, append_assoc) in
         let at_once : others past.came (past.finished ++ k ∷ []) ≡ others past.came past.acted = none ∙ lawful.at_once in
-        lawful_step past past.acted (past.finished ++ k ∷ []) past.removed past.drains past.answered lawful (record {
-          over = omega (arith, over_finished past k is_not_pending);
-          in_order = lawful.in_order;
-          below = lawful.below;
-          acted = All-push (λ a. is_in a past.acted ≡ true) past.finished k lawful.acted has_acted;
-          queued = queued;
-          at_once = at_once;
-          tags = subst (λ (l : List ℕ). AreDistinct (map (tag_of past.came) l)) (sym (unfinished_without past k))
-              (tags_left past k (unfinished past) lawful.tags);
-          function_tags = subst (λ (l : List ℕ). AreDistinct (map (tag_of past.came) l)) (sym functions_finished) lawful.function_tags;
-          removed_below = lawful.removed_below;
-          removed_commands = lawful.removed_commands;
-          apart = All-push (λ a. is_in a past.removed ≡ false) past.finished k lawful.apart queue_stays;
-          drained = drained_finished past past.acted k lawful.drained;
-        })
+        let acted = All-push (λ a. is_in a past.acted ≡ true) past.finished k lawful.acted has_acted in
+        let apart = All-push (λ a. is_in a past.removed ≡ false) past.finished k lawful.apart queue_stays in
+        let drained = drained_finished past past.acted k lawful.drained in
+        lawful_step past past.acted (past.finished ++ k ∷ []) past.removed past.drains past.answered lawful
+        (grind (arith, over_finished, is_not_pending, unfinished_without, tags_left, functions_finished))
 
     pub transfers_finished : transfers_of (finished k past) ≡ record (transfers_of past) { list = map (transfer_of past) (left (k ∷ []) (unfinished past)) }
     unfolding transfers_of task_at outs_of tags_of

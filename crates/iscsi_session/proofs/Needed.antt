@@ -1,20 +1,19 @@
 -- Data that is not needed is not read, and nothing that other sessions do makes it needed.
-use Rattle.std.proofs.Common.{◌≡◌, ℕ, length, List, [], ◌∷◌, Bool, true, false, ◌&&◌, ◌||◌, not, ◌==◌, Option, Some, None, is_some, refl, sym, ap, ◌∙◌, arith, if◌then◌else◌, filter, map}
-use Rattle.std.specs.Prelude.{is_none, option_map, find}
-use Rattle.std.specs.List.{list_any, range_with_len}
+use Rattle.std.proofs.Common.{◌≡◌, ℕ, List, [], ◌∷◌, Bool, true, false, ◌&&◌, ◌||◌, ◌==◌, Option, Some, None, is_some, refl, sym, ap, ◌∙◌, arith, if◌then◌else◌, filter, map}
+use Rattle.std.specs.Prelude.{is_none, find}
+use Rattle.std.specs.List.{list_any}
 use Rattle.iscsi_pdu.specs.Header.{opcode_number, initiator_task_tag}
 use Rattle.iscsi_pdu.specs.Frames.{Frame}
 use Rattle.iscsi_transfer.specs.WriteData.{WriteDataState, fault_of}
 use Rattle.iscsi_transfer.specs.declared.fault.DataFault.{DataFault}
 use Rattle.iscsi_transfer.proofs.Blank.{asked_blank, fault_blank}
 use Rattle.iscsi_pdu.specs.declared.reject.RejectReason.{RejectReason}
-use Rattle.iscsi_pdu.specs.declared.reject.RejectReason.TheVariants as reasons
 use Rattle.iscsi_requests.specs.declared.verdict.Verdict.{Verdict}
 use Rattle.iscsi_requests.specs.declared.verdict.Verdict.TheVariants.{Rejected, Violating, Feeding}
-use Rattle.iscsi_requests.specs.Requests.{Past, Drain, is_in, left, commands, unfinished, removing}
+use Rattle.iscsi_requests.specs.Requests.{Past, Drain, left, unfinished, removing}
 use Rattle.iscsi_requests.specs.Transfers.{tag_of, task_at, outs_of, tags_of, verdict_on, is_asked_of, drains_of, drained, command_among, command_with}
 use Rattle.iscsi_requests.specs.Judging.{verdict, is_refused, verdict_by, judged, data_verdict}
-use Rattle.iscsi_session.specs.Steps.{Step, Judging, Work, reaches, take_step, judge, act_all, ask_due, tell_due, taken_in, asked_in, finish, served}
+use Rattle.iscsi_session.specs.Steps.{Step, Judging, Work, reaches, take_step, judge, taken_in, asked_in, finish, served}
 use Rattle.iscsi_requests.specs.Needed.{takes, is_needed, AreAlike, takes_out, drains_out, needs_in}
 use Rattle.iscsi_requests.specs.State.{Stands, SessionState, transfer_of, drained_of, transfers_of}
 use Rattle.iscsi_session.specs.Laws.{UnneededDataIsUnread, OthersNeedNoData}
@@ -38,9 +37,7 @@ any_same p q (k ∷ l) same = rw (same k, any_same p q l same) refl
 
 pub needed_alike : (past : Past) (one other : Frame) → AreAlike one other → is_needed past other ≡ is_needed past one
 unfolding is_needed
-needed_alike past one other a =
-    let same : (k : ℕ) → takes past other k ≡ takes past one k = λ k. rw (fault_alike (task_at past k) one other a, a.header) refl in
-    rw (any_same (takes past other) (takes past one) (unfinished past) same, any_same (takes past other) (takes past one) (drained past) same) refl
+needed_alike past one other a = grind (arith, fault_alike, any_same)
 
 -- ---- what is not needed is not read
 
@@ -104,21 +101,12 @@ by_refusal false past one other reason v w a same judged_same = (same, judged_sa
 judged_unread : (past : Past) (one other : Frame) → AreAlike one other → opcode_number one.header ≡ 0x05 → is_needed past one ≡ false
     → (verdict past other ≡ verdict past one) × (judged (verdict past other) other past ≡ judged (verdict past one) one past)
 unfolding is_refused verdict_by
-judged_unread past one other a out none =
-    let at = command_with past (initiator_task_tag one.header) in
-    let opcode : opcode_number other.header ≡ 0x05 = ap opcode_number a.header ∙ out in
-    let tag : initiator_task_tag other.header ≡ initiator_task_tag one.header = ap initiator_task_tag a.header in
-    rw (opcode, out) (by_refusal (is_none past.params.target && true) past one other reasons.CommandNotSupported
-    (data_verdict past one at) (data_verdict past other (command_with past (initiator_task_tag other.header))) a
-    (rw tag (verdict_on_alike one other (option_map (task_at past) at) a))
-    (rw tag (unread_by past one other at a (lacks_all past one none))))
+judged_unread past one other a out none = grind (arith, by_refusal, verdict_on_alike, unread_by, lacks_all)
 
 judge_unread : (one other : Frame) (work : Work) → AreAlike one other → opcode_number one.header ≡ 0x05 → is_needed work.past one ≡ false
     → judge other work ≡ judge one work
 unfolding judge
-judge_unread one other work a out none =
-    let j = judged_unread work.past one other a out none in
-    rw (j.1) (rw (j.0) refl)
+judge_unread one other work a out none = grind (arith, judged_unread work.past one other a out none)
 
 step_unread : (fails : Step → Bool) (place : ℕ) (one other : Frame) (work : Work)
     → judge other (reaches (Judging place) work) ≡ judge one (reaches (Judging place) work)
@@ -128,9 +116,7 @@ step_unread fails place one other work e = rw e refl
 
 pub unneeded_data_is_unread : UnneededDataIsUnread
 unfolding served asked_in taken_in
-unneeded_data_is_unread fails place one other work a out none =
-    ap (λ (w : Work). tell_due fails place (ask_due fails place (act_all fails place w)))
-    (step_unread fails place one other work (judge_unread one other (reaches (Judging place) work) a out none))
+unneeded_data_is_unread fails place one other work a out none = grind (arith, step_unread, judge_unread)
 
 -- ---- nothing that other sessions do makes data needed
 
@@ -156,15 +142,11 @@ or_kept a b c keeps some = grind arith
 
 removed_needs : (names : List ℕ) (frame : Frame) (past : Past) → is_needed (removing names past) frame ≡ true → is_needed past frame ≡ true
 unfolding is_needed task_at outs_of tags_of unfinished drained left
-removed_needs names frame past some =
-    or_kept _ _ _ (λ is. any_kept (takes past frame) (λ k. not (is_in k names)) (unfinished past)
-    (rw (sym (left_more past.removed names (left past.finished (commands past.came (range_with_len 0 (length past.came)))))) is)) some
+removed_needs names frame past some = grind (arith, or_kept, any_kept, left_more)
 
 finish_needs : (frame : Frame) (k : ℕ) (work : Work) → is_needed (finish k work).past frame ≡ true → is_needed work.past frame ≡ true
 unfolding is_needed finish task_at outs_of tags_of unfinished drained left
-finish_needs frame k work some =
-    or_kept _ _ _ (λ is. any_kept (takes work.past frame) (λ j. not (is_in j (k ∷ []))) (unfinished work.past)
-    (rw (sym (unfinished_without work.past k)) is)) some
+finish_needs frame k work some = grind (arith, or_kept, any_kept, unfinished_without)
 
 pub others_need_no_data : OthersNeedNoData
 others_need_no_data = record {
@@ -187,10 +169,7 @@ any_drained : (past : Past) (frame : Frame) (drains : List Drain)
     → list_any (drains_out frame) (map (drained_of past) drains)
     ≡ list_any (takes past frame) (filter (is_asked_of past) (map (λ d. d.command) drains))
 any_drained past frame [] = refl
-any_drained past frame (d ∷ drains) =
-    let task = task_at past d.command in
-    rw (asked_blank task, fault_blank task frame, any_drained past frame drains)
-    (drain_one (is_asked_of past d.command) (takes past frame) d.command (filter (is_asked_of past) (map (λ x. x.command) drains)))
+any_drained past frame (d ∷ drains) = grind (arith, any_drained past frame drains, asked_blank, fault_blank, drain_one)
 
 needs_so : (past : Past) (frame : Frame) → needs_in (transfers_of past) frame ≡ is_needed past frame
 unfolding is_needed transfers_of drained

@@ -5,10 +5,9 @@ use Rattle.std.proofs.lemmas.Bool.{false_from_ne_true, not-true}
 use Rattle.std.proofs.lemmas.List.{append-nil}
 use Rattle.std.proofs.lemmas.List.Elements.{filter-append, filter_passes}
 use Rattle.iscsi_pdu.specs.Header.{is_immediate}
-use Rattle.iscsi_pdu.specs.Frames.{Frame}
 use Rattle.iscsi_order.specs.Window.{taken as taken_numbers}
 use Rattle.iscsi_requests.specs.Requests.{Request, Past, frame_of, is_in, left, is_command, commands, others, counted, over, pending, taken, numbers, due, queue, Drain, functions, unfinished}
-use Rattle.iscsi_requests.specs.State.{TaskLists, IsLawful, one_fewer, AreDistinct, AreDrained}
+use Rattle.iscsi_requests.specs.State.{IsLawful, AreDistinct, AreDrained}
 use Rattle.iscsi_requests.proofs.Left.{filter_filter, filter_cong, left_all, all_in}
 use Rattle.iscsi_session.proofs.Kept.{left_push}
 use Rattle.iscsi_requests.specs.Transfers.{tag_of}
@@ -128,7 +127,6 @@ pub lawful_step : (past : Past) (acted finished removed : List ℕ) (drains : Li
 unfolding taken_numbers
 lawful_step past acted finished removed drains answered lawful step =
     let after : Past = record past { acted = acted; finished = finished; removed = removed; drains = drains; answered = answered } in
-    let more = step.over in
     let few = few_over after step.in_order step.queued step.at_once step.removed_commands lawful.handed in
     record {
       window = record { finished = few; handed = handed_le after; within = λ j come. (let lt = lawful.window.within j come in omega arith) };

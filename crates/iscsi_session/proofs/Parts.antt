@@ -14,7 +14,7 @@ use Rattle.iscsi_exchange.specs.Exchange.{hears}
 use Rattle.iscsi_requests.specs.Requests.{Request, Past, frame_of, is_command, is_function, functions, left, numbered, numbers, due, queue, frames_of, unfinished, statuses, bearing, answering, accepted, begun, taken}
 use Rattle.iscsi_requests.specs.Transfers.{fed, task_at, outs_of, tags_of}
 use Rattle.iscsi_requests.specs.Texts.{is_text, exchange_behind, exchange_of}
-use Rattle.iscsi_session.proofs.Kept.{joined, Below, command_no_function, function_no_command, transfers_joined}
+use Rattle.iscsi_session.proofs.Kept.{joined, Below, command_no_function, transfers_joined}
 use Rattle.iscsi_session.proofs.Accepted.{frames_same, HasFreeTag, marks_are, finished_below, removed_below, functions_of_joined, now, with, IsAhead, lawful_now, admitted, lawful_with, held_now}
 use Rattle.std.specs.Prelude.{is_some, Result, Ok, Err, OnOk, OnErr}
 use Rattle.std.specs.Result.{is_err}
@@ -206,13 +206,7 @@ pub stands_function : (past : Past) (state : SessionState) (frame : Frame) → S
     → Stands (accepted frame past) (record state { tasks = kept frame state.tasks; functions = state.functions ++ frame.header ∷ [] })
 stands_function past state frame s free f tag =
     let k = kept_by _ past state frame refl s free tag in
-    let p = parts past state s in
-    let no_command : is_command frame ≡ false = function_no_command frame f in
-    stands_parts past (accepted frame past) state (kept frame state.tasks) state.transfers _ state.exchange s k.0 refl refl
-    (ap (λ (f : Frame). kept f state.tasks) (sym (bare_other frame no_command)) ∙ k.1)
-    (p.transfers_is ∙ sym (same_transfers past frame s.lawful no_command))
-    (ap (λ (l : List (List ℕ)). l ++ frame.header ∷ []) p.functions_is ∙ one_more_header past s.lawful frame f)
-    (p.exchange_is ∙ sym (exchange_joined past _ s.lawful.below))
+    grind (arith, stands_parts, bare_other, same_transfers, one_more_header, exchange_joined)
 
 -- a SCSI Command, with the data that it brings
 pub stands_begun : (past : Past) (state : SessionState) (frame : Frame) (task : WriteDataState) → Stands past state → is_vacant_for state.tasks frame ≡ true

@@ -1,5 +1,5 @@
 -- SCSI Commands that are not finished are removed: what the session remembers, and that its past stays lawful.
-use Rattle.std.proofs.Common.{◌≡◌, ℕ, ◌+◌, ◌-◌, ◌<◌, ◌≤◌, List, [], ◌∷◌, ◌++◌, length, map, get_or, Bool, true, false, not, ◌&&◌, Some, refl, sym, ap, subst, ◌∙◌, arith}
+use Rattle.std.proofs.Common.{◌≡◌, ℕ, ◌+◌, ◌-◌, ◌<◌, ◌≤◌, List, [], ◌∷◌, ◌++◌, length, map, get_or, Bool, true, false, not, ◌&&◌, Some, refl, sym, ap, ◌∙◌, arith}
 use mathlib.Core.List.{map-map}
 use Rattle.std.specs.Prelude.{All, filter, is_some, option_map}
 use Rattle.std.specs.List.{range_with_len}
@@ -11,9 +11,9 @@ use Rattle.iscsi_order.specs.Window as order
 use Rattle.iscsi_order.specs.Window.{taken as taken_numbers, window}
 use Rattle.iscsi_order.proofs.Front.{front_missing}
 use Rattle.iscsi_requests.specs.Requests.{Past, request_at, frame_of, frames_of, is_in, left, is_command, is_function, commands, counted, over, numbered, place_of, taken, numbers, due, queue, unfinished, pending, functions, removing}
-use Rattle.iscsi_requests.specs.Transfers.{tag_of, task_at, outs_of, tags_of}
+use Rattle.iscsi_requests.specs.Transfers.{task_at, outs_of, tags_of}
 use Rattle.iscsi_requests.specs.Functions.{FunctionReach, reaches, reached}
-use Rattle.iscsi_requests.specs.State.{SessionState, TransferList, Stands, AreDistinct, IsDelivered, IsLawful, standing, bare, bare_frames, frame_numbered, tasks_of, transfers_of, functions_of, void_if, stays, counts_out, reaches_frame, without, transfers_without}
+use Rattle.iscsi_requests.specs.State.{SessionState, TransferList, Stands, IsDelivered, IsLawful, standing, bare, bare_frames, frame_numbered, tasks_of, transfers_of, functions_of, void_if, stays, counts_out, reaches_frame, without, transfers_without}
 use Rattle.iscsi_requests.proofs.Left.{filter_cong, filter_filter, map_cong, left_more, left_append, left_all, in_at, in_filter, in_filter_back, in_left, passes_in, not_gone, not_in, is_in_append, below_of, distinct_map_filter}
 use Rattle.iscsi_requests.proofs.Places.{count_map}
 use Rattle.iscsi_session.proofs.Kept.{function_no_command, in_kept, function_in, drained_removing, unfinished_came, unfinished_command, queue_unfinished}
@@ -144,22 +144,10 @@ module _ (reach : FunctionReach) (past : Past) (lawful : IsLawful past) where
   pub lawful_removing : IsLawful after
   lawful_removing =
       let in_order : taken past.came ≡ past.acted ++ due after = lawful.in_order ∙ ap (λ (l : List ℕ). past.acted ++ l) (sym due_same) in
-      lawful_step past past.acted past.finished (past.removed ++ gone) past.drains past.answered lawful (record {
-        over = omega (arith, over_more);
-        in_order = in_order;
-        below = lawful.below;
-        acted = lawful.acted;
-        queued = sym commands_left;
-        at_once = lawful.at_once;
-        tags = subst (λ (l : List ℕ). AreDistinct (map (tag_of past.came) l)) (sym unfinished_hit)
-            (distinct_map_filter (tag_of past.came) (λ k. not (hit k)) (unfinished past) lawful.tags);
-        function_tags = subst (λ (l : List ℕ). AreDistinct (map (tag_of past.came) l)) (sym functions_same) lawful.function_tags;
-        removed_below = All-append (λ k. k < length past.came) past.removed gone lawful.removed_below gone_below;
-        removed_commands = all_commands;
-        apart = λ i d lt. is_in_append _ past.removed gone
-            ∙ rw (lawful.apart i d lt, finished_apart _ (in_at past.finished i d lt)) refl;
-        drained = drained_removing past gone lawful.drained;
-      })
+      let below = All-append (λ k. k < length past.came) past.removed gone lawful.removed_below gone_below in
+      let drained = drained_removing past gone lawful.drained in
+      lawful_step past past.acted past.finished (past.removed ++ gone) past.drains past.answered lawful
+      (grind (arith, over_more, commands_left, unfinished_hit, distinct_map_filter, functions_same, all_commands, is_in_append, finished_apart, in_at))
 
   -- ---- as they stand
 

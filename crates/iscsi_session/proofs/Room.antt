@@ -1,11 +1,11 @@
 -- How many bytes the answers of a session take at most, that those of a command fit into the room that is made for them, and how they are
 -- written around the data where it lies.
-use Rattle.std.proofs.Common.{◌≡◌, ℕ, ◌+◌, ◌*◌, ◌<◌, ◌≤◌, List, [], ◌∷◌, ◌++◌, length, map, take, get_or, Some, refl, ap, subst, ◌∙◌, arith, zero, suc, ◌/◌, ◌%◌, ◌==◌, min, Bool, true, false, Option, None, append-nil, ◌-◌, drop, replicate, sym, length-drop}
+use Rattle.std.proofs.Common.{◌≡◌, ℕ, ◌+◌, ◌*◌, ◌<◌, ◌≤◌, List, [], ◌∷◌, ◌++◌, length, map, take, get_or, Some, refl, ap, subst, ◌∙◌, arith, zero, suc, ◌/◌, ◌%◌, ◌==◌, min, Bool, true, false, Option, None, append-nil, ◌-◌, drop, replicate}
 use Rattle.std.specs.Prelude.{flat_map, if◌then◌else◌}
 use Rattle.std.specs.List.{enumerate_from, slice_get}
 use Rattle.std.proofs.lemmas.Bool.{leb-true}
 use Rattle.std.proofs.lemmas.Option.{slice_get-get_or, slice_get_within}
-use Rattle.std.proofs.lemmas.List.{length-append, length-map, length-take, length-replicate, get_or-map, take_more, append_assoc, take_all, drop_all, drop-take, take-replicate}
+use Rattle.std.proofs.lemmas.List.{length-append, length-map, length-take, length-replicate, get_or-map, take_more, append_assoc, drop-take, take-replicate}
 use Rattle.std.proofs.lemmas.List.Folds.{length-flat_map-take}
 use Rattle.std.proofs.lemmas.List.FromFn.{length-enumerate_from, get_or-enumerate_from, length-map-range_with_len}
 use Rattle.std.proofs.lemmas.Grind.{flat_map-append, div_ceil_times}
@@ -247,20 +247,12 @@ few_pieces n burst segment long some =
     let whole : q * (d * 512) ≤ q * (2 * burst) = mul-le-mul_left q each in
     let first : q * (d * 512) ≡ 512 * (q * d) = grind arith in
     let second : q * (2 * burst) ≡ 2 * (q * burst) = grind arith in
-    let above : div_ceil r segment * segment < r + segment = (div_ceil_times r segment (omega arith)).1 in
-    let below : r < burst = omega arith in
     let left : 512 * div_ceil r segment ≤ r + 1024 = last_part (div_ceil r segment) refl in
     omega (arith, parts, whole, first, second, left)
   where
     last_part : (d : ℕ) → div_ceil (n % burst) segment ≡ d → 512 * div_ceil (n % burst) segment ≤ n % burst + 1024
     last_part zero e = omega (arith, e)
-    last_part (suc d) e =
-        let r = n % burst in
-        let above : div_ceil r segment * segment < r + segment = (div_ceil_times r segment (omega arith)).1 in
-        let is : div_ceil r segment * segment ≡ suc d * segment = ap (λ (m : ℕ). m * segment) e in
-        let next : suc d * segment ≡ d * segment + segment = suc-mul d segment in
-        let wide : d * 512 ≤ d * segment = mul-le-mul_left d some in
-        omega (arith, above, is, next, wide, e)
+    last_part (suc d) e = grind (arith, ap (λ (m : ℕ). m * segment) e, suc-mul d segment, mul-le-mul_left d some, div_ceil_times)
 
 most_sent_fits : (frame : Frame) → most_sent frame ≤ most_given
 most_sent_fits frame = grind arith
@@ -281,12 +273,7 @@ pub r2ts_long : (header : List ℕ) (tag : ℕ) (numbers : Stamp) (asks : List A
 r2ts_long header tag numbers [] = omega arith
 r2ts_long header tag numbers (ask ∷ asks) =
     let next = (tag + 1) % 0xFFFFFFFF in
-    omega (
-      arith,
-      length-append (spelling (answers.R2t (r2t_for header tag numbers ask))) (flat_map spelling (r2t_answers (r2ts_for header next numbers asks))),
-      r2t_long header tag numbers ask,
-      r2ts_long header next numbers asks,
-    )
+    grind (arith, r2ts_long header next numbers asks, length-append, r2t_long)
 
 few_bursts : (n burst : ℕ) → n ≤ 1048576 → 512 ≤ burst → div_ceil n burst ≤ 2048
 few_bursts n burst short least = grind (arith, div_ceil_times, lt_of_mul-lt-mul_right)
@@ -304,17 +291,6 @@ pub few_asks : (task : WriteDataState) → 512 ≤ task.burst → length (due_as
 few_asks task least = grind (arith, short_by, leb-true, many_by, length-map-range_with_len, few_bursts)
 
 -- ---- a header that is written into the room in front of data, and the answers that come of it
-
--- the room in front is written, and what lies after it stays
-pub written_over : (header items post : List ℕ) → length header ≡ 48 → 48 ≤ length items → post ≡ drop 48 items
-    → take (length items) ((header ++ post) ++ drop (length (header ++ post)) items) ≡ header ++ drop 48 items
-written_over header items post long above is =
-    let rest : length post ≡ length items - 48 = ap (λ (xs : List ℕ). length xs) is ∙ length-drop 48 items in
-    let whole : length (header ++ post) ≡ length items = omega (arith, length-append header post, rest) in
-    ap (λ (xs : List ℕ). take (length items) ((header ++ post) ++ xs)) (drop_all (length (header ++ post)) items (omega (arith, whole)))
-    ∙ ap (take (length items)) (append-nil (header ++ post))
-    ∙ take_all (length items) (header ++ post) (omega (arith, whole))
-    ∙ ap (λ (xs : List ℕ). header ++ xs) is
 
 -- the padding after the data
 pub padded_behind : (header items : List ℕ) (n : ℕ) → n ≡ length (drop 48 items)
@@ -345,13 +321,7 @@ one_answer numbers values frame sent piece fields items range is one made writte
     let pieces : sent_pieces values sent ≡ piece ∷ [] = only_one (sent_pieces values sent) piece is one in
     let joined = pieces_are_joined sent values.max_burst_length values.max_recv_data_segment_length (let some = range.burst
     in omega arith) (let some = range.segment in omega arith) in
-    let whole : part_of sent piece ≡ sent = sym (append-nil (part_of sent piece)) ∙ sym (ap (flat_map (part_of sent)) pieces) ∙ joined in
-    let body : fields.body ≡ part_of sent piece = body_of fields numbers frame sent piece made in
-    written
-    ∙ ap (λ (bytes : List ℕ). data_in_header fields ++ segment bytes) (sym (body ∙ whole))
-    ∙ sym (append-nil (data_in_bytes fields))
-    ∙ ap (λ (answer : Answer). flat_map spelling (answer ∷ [])) made
-    ∙ ap (λ (ps : List Piece). flat_map spelling (map (data_in numbers frame sent) (enumerate_from 0 ps))) (sym pieces)
+    grind (arith, append-nil)
 
 -- ---- all that a command is answered
 

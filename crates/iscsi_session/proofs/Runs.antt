@@ -1,5 +1,5 @@
 -- Steps one after the other: where the code is after so many, and where it stops.
-use Rattle.std.proofs.Common.{◌≡◌, ◌≢◌, ℕ, zero, suc, ◌+◌, ◌<◌, List, [], ◌∷◌, ◌++◌, length, Bool, true, false, Option, refl, sym, ap, ◌∙◌, subst, arith, append_assoc, append-nil, None}
+use Rattle.std.proofs.Common.{◌≡◌, ◌≢◌, ℕ, zero, suc, ◌+◌, ◌<◌, List, [], ◌∷◌, ◌++◌, length, Bool, true, false, Option, refl, sym, ap, ◌∙◌, ◌==◌, subst, arith, append_assoc, append-nil, None}
 use Rattle.std.specs.Prelude.{All, flat_map}
 use Rattle.std.proofs.lemmas.Bool.{eq-eqb, ne_eqb}
 use Rattle.std.proofs.lemmas.List.{length-append}
@@ -10,7 +10,7 @@ use Rattle.iscsi_pdu.specs.Answer.{spelling}
 use Rattle.iscsi_pdu.specs.declared.answer.Answer.{Answer}
 use Rattle.iscsi_requests.specs.Requests.{Past, DataOut, SentR2t, due, queue, unfinished, functions, bearing, statuses, answering}
 use Rattle.iscsi_requests.specs.State.{SessionState, IsLawful, Stands, waiting, standing, tasks_of}
-use Rattle.iscsi_session.specs.Steps.{Step, Taking, Doing, is_step, is_of, Work, reaches, take_step, first_steps, one_by_one}
+use Rattle.iscsi_session.specs.Steps.{StepKind, Step, step_at, kind_number, is_step, Work, reaches, take_step, first_steps, one_by_one}
 use Rattle.iscsi_session.specs.Runs.{Output, output, Starts, Leaves, FailsAs, IsReached, Runs}
 
 -- ---- a session that was answered more, or has more data
@@ -64,8 +64,7 @@ leaves_then given work next state after before waiting items units units_after a
   params = b.params ∙ a.params;
   more = a.more ++ b.more;
   answers = behind_both next.past.answers given.past.answers work.past.answers a.more b.more a.answers b.answers;
-  spelled = behind_both items.bytes before.bytes waiting.bytes (flat_map spelling a.more) (flat_map spelling b.more) a.spelled b.spelled
-      ∙ ap (λ (l : List ℕ). before.bytes ++ l) (sym (flat_map-append spelling a.more b.more));
+  spelled = grind (arith, behind_both, flat_map-append);
   functions = a.functions ++ b.functions;
   acted = behind_both next.orders given.orders work.orders a.functions b.functions a.acted b.acted;
   ordered = behind_both items.orders before.orders waiting.orders a.functions b.functions a.ordered b.ordered;
@@ -160,17 +159,14 @@ idle fails step line does turn (suc most) work none = grind (arith, idle fails s
 
 -- ---- one after the other
 
--- the steps of one kind
-pub record IsKind (kind : ℕ → ℕ → Step) : Type 0 where
-  pub of : (place turn : ℕ) → is_of place (kind place turn) ≡ true
-  pub same : (place turn : ℕ) → is_step (kind place turn) (kind place turn) ≡ true
-  pub apart : (place turn other : ℕ) → turn ≢ other → is_step (kind place turn) (kind place other) ≡ false
+pub same_place : (place : ℕ) → (place == place) ≡ true
+same_place place = eq-eqb place place refl
 
-pub taking_kind : IsKind Taking
-taking_kind = grind (arith, eq-eqb, ne_eqb)
+pub same_step : (kind : StepKind) (turn place : ℕ) → is_step (step_at kind turn place) (step_at kind turn place) ≡ true
+same_step kind turn place = rw (same_place (kind_number kind), same_place turn, same_place place) refl
 
-pub doing_kind : IsKind Doing
-doing_kind = grind (arith, eq-eqb, ne_eqb)
+pub other_turn : (kind : StepKind) (turn other place : ℕ) → turn ≢ other → is_step (step_at kind turn place) (step_at kind other place) ≡ false
+other_turn kind turn other place differ = rw (same_place (kind_number kind), ne_eqb turn other differ) refl
 
 -- ---- the same by another name
 

@@ -4,18 +4,18 @@ use Rattle.scsi_unit.specs.Units.{numbers_of, UnitStates}
 use Rattle.iscsi_session.specs.Comings.{TargetUnits, Coming, CameAs, lend, next_coming}
 use Rattle.iscsi_pdu.specs.Frames.{Frame}
 use Rattle.iscsi_requests.specs.Requests.{Past, frame_of, due, queue, bears_status, bearing}
-use Rattle.iscsi_requests.specs.State.{SessionState, IsLawful, Stands, remembered, standing, bare, bare_frames, tasks_of, place_for, whole_at, payload_at, is_waiting, is_waiting_by, waiting}
+use Rattle.iscsi_requests.specs.State.{SessionState, IsLawful, Stands, standing, bare, bare_frames, tasks_of, place_for, whole_at, payload_at, is_waiting, is_waiting_by, waiting}
 use Rattle.iscsi_session.specs.declared.act.Act.{Act}
 use Rattle.iscsi_session.specs.declared.act.Act.TheVariants.{Idle, Taken, Ended}
 use Rattle.iscsi_session.specs.Acts.{ends}
-use Rattle.iscsi_session.specs.Steps.{Step, Taking, Work, act, act_all, waiting_in, is_doing, Doing, finish, ready, ready_in, settled}
+use Rattle.iscsi_session.specs.Steps.{Step, Take, Do, Taking, Work, act, act_all, waiting_in, is_doing, Doing, finish, ready, ready_in, settled}
 use Rattle.iscsi_session.specs.Runs.{Output, Starts, Leaves, Runs, ActsAs, ActsFirst, output, StepsFirst, Stops, IsSettled, AnswersAs}
 use Rattle.iscsi_session.proofs.Feeding.{whole_is, payload_is, first_unfinished}
 use Rattle.iscsi_session.proofs.Parts.{due_is, parts, queue_is}
 use Rattle.iscsi_session.proofs.Weights.{waiting_fits, waiting_some}
 use Rattle.iscsi_session.proofs.Answered.{acted_same}
-use Rattle.iscsi_session.proofs.Runs.{runs_as, taking_kind, doing_kind, stands_of, leaves_nothing, leaves_answering}
-use Rattle.iscsi_session.proofs.Stages.{LeavesFirst, first_runs, first_stops, Ran, none_ran, turn_of, all_of, ran_more, ran_idle, ran_stopped}
+use Rattle.iscsi_session.proofs.Runs.{runs_as, stands_of, leaves_nothing, leaves_answering}
+use Rattle.iscsi_session.proofs.Stages.{LeavesFirst, first_runs, Line, Ran, none_ran, turn_of, all_of, ran_more, ran_idle, ran_stopped, ran_starved, stops_at}
 use Rattle.std.specs.Prelude.{filter, drop}
 use Rattle.std.proofs.lemmas.List.{length-map}
 use Rattle.std.proofs.lemmas.List.Elements.{filter-append}
@@ -67,11 +67,11 @@ ended_by ended goes_on e = grind arith
 no_idle : (goes_on : Bool) → act_of goes_on ≡ Idle → ⊥
 no_idle goes_on e = grind arith
 
-acted_first : (n : ℕ) (l : List ℕ) (goes_on : Bool) (work : Work) (old new : SessionState) (before waiting : Output) (units : TargetUnits)
+acted_first : (l : List ℕ) (goes_on : Bool) (work : Work) (old new : SessionState) (before waiting : Output) (units : TargetUnits)
     → work.units ≡ units → ActsFirst (numbers_of work.units.states) l work.past (act_of goes_on) old new before waiting
-    → LeavesFirst (λ place. Taking place n) (λ place. taking_kind.of place n) due act goes_on l work new before waiting units
-acted_first n [] goes_on work old new before waiting units same acts = absurd (no_idle goes_on acts.0)
-acted_first n (k ∷ others) goes_on work old new before waiting units same acts =
+    → LeavesFirst act goes_on l work new before waiting units
+acted_first [] goes_on work old new before waiting units same acts = absurd (no_idle goes_on acts.0)
+acted_first (k ∷ others) goes_on work old new before waiting units same acts =
     grind (arith, act_goes_on work k, act_leaves work k (act_of goes_on) new before waiting units same acts)
 
 some_ended : (l luns : List ℕ) (work : Work) (old new : SessionState) (before waiting : Output) → ActsFirst luns l work.past Ended old new before waiting
@@ -84,46 +84,45 @@ found_idle : (l luns : List ℕ) (work : Work) (old new : SessionState) (before 
 found_idle [] luns work old new before waiting acts = (refl, acts.1, acts.2)
 found_idle (k ∷ others) luns work old new before waiting acts = grind arith
 
--- how many acts can follow at most
-abbrev pub tasks_count : SessionState → ℕ
-tasks_count state = waiting state.tasks
+-- the acts of all that is due
+abbrev pub acting : Line
+acting = record {
+  kind = Take;
+  line = due;
+  does = act;
+  count = λ state. waiting state.tasks;
+  size = waiting_in;
+  fits = λ past lawful. waiting_fits past;
+}
 
-pub due_fits : (past : Past) → IsLawful past → tasks_count (remembered past) ≤ waiting_in past
-due_fits past lawful = waiting_fits past
-
-acts_all : (fails : Step → Bool) (place : ℕ) (work : Work)
-    → all_of Taking taking_kind due act tasks_count waiting_in due_fits fails place work ≡ act_all fails place work
+acts_all : (fails : Step → Bool) (place : ℕ) (work : Work) → all_of acting fails place work ≡ act_all fails place work
 unfolding all_of act_all
 acts_all fails place work = refl
 
 abbrev pub RanActs : ℕ → SessionState → SessionState → Output → Output → TargetUnits → Type 0
-RanActs turns old now before waiting units = Ran Taking taking_kind due act tasks_count waiting_in due_fits turns old now before waiting units units
+RanActs turns old now before waiting units = Ran acting turns old now before waiting units units
 
 pub none_acted : (old : SessionState) (before : Output) (units : TargetUnits) → RanActs 0 old old before before units
-none_acted old before units = none_ran Taking taking_kind due act tasks_count waiting_in due_fits old before units
+none_acted old before units = none_ran acting old before units
 
 module _ (luns : List ℕ) (turns : ℕ) (old now next : SessionState) (before waiting items : Output) (units : TargetUnits)
     (numbers : luns ≡ numbers_of units.states)
     (ran : RanActs turns old now before waiting units) where
-  acts_turn : {goes_on : Bool} → Acts luns (act_of goes_on) now next waiting items
-      → Runs (turn_of Taking taking_kind due act tasks_count waiting_in due_fits turns) None goes_on now next waiting items units units
-  acts_turn {goes_on} acts = first_runs (λ place. Taking place turns) (λ place. taking_kind.of place turns) due act (λ work s.
-      acted_first turns (due work.past) goes_on work now next waiting items units s.units
+  acts_turn : {goes_on : Bool} → Acts luns (act_of goes_on) now next waiting items → Runs (turn_of acting turns) None goes_on now next waiting items units units
+  acts_turn {goes_on} acts = first_runs Take turns due act (λ work s.
+      acted_first (due work.past) goes_on work now next waiting items units s.units
       (acts_here luns (act_of goes_on) work now next waiting items units numbers acts s))
 
-  pub acted_more : Acts luns Taken now next waiting items → tasks_count next < tasks_count now → RanActs (suc turns) old next before items units
-  acted_more acts fewer = ran_more Taking taking_kind due act tasks_count waiting_in due_fits ran (acts_turn {goes_on = true} acts) fewer
+  pub acted_more : Acts luns Taken now next waiting items → acting.count next < acting.count now → RanActs (suc turns) old next before items units
+  acted_more acts fewer = ran_more acting ran (acts_turn {goes_on = true} acts) fewer
 
   pub all_acted : Acts luns Idle now next waiting items → Runs act_all None true old next before items units units
-  all_acted acts =
-      runs_as acts_all (ran_idle Taking taking_kind due act tasks_count waiting_in due_fits ran (λ work s.
+  all_acted acts = runs_as acts_all (ran_idle acting ran (λ work s.
       (let f = found_idle (due work.past) _ work now next waiting items (acts_here luns Idle work now next waiting items units numbers acts s) in
       (f.0, rw (f.1, f.2) (leaves_nothing work now waiting units s)))))
 
   pub acting_ends : Acts luns Ended now next waiting items → Runs act_all None false old next before items units units
-  acting_ends acts =
-      runs_as acts_all
-      (ran_stopped Taking taking_kind due act tasks_count waiting_in due_fits ran (acts_turn {goes_on = false} acts) (λ place k lt. refl) (λ work s.
+  acting_ends acts = runs_as acts_all (ran_stopped acting ran (acts_turn {goes_on = false} acts) (λ place k lt. refl) (λ work s.
       waiting_some now.tasks (omega (
         arith,
         ap (λ (l : List Frame). length l) (due_is work.past now (stands_of work now units s)),
@@ -138,12 +137,8 @@ due_there past (k ∷ others) some = (k, others, refl)
 pub acting_stops : (turns : ℕ) (old now : SessionState) (before : Output) (bytes : List ℕ) (orders : List (List ℕ)) (units : TargetUnits)
     → RanActs turns old now before (output bytes orders) units → 0 < length now.tasks.due
     → Runs act_all (Some (λ place. Taking place turns)) false old now before (output bytes orders) units units
-acting_stops turns old now before bytes orders units ran some =
-    runs_as acts_all
-    (ran_stopped Taking taking_kind due act tasks_count waiting_in due_fits ran
-    (first_stops (λ place. Taking place turns) (λ place. taking_kind.of place turns) due act refl (λ place. taking_kind.same place turns) (λ past s.
-    due_there past (due past) (omega (arith, ap (λ (l : List Frame). length l) (due_is past now s), some))) orders units)
-    (λ place k lt. taking_kind.apart place turns k (λ e. absurd (omega arith))) (λ work s. waiting_some now.tasks some))
+acting_stops turns old now before bytes orders units ran some = runs_as acts_all (ran_starved acting ran (waiting_some now.tasks some) (λ past s.
+    due_there past (due past) (omega (arith, ap (λ (l : List Frame). length l) (due_is past now s), some))))
 
 pub act_stops : (luns : List ℕ) (turn : ℕ) (old now next : SessionState) (before waiting items : Output) → next ≡ now → items ≡ waiting
     → ((units : TargetUnits) → luns ≡ numbers_of units.states → Runs act_all (Some (λ place. Taking place turn)) false old now before waiting units units)
@@ -201,15 +196,11 @@ unfolding ready
 all_ready past state s e =
     all_ready_in past state (queue past) s refl (ap (λ (l : List Frame). is_waiting_by l state.transfers.list) (sym (queue_is past state s)) ∙ e)
 
--- how many commands are to be done
-abbrev pub queue_count : SessionState → ℕ
-queue_count state = length state.tasks.queue
-
 some_by : (l : List Frame) (state : SessionState) → is_waiting_by l state.transfers.list ≡ false → 0 < length l
 some_by [] state e = absurd cc
 some_by (frame ∷ l) state e = omega arith
 
-some_queued : (state : SessionState) → is_waiting state ≡ false → 0 < queue_count state
+some_queued : (state : SessionState) → is_waiting state ≡ false → 0 < length state.tasks.queue
 some_queued state e = some_by state.tasks.queue state e
 
 pub not_waiting : (state : SessionState) (frame : Frame) (rest : List Frame) → state.tasks.queue ≡ frame ∷ rest
@@ -277,25 +268,31 @@ module _ (old new : SessionState) (before waiting : List ℕ) (units after : Uni
   pub finish_steps : (work : Work) → Starts work old (lend units comings) → whole_at old.transfers.list (place_for frame old.transfers.list) ≡ true
       → StepsFirst finish (ready work.past) work true old new (output before []) (output waiting []) (lend after (drop 1 comings))
   finish_steps work s whole =
-      let r = all_ready work.past old (stands_of work old (lend units comings) s) (not_waiting old frame rest first whole) in
-      subst (λ (l : List ℕ). StepsFirst finish l work true old new (output before []) (output waiting []) (lend after (drop 1 comings))) (sym r.3)
-      (finish_first (queue work.past) work refl s)
+      grind (arith, all_ready work.past old (stands_of work old (lend units comings) s) (not_waiting old frame rest first whole), finish_first)
 
 -- ---- settling
 
-abbrev pub queued_in : Past → ℕ
-queued_in past = length (queue past)
-
-pub queue_fits : (past : Past) → IsLawful past → queue_count (remembered past) ≤ queued_in past
+pub queue_fits : (past : Past) → IsLawful past → length (tasks_of past).queue ≤ length (queue past)
 unfolding tasks_of
 queue_fits past lawful = omega (arith, length-map (queue past) (λ k. bare (frame_of past.came k)))
 
-finished_first : (n : ℕ) (l : List ℕ) (work : Work) (old new : SessionState) (before waiting : Output) (after : TargetUnits) → work.goes_on ≡ true
+-- the doing of all that is in the queue
+abbrev pub settling : Line
+settling = record {
+  kind = Do;
+  line = ready;
+  does = finish;
+  count = λ state. length state.tasks.queue;
+  size = λ past. length (queue past);
+  fits = queue_fits;
+}
+
+finished_first : (l : List ℕ) (work : Work) (old new : SessionState) (before waiting : Output) (after : TargetUnits) → work.goes_on ≡ true
     → StepsFirst finish l work true old new before waiting after
-    → LeavesFirst (λ place. Doing place n) (λ place. doing_kind.of place n) ready finish true l work new before waiting after
+    → LeavesFirst finish true l work new before waiting after
 unfolding finish
-finished_first n [] work old new before waiting after on s = absurd (let no = s.0 in cc)
-finished_first n (request ∷ others) work old new before waiting after on s = (on, s.1)
+finished_first [] work old new before waiting after on s = absurd (let no = s.0 in cc)
+finished_first (request ∷ others) work old new before waiting after on s = (on, s.1)
 
 found_none : (l : List ℕ) (work : Work) (old new : SessionState) (before waiting : Output) (units after : TargetUnits) → Starts work old units
     → StepsFirst finish l work false old new before waiting after → (l ≡ []) × Leaves work work new before waiting after
@@ -308,23 +305,18 @@ FinishesOne more old new before waiting units after = (work : Work) → Starts w
     → StepsFirst finish (ready work.past) work more old new before waiting after
 
 abbrev pub RanDone : ℕ → SessionState → SessionState → Output → Output → TargetUnits → TargetUnits → Type 0
-RanDone turns old now before waiting units after = Ran Doing doing_kind ready finish queue_count queued_in queue_fits turns old now before waiting units after
-
-pub none_done : (old : SessionState) (before : Output) (units : TargetUnits) → RanDone 0 old old before before units units
-none_done old before units = none_ran Doing doing_kind ready finish queue_count queued_in queue_fits old before units
+RanDone turns old now before waiting units after = Ran settling turns old now before waiting units after
 
 pub settled_more : (turns : ℕ) (more : Bool) (old now next : SessionState) (before waiting items : Output) (units middle after : TargetUnits)
     → RanDone turns old now before waiting units middle → FinishesOne more now next waiting items middle after → more ≡ true
-    → queue_count next < queue_count now → RanDone (suc turns) old next before items units after
+    → length next.tasks.queue < length now.tasks.queue → RanDone (suc turns) old next before items units after
 settled_more turns more old now next before waiting items units middle after ran steps is fewer =
     let F : Bool → Type 0 = λ b. FinishesOne b now next waiting items middle after in
     let one = subst F is steps in
-    ran_more Doing doing_kind ready finish queue_count queued_in queue_fits ran
-    (first_runs (λ place. Doing place turns) (λ place. doing_kind.of place turns) ready finish (λ work s.
-    finished_first turns (ready work.past) work now next waiting items after s.goes_on (one work s))) fewer
+    ran_more settling ran (first_runs Do turns ready finish (λ work s.
+    finished_first (ready work.past) work now next waiting items after s.goes_on (one work s))) fewer
 
-settles_all : (fails : Step → Bool) (place : ℕ) (work : Work)
-    → all_of Doing doing_kind ready finish queue_count queued_in queue_fits fails place work ≡ settled fails place work
+settles_all : (fails : Step → Bool) (place : ℕ) (work : Work) → all_of settling fails place work ≡ settled fails place work
 unfolding all_of settled
 settles_all fails place work = refl
 
@@ -334,35 +326,27 @@ pub all_settled : (turns : ℕ) (more : Bool) (old now next : SessionState) (bef
 all_settled turns more old now next before waiting items units middle after ran steps is =
     let F : Bool → Type 0 = λ b. FinishesOne b now next waiting items middle after in
     let one = subst F is steps in
-    runs_as settles_all (ran_idle Doing doing_kind ready finish queue_count queued_in queue_fits ran (λ work s.
+    runs_as settles_all (ran_idle settling ran (λ work s.
     found_none (ready work.past) work now next waiting items middle after s (one work s)))
 
 pub settling_stops : (turns : ℕ) (old now : SessionState) (before : Output) (bytes : List ℕ) (units after : TargetUnits)
     → RanDone turns old now before (output bytes []) units after → is_waiting now ≡ false
     → Runs settled (Some (λ place. Doing place turns)) false old now before (output bytes []) units after
-settling_stops turns old now before bytes units after ran more =
-    runs_as settles_all
-    (ran_stopped Doing doing_kind ready finish queue_count queued_in queue_fits ran
-    (first_stops (λ place. Doing place turns) (λ place. doing_kind.of place turns) ready finish refl (λ place. doing_kind.same place turns) (λ past s.
-    (let r = all_ready past now s more in (r.0, r.1, r.3 ∙ r.2))) [] after)
-    (λ place k lt. doing_kind.apart place turns k (λ e. absurd (omega arith))) (λ work s. some_queued now more))
+settling_stops turns old now before bytes units after ran more = runs_as settles_all (ran_starved settling ran (some_queued now more) (λ past s.
+    (let r = all_ready past now s more in (r.0, r.1, r.3 ∙ r.2))))
 
 pub settle_stops : (turns : ℕ) (old now next : SessionState) (before waiting items : Output) (target : Option ℕ) (units middle after : UnitStates)
     → next ≡ now → items ≡ waiting → after ≡ middle
     → CameAs target (λ given left. Runs settled (Some (λ place. Doing place turns)) false old now before waiting given left) units middle
     → Stops is_doing (λ failed. CameAs target (λ given left. Runs settled failed false old next before items given left) units after)
-settle_stops turns old now next before waiting items target units middle after same is also runs = record {
-  step = λ place. Doing place turns;
-  of_frame = λ place. doing_kind.of place turns;
-  of_kind = λ place. refl;
-  leads = rw (same, is, also) runs;
-}
+settle_stops turns old now next before waiting items target units middle after same is also runs =
+    stops_at Do turns (λ place. refl) (rw (same, is, also) runs)
 
 -- ---- nothing can be done
 
 pub settled_is : (state : SessionState) → is_waiting state ≡ true → IsSettled state
 settled_is state waits units bytes = came_none state.params.target _ units units (λ comings.
     all_settled 0 false state state state (output bytes []) (output bytes []) (output bytes []) (lend units comings) (lend units comings) (lend units comings)
-    (none_done state (output bytes []) (lend units comings))
+    (none_ran settling state (output bytes []) (lend units comings))
     (λ work s. none_steps finish (ready work.past) work state (output bytes []) (lend units comings)
     (none_ready work state (lend units comings) s waits) s.units) refl)

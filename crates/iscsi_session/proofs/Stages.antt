@@ -1,7 +1,6 @@
 -- The stages of a frame: each is a run, and so are they one after the other.
 use Rattle.std.proofs.Common.{◌≡◌, ◌≢◌, ℕ, List, [], ◌∷◌, ◌++◌, Bool, true, false, not, Option, Some, None, refl, sym, ap, ◌∙◌, append-nil, zero, suc, ◌+◌, ◌-◌, ◌<◌, ◌≤◌, arith}
 use Rattle.std.specs.Prelude.{flat_map}
-use Rattle.std.proofs.lemmas.Bool.{eq-eqb}
 use Rattle.scsi_unit.specs.Units.{numbers_of}
 use Rattle.iscsi_session.specs.Comings.{TargetUnits}
 use Rattle.iscsi_pdu.specs.Frames.{Frame}
@@ -9,59 +8,23 @@ use Rattle.iscsi_pdu.specs.Answer.{spelling}
 use Rattle.iscsi_pdu.specs.declared.answer.Answer.{Answer}
 use Rattle.iscsi_requests.specs.Requests.{Past, due}
 use Rattle.iscsi_requests.specs.declared.verdict.Verdict.{Verdict}
-use Rattle.iscsi_requests.specs.declared.verdict.Verdict.TheVariants.{Ignored, Dropped, Rejected, Violating, Accepted, Feeding}
+use Rattle.iscsi_requests.specs.declared.verdict.Verdict.TheVariants.{Violating}
 use Rattle.iscsi_requests.specs.Judging.{verdict, judged, judged_answers, violates}
 use Rattle.iscsi_requests.specs.Transfers.{asking, asked_by, r2ts_by}
 use Rattle.iscsi_requests.specs.Functions.{drained_functions, answered_by, told_by}
 use Rattle.iscsi_requests.specs.State.{SessionState, Stands, IsLawful, remembered}
-use Rattle.iscsi_session.specs.Steps.{Step, Judging, Taking, Asking, Answering, is_of, is_step, is_serving, Work, reaches, take_step, judge, act, act_all, waiting_in, ask, tell, first_steps, ask_due, tell_due, taken_in, asked_in, served, one_by_one}
+use Rattle.iscsi_session.specs.Steps.{StepKind, Judge, Take, Step, step_at, Judging, Taking, Asking, Answering, is_serving, Work, reaches, take_step, judge, act, act_all, waiting_in, ask, tell, first_steps, ask_due, tell_due, taken_in, asked_in, served, one_by_one}
 use Rattle.iscsi_session.specs.Runs.{Output, output, Starts, Leaves, Runs, is_failed, Stops}
 use Rattle.iscsi_session.proofs.Steps.{judged_agrees, judged_same, turns_agree, taken_alike, asked_alike}
-use Rattle.iscsi_session.proofs.Runs.{Run, LeadsTo, runs_by, stands_of, starts_again, starts_reaching, leaves_nothing, leaves_then, leaves_answering, leaves_as, leaves_reaching, leaves_stopped, step_done, step_fails, first_stopped, stopped, taking_kind, IsKind, idle, runs_as, no_failure, runs_then, runs_ended}
+use Rattle.iscsi_session.proofs.Runs.{Run, LeadsTo, runs_by, stands_of, starts_again, starts_reaching, leaves_nothing, leaves_then, leaves_answering, leaves_as, leaves_reaching, leaves_stopped, step_done, step_fails, first_stopped, stopped, same_place, same_step, other_turn, idle, runs_as, no_failure, runs_then, runs_ended}
 
 -- ---- the first of a line takes a step, where there is one
 
-module _ (kind : ℕ → Step) (of : (place : ℕ) → is_of place (kind place) ≡ true) (line : Past → List ℕ) (does : ℕ → Work → Work) where
-  abbrev pub first_of : Run
-  first_of fails place work = first_steps fails (kind place) does (line work.past) work
-
+module _ (does : ℕ → Work → Work) where
   -- what it leaves
   abbrev pub LeavesFirst : Bool → List ℕ → Work → SessionState → Output → Output → TargetUnits → Type 0
   LeavesFirst goes_on [] work new before waiting after = (goes_on ≡ true) × Leaves work work new before waiting after
   LeavesFirst goes_on (k ∷ others) work new before waiting after = ((does k work).goes_on ≡ goes_on) × Leaves work (does k work) new before waiting after
-
-  first_leads : (goes_on : Bool) (l : List ℕ) (old new : SessionState) (before waiting : Output) (units after : TargetUnits) (place : ℕ)
-      (fails : Step → Bool) (work : Work) → line work.past ≡ l → fails (kind place) ≡ false → Starts work old units
-      → LeavesFirst goes_on l (reaches (kind place) work) new before waiting after → LeadsTo first_of None goes_on new before waiting after place fails work
-  first_leads goes_on [] old new before waiting units after place fails work e un s left = grind (arith, leaves_as)
-  first_leads goes_on (k ∷ others) old new before waiting units after place fails work e un s left = grind (arith, step_done, leaves_reaching)
-
-  pub first_runs : {goes_on : Bool} {old new : SessionState} {before waiting : Output} {units after : TargetUnits}
-      → ((work : Work) → Starts work old units → LeavesFirst goes_on (line work.past) work new before waiting after)
-      → Runs first_of None goes_on old new before waiting units after
-  first_runs {goes_on} {old} {new} {before} {waiting} {units} {after} left = runs_by (λ place fails work told s.
-      first_leads goes_on (line work.past) old new before waiting units after place fails work refl (told (kind place) (of place)) s
-      (left (reaches (kind place) work) (starts_reaching (kind place) work old units s)))
-
-  -- there is none
-  pub none_runs : {state : SessionState} {before : Output} {units : TargetUnits} → ((past : Past) → Stands past state → line past ≡ [])
-      → Runs first_of None true state state before before units units
-  none_runs {state} {before} {units} none = grind (arith, first_runs, stands_of, leaves_nothing)
-
-  -- an allocation fails before it
-  pub first_stops : {state : SessionState} {bytes items : List ℕ} → items ≡ bytes → ((place : ℕ) → is_step (kind place) (kind place) ≡ true)
-      → ((past : Past) → Stands past state → (k : ℕ) × (others : List ℕ) × (line past ≡ k ∷ others))
-      → (orders : List (List ℕ)) (units : TargetUnits) → Runs first_of (Some kind) false state state (output bytes orders) (output items orders) units units
-  first_stops {state} {bytes} unchanged same there orders units = rw unchanged (runs_by (λ place fails work told s.
-      (let found = there work.past (stands_of work state units s) in
-      let before = output bytes orders in record {
-        to = record (reaches (kind place) work) { goes_on = false };
-        is = ap (λ (x : List ℕ). first_steps fails (kind place) does x work) found.2
-            ∙ step_fails fails (kind place) (does found.0) work s.goes_on (told (kind place) (of place) ∙ same place);
-        on = refl;
-        leaves = leaves_stopped (kind place) work work state before before units (leaves_nothing work state before units s);
-        reached = (work.reached, refl);
-      })))
 
   -- a step that answers this much
   pub record Sends (by : List ℕ → Past → Past) (answers : List ℕ → Past → List Answer) : Type 0 where
@@ -76,13 +39,52 @@ module _ (kind : ℕ → Step) (of : (place : ℕ) → is_of place (kind place) 
   sends_first by answers sends [] work new bytes items orders units same on s out = grind (arith, leaves_answering)
   sends_first by answers sends (k ∷ others) work new bytes items orders units same on s out = grind (arith, leaves_answering)
 
-  pub sent_runs : (by : List ℕ → Past → Past) (answers : List ℕ → Past → List Answer) → Sends by answers → (old new : SessionState) (bytes items : List ℕ)
-      (orders : List (List ℕ)) (units : TargetUnits)
+module _ (kind : StepKind) (turn : ℕ) (line : Past → List ℕ) (does : ℕ → Work → Work) where
+  abbrev pub first_of : Run
+  first_of fails place work = first_steps fails (step_at kind turn place) does (line work.past) work
+
+  first_leads : (goes_on : Bool) (l : List ℕ) (old new : SessionState) (before waiting : Output) (units after : TargetUnits) (place : ℕ)
+      (fails : Step → Bool) (work : Work) → line work.past ≡ l → fails (step_at kind turn place) ≡ false → Starts work old units
+      → LeavesFirst does goes_on l (reaches (step_at kind turn place) work) new before waiting after
+      → LeadsTo first_of None goes_on new before waiting after place fails work
+  first_leads goes_on [] old new before waiting units after place fails work e un s left = grind (arith, leaves_as)
+  first_leads goes_on (k ∷ others) old new before waiting units after place fails work e un s left = grind (arith, step_done, leaves_reaching)
+
+  pub first_runs : {goes_on : Bool} {old new : SessionState} {before waiting : Output} {units after : TargetUnits}
+      → ((work : Work) → Starts work old units → LeavesFirst does goes_on (line work.past) work new before waiting after)
+      → Runs first_of None goes_on old new before waiting units after
+  first_runs {goes_on} {old} {new} {before} {waiting} {units} {after} left = runs_by (λ place fails work told s.
+      (let step = step_at kind turn place in
+      first_leads goes_on (line work.past) old new before waiting units after place fails work refl (told step (same_place place)) s
+      (left (reaches step work) (starts_reaching step work old units s))))
+
+  -- there is none
+  pub none_runs : {state : SessionState} {before : Output} {units : TargetUnits} → ((past : Past) → Stands past state → line past ≡ [])
+      → Runs first_of None true state state before before units units
+  none_runs {state} {before} {units} none = grind (arith, first_runs, stands_of, leaves_nothing)
+
+  -- an allocation fails before it
+  pub first_stops : {state : SessionState} {bytes items : List ℕ} → items ≡ bytes
+      → ((past : Past) → Stands past state → (k : ℕ) × (others : List ℕ) × (line past ≡ k ∷ others)) → (orders : List (List ℕ)) (units : TargetUnits)
+      → Runs first_of (Some (step_at kind turn)) false state state (output bytes orders) (output items orders) units units
+  first_stops {state} {bytes} unchanged there orders units = rw unchanged (runs_by (λ place fails work told s.
+      (let step = step_at kind turn place in
+      let found = there work.past (stands_of work state units s) in
+      let before = output bytes orders in record {
+        to = record (reaches step work) { goes_on = false };
+        is = grind (arith, step_fails, same_place, same_step, kind);
+        on = refl;
+        leaves = leaves_stopped step work work state before before units (leaves_nothing work state before units s);
+        reached = (work.reached, refl);
+      })))
+
+  pub sent_runs : (by : List ℕ → Past → Past) (answers : List ℕ → Past → List Answer) → Sends does by answers → (old new : SessionState)
+      (bytes items : List ℕ) (orders : List (List ℕ)) (units : TargetUnits)
       → ((past : Past) → Stands past old → Stands (by (line past) past) new × (items ≡ bytes ++ flat_map spelling (answers (line past) past)))
       → Runs first_of None true old new (output bytes orders) (output items orders) units units
   sent_runs by answers sends old new bytes items orders units sent = grind (arith, first_runs, stands_of, sends_first)
 
-pub asks : Sends Asking (λ place. eq-eqb place place refl) asking ask asked_by r2ts_by
+pub asks : Sends ask asked_by r2ts_by
 unfolding ask
 asks = record { none = λ past. refl; does_so = λ k others work. refl; kept = kept }
   where
@@ -90,7 +92,7 @@ asks = record { none = λ past. refl; does_so = λ k others work. refl; kept = k
     kept [] past = (refl, sym (append-nil past.answers))
     kept (k ∷ others) past = (refl, refl)
 
-pub tells : Sends Answering (λ place. eq-eqb place place refl) drained_functions tell answered_by told_by
+pub tells : Sends tell answered_by told_by
 unfolding tell
 tells = record { none = λ past. refl; does_so = λ k others work. refl; kept = kept }
   where
@@ -100,101 +102,126 @@ tells = record { none = λ past. refl; does_so = λ k others work. refl; kept = 
 
 -- ---- the steps of a line, one after the other
 
-module _ (kind : ℕ → ℕ → Step) (facts : IsKind kind) (line : Past → List ℕ) (does : ℕ → Work → Work) (count : SessionState → ℕ) (size : Past → ℕ)
-    (fits : (past : Past) → IsLawful past → count (remembered past) ≤ size past) where
+-- the steps are of one kind; the code counts how many follow at most
+pub record Line : Type 0 where
+  pub kind : StepKind
+  pub line : Past → List ℕ
+  pub does : ℕ → Work → Work
+  pub count : SessionState → ℕ
+  pub size : Past → ℕ
+  pub fits : (past : Past) → IsLawful past → count (remembered past) ≤ size past
+
+module _ (l : Line) where
   -- the step of this turn, and all before it
   abbrev pub turn_of : ℕ → Run
-  turn_of n = first_of (λ place. kind place n) (λ place. facts.of place n) line does
+  turn_of n = first_of l.kind n l.line l.does
 
   abbrev pub turns_of : ℕ → Run
-  turns_of n fails place work = one_by_one fails (kind place) line does 0 n work
+  turns_of n fails place work = one_by_one fails (λ turn. step_at l.kind turn place) l.line l.does 0 n work
 
   unfoldable pub all_of : Run
-  all_of fails place work = one_by_one fails (kind place) line does 0 (size work.past) work
+  all_of fails place work = turns_of (l.size work.past) fails place work
 
-  split : (fails : Step → Bool) (place turn n m j k : ℕ) (work : Work) → turn + n ≡ j → n + m ≡ k
-      → one_by_one fails (kind place) line does turn k work
-      ≡ one_by_one fails (kind place) line does j m (one_by_one fails (kind place) line does turn n work)
-  split fails place turn zero m j k work at all = let here : turn ≡ j = omega arith in let rest : k ≡ m = omega arith in rw (here, rest) refl
-  split fails place turn (suc n) m j zero work at all = absurd (omega arith)
-  split fails place turn (suc n) m j (suc k) work at all =
-      split fails place (suc turn) n m j k (first_steps fails (kind place turn) does (line work.past) work) (omega arith) (omega arith)
+  split : (fails : Step → Bool) (step : ℕ → Step) (turn n m j k : ℕ) (work : Work) → turn + n ≡ j → n + m ≡ k
+      → one_by_one fails step l.line l.does turn k work
+      ≡ one_by_one fails step l.line l.does j m (one_by_one fails step l.line l.does turn n work)
+  split fails step turn zero m j k work at all = let here : turn ≡ j = omega arith in let rest : k ≡ m = omega arith in rw (here, rest) refl
+  split fails step turn (suc n) m j zero work at all = absurd (omega arith)
+  split fails step turn (suc n) m j (suc k) work at all =
+      split fails step (suc turn) n m j k (first_steps fails (step turn) l.does (l.line work.past) work) (omega arith) (omega arith)
 
   -- so many steps were done
   pub record Ran (turns : ℕ) (old now : SessionState) (before waiting : Output) (units after : TargetUnits) : Type 0 where
     pub runs : Runs (turns_of turns) None true old now before waiting units after
-    pub fewer : turns + count now ≤ count old
+    pub fewer : turns + l.count now ≤ l.count old
 
   pub none_ran : (old : SessionState) (before : Output) (units : TargetUnits) → Ran 0 old old before before units units
   none_ran old before units = grind (arith, runs_by, leaves_nothing)
 
   turn_behind : (n : ℕ) {failed : Option (ℕ → Step)} {goes_on : Bool} {old now next : SessionState} {before waiting items : Output}
-      {units middle after : TargetUnits} → ((place k : ℕ) → k < n → is_failed failed place (kind place k) ≡ false)
+      {units middle after : TargetUnits} → ((place k : ℕ) → k < n → is_failed failed place (step_at l.kind k place) ≡ false)
       → Runs (turns_of n) None true old now before waiting units middle → Runs (turn_of n) failed goes_on now next waiting items middle after
       → Runs (turns_of (suc n)) failed goes_on old next before items units after
   turn_behind n none so_far turn =
-      runs_as (λ fails place work. sym (split fails place 0 n 1 n (suc n) work (omega arith) (omega arith)))
-      (runs_then (λ place fails work told. turns_agree fails no_failure (kind place) line does 0 n work
-      (λ k le lt. told (kind place k) (facts.of place k) ∙ none place k (omega arith))) so_far turn)
+      runs_as (λ fails place work. sym (split fails (λ turn. step_at l.kind turn place) 0 n 1 n (suc n) work (omega arith) (omega arith)))
+      (runs_then (λ place fails work told. turns_agree fails no_failure (λ turn. step_at l.kind turn place) l.line l.does 0 n work
+      (λ k le lt. told (step_at l.kind k place) (same_place place) ∙ none place k (omega arith))) so_far turn)
 
   pub ran_more : {turns : ℕ} {old now next : SessionState} {before waiting items : Output} {units middle after : TargetUnits}
-      → Ran turns old now before waiting units middle → Runs (turn_of turns) None true now next waiting items middle after → count next < count now
+      → Ran turns old now before waiting units middle → Runs (turn_of turns) None true now next waiting items middle after → l.count next < l.count now
       → Ran (suc turns) old next before items units after
   ran_more {turns} ran turn less = grind (arith, turn_behind)
 
   -- no more than there are turns
-  begins : (work : Work) (old : SessionState) (units : TargetUnits) → Starts work old units → count old ≤ size work.past
-  begins work old units s = omega (arith, ap count s.remembered, fits work.past s.lawful)
+  begins : (work : Work) (old : SessionState) (units : TargetUnits) → Starts work old units → l.count old ≤ l.size work.past
+  begins work old units s = omega (arith, ap l.count s.remembered, l.fits work.past s.lawful)
 
   -- the line is empty, and nothing changes
   pub ran_idle : {turns : ℕ} {old now next : SessionState} {before waiting items : Output} {units middle after : TargetUnits}
       → Ran turns old now before waiting units middle
-      → ((work : Work) → Starts work now middle → (line work.past ≡ []) × Leaves work work next waiting items after)
+      → ((work : Work) → Starts work now middle → (l.line work.past ≡ []) × Leaves work work next waiting items after)
       → Runs all_of None true old next before items units after
   unfolding all_of
   ran_idle {turns} {old} {now} {next} {before} {waiting} {items} {units} {middle} {after} ran none = runs_by (λ place fails work told s.
-      (let to = turns_of turns fails place work in
-      let l = ran.runs.leads place fails work told s in
+      (let step : ℕ → Step = λ turn. step_at l.kind turn place in
+      let to = turns_of turns fails place work in
+      let so_far = ran.runs.leads place fails work told s in
       let on = ran.runs.ends place fails work told s in
-      let found = none to (starts_again work to now before waiting middle l on) in
-      let few = ran.fewer in
+      let found = none to (starts_again work to now before waiting middle so_far on) in
       let most = begins work old units s in
-      let left = size work.past - turns in record {
+      let left = l.size work.past - turns in record {
         to = to;
-        is = split fails place 0 turns left turns (size work.past) work (omega arith) (omega arith)
-            ∙ idle fails (kind place) line does turns left to found.0;
+        is = split fails step 0 turns left turns (l.size work.past) work (omega arith) (omega arith)
+            ∙ idle fails step l.line l.does turns left to found.0;
         on = on;
-        leaves = leaves_then work to to now next before waiting items middle after l found.1;
+        leaves = leaves_then work to to now next before waiting items middle after so_far found.1;
         reached = tt;
       }))
 
   -- the session ended with the next step, or an allocation failed before it
   pub ran_stopped : {turns : ℕ} {failed : Option (ℕ → Step)} {old now next : SessionState} {before waiting items : Output}
       {units middle after : TargetUnits} → Ran turns old now before waiting units middle → Runs (turn_of turns) failed false now next waiting items middle after
-      → ((place k : ℕ) → k < turns → is_failed failed place (kind place k) ≡ false) → ((work : Work) → Starts work now middle → 0 < count now)
+      → ((place k : ℕ) → k < turns → is_failed failed place (step_at l.kind k place) ≡ false) → ((work : Work) → Starts work now middle → 0 < l.count now)
       → Runs all_of failed false old next before items units after
   unfolding all_of
   ran_stopped {turns} {failed} {old} {now} {next} {before} {waiting} {items} {units} {middle} {after} ran turn none some =
       let r = turn_behind turns none ran.runs turn in
       runs_by (λ place fails work told s.
-      (let to = turns_of (suc turns) fails place work in
-      let so_far = turns_of turns no_failure place work in
-      let l = ran.runs.leads place no_failure work (λ step of. refl) s in
-      let more = some so_far (starts_again work so_far now before waiting middle l (ran.runs.ends place no_failure work (λ step of. refl) s)) in
-      let few = ran.fewer in
+      (let step : ℕ → Step = λ turn. step_at l.kind turn place in
+      let to = turns_of (suc turns) fails place work in
+      let middle_work = turns_of turns no_failure place work in
+      let so_far = ran.runs.leads place no_failure work (λ step of. refl) s in
+      let on = ran.runs.ends place no_failure work (λ step of. refl) s in
+      let more = some middle_work (starts_again work middle_work now before waiting middle so_far on) in
       let most = begins work old units s in
-      let left = size work.past - suc turns in
+      let left = l.size work.past - suc turns in
       let off = r.ends place fails work told s in record {
         to = to;
-        is = split fails place 0 (suc turns) left (suc turns) (size work.past) work (omega arith) (omega arith)
-            ∙ stopped fails (kind place) line does (suc turns) left to off;
+        is = split fails step 0 (suc turns) left (suc turns) (l.size work.past) work (omega arith) (omega arith)
+            ∙ stopped fails step l.line l.does (suc turns) left to off;
         on = off;
         leaves = r.leads place fails work told s;
         reached = r.reached place fails work told s;
       }))
 
-pub same_place : (place : ℕ) → is_of place (Judging place) ≡ true
-same_place place = eq-eqb place place refl
+  -- an allocation failed before the step of this turn
+  pub ran_starved : {turns : ℕ} {old now : SessionState} {before : Output} {bytes : List ℕ} {orders : List (List ℕ)} {units after : TargetUnits}
+      → Ran turns old now before (output bytes orders) units after → 0 < l.count now
+      → ((past : Past) → Stands past now → (k : ℕ) × (others : List ℕ) × (l.line past ≡ k ∷ others))
+      → Runs all_of (Some (step_at l.kind turns)) false old now before (output bytes orders) units after
+  ran_starved {turns} {orders = orders} {after = after} ran some there =
+      ran_stopped ran (first_stops l.kind turns l.line l.does refl there orders after)
+      (λ place k lt. other_turn l.kind turns k place (λ e. absurd (omega arith))) (λ work s. some)
+
+-- an allocation failed before the step of this kind and turn
+pub stops_at : (kind : StepKind) (turn : ℕ) {is_kind : Step → Bool} {Leads : Option (ℕ → Step) → Type 0}
+    → ((place : ℕ) → is_kind (step_at kind turn place) ≡ true) → Leads (Some (step_at kind turn)) → Stops is_kind Leads
+stops_at kind turn of_kind leads = record { step = step_at kind turn; of_frame = same_place; of_kind = of_kind; leads = leads }
+
+-- one of the steps that serve a frame, on units with these numbers
+abbrev pub StopsServing : List ℕ → Run → SessionState → SessionState → Output → Output → Type 0
+StopsServing luns run old new before items = Stops is_serving (λ failed. (units : TargetUnits) → luns ≡ numbers_of units.states
+    → Runs run failed false old new before items units units)
 
 -- ---- a frame is judged
 
@@ -203,6 +230,12 @@ pub record Judges (v : Verdict) (frame : Frame) (old new : SessionState) (before
   pub stands : (past : Past) → Stands past old → Stands (judged (verdict past frame) frame past) new
   pub out : (past : Past) → Stands past old → waiting.bytes ≡ before.bytes ++ flat_map spelling (judged_answers (verdict past frame) past frame)
   pub orders : waiting.orders ≡ before.orders
+
+pub judges : {v : Verdict} {frame : Frame} {old new : SessionState} {bytes items : List ℕ} {orders : List (List ℕ)}
+    → ((past : Past) → Stands past old → v ≡ verdict past frame) → ((past : Past) → Stands past old → Stands (judged (verdict past frame) frame past) new)
+    → ((past : Past) → Stands past old → items ≡ bytes ++ flat_map spelling (judged_answers (verdict past frame) past frame))
+    → Judges v frame old new (output bytes orders) (output items orders)
+judges is stands out = record { judged_is = is; stands = stands; out = out; orders = refl }
 
 judge_leaves : (v : Verdict) (frame : Frame) (work : Work) (old new : SessionState) (before waiting : Output) (units : TargetUnits)
     → Judges v frame old new before waiting → Starts work old units
@@ -213,46 +246,37 @@ judge_leaves v frame work old new before waiting units judges s = grind (arith, 
 judged_runs : {v : Verdict} (frame : Frame) {old new : SessionState} {before waiting : Output} {units : TargetUnits} → Judges v frame old new before waiting
     → Runs (λ fails place. take_step fails (Judging place) (judge frame)) None (not (violates v)) old new before waiting units units
 judged_runs {v} frame {old} {new} {before} {waiting} {units} judges =
-    first_runs Judging same_place (λ past. 0 ∷ []) (λ k. judge frame) (λ work s.
+    first_runs Judge 0 (λ past. 0 ∷ []) (λ k. judge frame) (λ work s.
     (let l = judge_leaves v frame work old new before waiting units judges s in (l.1, l.0)))
 
 act_stopped : (fails : Step → Bool) (place : ℕ) (work : Work) → work.goes_on ≡ false → act_all fails place work ≡ work
 unfolding act_all
 act_stopped fails place work off = stopped fails (Taking place) due act 0 (waiting_in work.past) work off
 
+abbrev taking_in : Frame → Run
+taking_in frame fails place = taken_in fails place frame
+
 -- an allocation failed before it
 pub judging_stops : (luns : List ℕ) (frame : Frame) (old new : SessionState) (bytes items : List ℕ) (orders : List (List ℕ)) → new ≡ old → items ≡ bytes
-    → Stops is_serving (λ failed. (units : TargetUnits) → luns ≡ numbers_of units.states
-    → Runs (λ fails place. taken_in fails place frame) failed false old new (output bytes orders) (output items orders) units units)
+    → StopsServing luns (taking_in frame) old new (output bytes orders) (output items orders)
 unfolding taken_in
-judging_stops luns frame old new bytes items orders same unchanged = record {
-  step = λ place. Judging place;
-  of_frame = same_place;
-  of_kind = λ place. refl;
-  leads = λ units numbers. rw same (runs_ended act_stopped
-      (first_stops Judging same_place (λ past. 0 ∷ []) (λ k. judge frame) unchanged same_place (λ past s. (0, [], refl)) orders units));
-}
+judging_stops luns frame old new bytes items orders same unchanged = stops_at Judge 0 (λ place. refl) (λ units numbers.
+    rw same (runs_ended act_stopped (first_stops Judge 0 (λ past. 0 ∷ []) (λ k. judge frame) unchanged (λ past s. (0, [], refl)) orders units)))
 
 -- the session ends with it
 pub judging_ends : {v : Verdict} (frame : Frame) {old new : SessionState} {before waiting : Output} {units : TargetUnits}
-    → Judges v frame old new before waiting
-    → v ≡ Violating → Runs (λ fails place. taken_in fails place frame) None false old new before waiting units units
+    → Judges v frame old new before waiting → v ≡ Violating → Runs (taking_in frame) None false old new before waiting units units
 unfolding taken_in
 judging_ends frame {units = units} judges is = runs_ended act_stopped (rw is at (judged_runs frame {units = units} judges))
 
 goes_on_by : (v : Verdict) → v ≢ Violating → not (violates v) ≡ true
-goes_on_by Accepted differ = refl
-goes_on_by Feeding differ = refl
-goes_on_by (Rejected reason) differ = refl
-goes_on_by Ignored differ = refl
-goes_on_by Dropped differ = refl
 goes_on_by Violating differ = absurd (differ refl)
+goes_on_by _ differ = refl
 
 -- the requests that are due act after it
 pub taken_on : (v : Verdict) (frame : Frame) {failed : Option (ℕ → Step)} {goes_on : Bool} {old middle new : SessionState} {before waiting items : Output}
     {units : TargetUnits} → Judges v frame old middle before waiting → v ≢ Violating → ((place : ℕ) → is_failed failed place (Judging place) ≡ false)
-    → Runs act_all failed goes_on middle new waiting items units units
-    → Runs (λ fails place. taken_in fails place frame) failed goes_on old new before items units units
+    → Runs act_all failed goes_on middle new waiting items units units → Runs (taking_in frame) failed goes_on old new before items units units
 unfolding taken_in
 taken_on v frame {units = units} judges differ later acts =
     runs_then (λ place fails work told. judged_agrees fails no_failure place frame work (told (Judging place) (same_place place) ∙ later place))
@@ -261,15 +285,9 @@ taken_on v frame {units = units} judges differ later acts =
 pub taken_fails : (luns : List ℕ) (v : Verdict) (frame : Frame) {old middle new : SessionState} {before waiting items : Output}
     → Judges v frame old middle before waiting → v ≢ Violating
     → (turn : ℕ) × ((units : TargetUnits) → luns ≡ numbers_of units.states
-    → Runs act_all (Some (λ place. Taking place turn)) false middle new waiting items units units)
-    → Stops is_serving (λ failed. (units : TargetUnits) → luns ≡ numbers_of units.states
-    → Runs (λ fails place. taken_in fails place frame) failed false old new before items units units)
-taken_fails luns v frame judges differ acts = record {
-  step = λ place. Taking place acts.0;
-  of_frame = λ place. taking_kind.of place acts.0;
-  of_kind = λ place. refl;
-  leads = λ units numbers. taken_on v frame judges differ (λ place. refl) (acts.1 units numbers);
-}
+    → Runs act_all (Some (λ place. Taking place turn)) false middle new waiting items units units) → StopsServing luns (taking_in frame) old new before items
+taken_fails luns v frame judges differ acts =
+    stops_at Take acts.0 (λ place. refl) (λ units numbers. taken_on v frame judges differ (λ place. refl) (acts.1 units numbers))
 
 -- ---- a frame
 
@@ -281,47 +299,42 @@ tells_nothing : (fails : Step → Bool) (place : ℕ) (work : Work) → work.goe
 unfolding tell_due
 tells_nothing fails place work off = first_stopped fails (Answering place) tell (drained_functions work.past) work off
 
+abbrev asking_in : Frame → Run
+asking_in frame fails place = asked_in fails place frame
+
+abbrev serving : Frame → Run
+serving frame fails place = served fails place frame
+
 module _ (frame : Frame) {failed : Option (ℕ → Step)} {old new : SessionState} {before items : Output} {units : TargetUnits} where
-  pub taken_ended : Runs (λ fails place. taken_in fails place frame) failed false old new before items units units
-      → Runs (λ fails place. served fails place frame) failed false old new before items units units
+  pub taken_ended : Runs (taking_in frame) failed false old new before items units units → Runs (serving frame) failed false old new before items units units
   unfolding served asked_in
   taken_ended r = runs_ended tells_nothing (runs_ended asks_nothing r)
 
-  pub asked_then : {goes_on : Bool} {middle : SessionState} {waiting : Output} → ((place : ℕ) → is_failed failed place (Judging place) ≡ false)
-      → ((place turn : ℕ) → is_failed failed place (Taking place turn) ≡ false)
-      → Runs (λ fails place. taken_in fails place frame) None true old middle before waiting units units
-      → Runs ask_due failed goes_on middle new waiting items units units
-      → Runs (λ fails place. asked_in fails place frame) failed goes_on old new before items units units
-  unfolding asked_in
-  asked_then judged acted = runs_then (λ place fails work told. taken_alike (λ units. units) (λ units. refl) fails no_failure place frame work
-      (told (Judging place) (same_place place) ∙ judged place) (λ k. told (Taking place k) (taking_kind.of place k) ∙ acted place k))
-
-  pub asked_ended : Runs (λ fails place. asked_in fails place frame) failed false old new before items units units
-      → Runs (λ fails place. served fails place frame) failed false old new before items units units
+  pub asked_ended : Runs (asking_in frame) failed false old new before items units units → Runs (serving frame) failed false old new before items units units
   unfolding served
   asked_ended r = runs_ended tells_nothing r
 
-  pub told_then : {goes_on : Bool} {middle : SessionState} {waiting : Output} → ((place : ℕ) → is_failed failed place (Judging place) ≡ false)
-      → ((place turn : ℕ) → is_failed failed place (Taking place turn) ≡ false) → ((place : ℕ) → is_failed failed place (Asking place) ≡ false)
-      → Runs (λ fails place. asked_in fails place frame) None true old middle before waiting units units
-      → Runs tell_due failed goes_on middle new waiting items units units
-      → Runs (λ fails place. served fails place frame) failed goes_on old new before items units units
-  unfolding served
-  told_then judged acted asked = runs_then (λ place fails work told. asked_alike (λ units. units) (λ units. refl) fails no_failure place frame work
-      (told (Judging place) (same_place place) ∙ judged place) (λ k. told (Taking place k) (taking_kind.of place k) ∙ acted place k)
-      (told (Asking place) (eq-eqb place place refl) ∙ asked place))
+  module _ {goes_on : Bool} {middle : SessionState} {waiting : Output} (judged : (place : ℕ) → is_failed failed place (Judging place) ≡ false)
+      (acted : (place turn : ℕ) → is_failed failed place (Taking place turn) ≡ false) where
+    pub asked_then : Runs (taking_in frame) None true old middle before waiting units units → Runs ask_due failed goes_on middle new waiting items units units
+        → Runs (asking_in frame) failed goes_on old new before items units units
+    unfolding asked_in
+    asked_then = runs_then (λ place fails work told. taken_alike (λ units. units) (λ units. refl) fails no_failure place frame work
+        (told (Judging place) (same_place place) ∙ judged place) (λ k. told (Taking place k) (same_place place) ∙ acted place k))
 
--- an allocation failed before one of its steps
-module _ (luns : List ℕ) (frame : Frame) (old new : SessionState) (before items : Output) where
-  abbrev pub Stopped : Option (ℕ → Step) → Type 0
-  Stopped failed = (units : TargetUnits) → luns ≡ numbers_of units.states
-      → Runs (λ fails place. served fails place frame) failed false old new before items units units
+    pub told_then : ((place : ℕ) → is_failed failed place (Asking place) ≡ false) → Runs (asking_in frame) None true old middle before waiting units units
+        → Runs tell_due failed goes_on middle new waiting items units units → Runs (serving frame) failed goes_on old new before items units units
+    unfolding served
+    told_then asked = runs_then (λ place fails work told. asked_alike (λ units. units) (λ units. refl) fails no_failure place frame work
+        (told (Judging place) (same_place place) ∙ judged place) (λ k. told (Taking place k) (same_place place) ∙ acted place k)
+        (told (Asking place) (same_place place) ∙ asked place))
 
-  pub served_stops : (kind : ℕ → Step) → ((place : ℕ) → is_of place (kind place) ≡ true) → ((place : ℕ) → is_serving (kind place) ≡ true)
-      → Stopped (Some kind) → Stops is_serving Stopped
-  served_stops kind of serving leads = record { step = kind; of_frame = of; of_kind = serving; leads = leads }
-
-  pub taken_stops : Stops is_serving (λ failed. (units : TargetUnits) → luns ≡ numbers_of units.states
-      → Runs (λ fails place. taken_in fails place frame) failed false old new before items units units) → Stops is_serving Stopped
-  taken_stops stops =
-      served_stops stops.step stops.of_frame stops.of_kind (λ units numbers. taken_ended frame (stops.leads units numbers))
+-- an allocation failed before one of its first steps
+pub taken_stops : (luns : List ℕ) (frame : Frame) (old new : SessionState) (before items : Output) → StopsServing luns (taking_in frame) old new before items
+    → StopsServing luns (serving frame) old new before items
+taken_stops luns frame old new before items stops = record {
+  step = stops.step;
+  of_frame = stops.of_frame;
+  of_kind = stops.of_kind;
+  leads = λ units numbers. taken_ended frame (stops.leads units numbers);
+}

@@ -57,8 +57,7 @@ unfolding taken_at numbers_at
 taken_at_same came x p lt =
     let range = range_with_len 0 (p + 1) in
     let those : List ℕ = filter (λ k. eqb (moment came k) p) range in
-    let numbers : filter (λ k. eqb (moment (came ++ x ∷ []) k) p) range ≡ those = filter_cong _ _ range
-    (λ i d below. moment_same came x p (get_or range i d) lt) in
+    let numbers : filter (λ k. eqb (moment (came ++ x ∷ []) k) p) range ≡ those = grind (arith, filter_cong, moment_same) in
     let at : All (λ k. eqb (moment came k) p ≡ true) those = filter_passes (λ k. eqb (moment came k) p) range in
     let places : map (place_of (came ++ x ∷ [])) those ≡ map (place_of came) those =
     map_cong _ _ those (λ i d below. (let kept = place_kept came x (get_or those i d) in let e = eqb-true _ _ (at i d below)
@@ -168,9 +167,7 @@ distinct_at came p lt = distinct_with _ came p (numbers_at came p) refl (places_
 other_key : (came : List Request) (k p : ℕ) (names : List ℕ) → All (λ a. key came a ≡ p) names → key came k ≢ p → is_in k names ≡ false
 other_key came k p [] at ne = refl
 other_key came k p (a ∷ names) at ne =
-    let here : key came a ≡ p = All-head (λ a. key came a ≡ p) a names at in
-    let differs : a ≢ k = λ e. ne (ap (key came) (sym e) ∙ here) in
-    rw (ne_eqb a k differs) (other_key came k p names (All-tail (λ a. key came a ≡ p) a names at) ne)
+    grind (arith, other_key came k p names (All-tail (λ a. key came a ≡ p) a names at) ne, All-head (λ a. key came a ≡ p) a names at, ne_eqb)
 
 -- none of these places takes it
 not_taken : (came : List Request) (k : ℕ) (ps : List ℕ) → All (λ p. p < length came) ps → is_in (key came k) ps ≡ false
@@ -270,10 +267,7 @@ first_of came = front (numbered came)
 
 module _ (came : List Request) (x : Request) (grows : first_of came ≤ first_of (came ++ x ∷ [])) where
   before_it : (k : ℕ) → k < first_of came → moment (came ++ x ∷ []) k < length came
-  before_it k lt =
-      let all = moment_come came k (length came) (λ j le. front_come (numbered came) j (omega arith)) (omega arith) in
-      let kept = moment_kept came x k in
-      omega arith
+  before_it k lt = grind (arith, moment_kept came x k, moment_come, front_come)
 
   with_it : (k : ℕ) → first_of came ≤ k → k < first_of (came ++ x ∷ []) → moment (came ++ x ∷ []) k ≡ length came
   with_it k le lt =
@@ -302,16 +296,10 @@ module _ (came : List Request) (x : Request) (grows : first_of came ≤ first_of
       let split : range_with_len 0 (p + 1) ≡ range_with_len 0 f ++ range_with_len (0 + f) (p + 1 - f) = range_split 0 f (p + 1 - f) (p + 1) (omega arith) in
       let split_again : range_with_len (0 + f) (p + 1 - f) ≡ range_with_len (0 + f) (g - f) ++ range_with_len (0 + f + (g - f)) (p + 1 - g) = range_split
       (0 + f) (g - f) (p + 1 - g) (p + 1 - f) (omega arith) in
-      let first : filter q (range_with_len 0 f) ≡ [] = filter_none q 0 f (λ k le lt. ne_eqb _ _ (λ e. let h = before_it k (omega arith)
-      in absurd (omega arith))) in
-      let middle : filter q (range_with_len (0 + f) (g - f)) ≡ range_with_len (0 + f) (g - f) = filter_every q (0 + f) (g - f)
-      (λ k le lt. eq-eqb _ _ (with_it k (omega arith) (omega arith))) in
-      let last : filter q (range_with_len (0 + f + (g - f)) (p + 1 - g)) ≡ [] = filter_none q (0 + f + (g - f)) (p + 1 - g)
-      (λ k le lt. ne_eqb _ _ (behind_it k (omega arith))) in
-      ap (filter q) (split ∙ ap (λ (l : List ℕ). range_with_len 0 f ++ l) split_again)
-      ∙ filter-append q (range_with_len 0 f) (range_with_len (0 + f) (g - f) ++ range_with_len (0 + f + (g - f)) (p + 1 - g))
-      ∙ rw (first, filter-append q (range_with_len (0 + f) (g - f)) (range_with_len (0 + f + (g - f)) (p + 1 - g)), middle, last, append-nil)
-      (ap (λ (n : ℕ). range_with_len n (g - f)) (let e : 0 + f ≡ f = omega arith in e))
+      let first : filter q (range_with_len 0 f) ≡ [] = grind (arith, filter_none, ne_eqb, before_it) in
+      let middle : filter q (range_with_len (0 + f) (g - f)) ≡ range_with_len (0 + f) (g - f) = grind (arith, filter_every, eq-eqb, with_it) in
+      let last : filter q (range_with_len (0 + f + (g - f)) (p + 1 - g)) ≡ [] = grind (arith, filter_none, ne_eqb, behind_it) in
+      grind (arith, filter-append, append-nil)
 
   pub taken_now : taken_at (came ++ x ∷ []) (length came) ≡ cond (is_some x.number) [] (length came ∷ []) ++ map (place_of (came ++ x ∷ []))
       (range_with_len (first_of came) (first_of (came ++ x ∷ []) - first_of came))

@@ -170,27 +170,9 @@ module _ (past : Past) (lawful : IsLawful past) where
     pub lawful_told : IsLawful (told k past)
     unfolding due queue unfinished
     lawful_told =
-        lawful_step past past.acted past.finished past.removed past.drains (past.answered ++ k ∷ []) lawful (record {
-          over = omega (arith, over_told);
-          in_order = lawful.in_order;
-          below = lawful.below;
-          acted = lawful.acted;
-          queued = lawful.queued;
-          at_once = lawful.at_once;
-          tags = lawful.tags;
-          function_tags = subst (λ (l : List ℕ). AreDistinct (map (tag_of past.came) l)) (sym functions_told)
-              (tags_left past k (functions past) lawful.function_tags);
-          removed_below = lawful.removed_below;
-          removed_commands = lawful.removed_commands;
-          apart = lawful.apart;
-          drained = record {
-            functions = lawful.drained.functions;
-            acted = lawful.drained.acted;
-            answered = All-push (λ a. is_in a past.finished ≡ true) past.answered k lawful.drained.answered (pending_finished k waits);
-            removed = lawful.drained.removed;
-            once = lawful.drained.once;
-          };
-        })
+        let answered = All-push (λ a. is_in a past.finished ≡ true) past.answered k lawful.drained.answered (pending_finished k waits) in
+        lawful_step past past.acted past.finished past.removed past.drains (past.answered ++ k ∷ []) lawful
+        (grind (arith, over_told, functions_told, tags_left))
 
     -- ---- what is remembered
 
@@ -204,9 +186,6 @@ module _ (past : Past) (lawful : IsLawful past) where
         filter_map_names (λ drained. not (function_tag drained == tag_of past.came k)) (drained_of past) (drains_of past)
         ∙ ap (map (drained_of past)) (filter_cong _ _ (drains_of past) (λ i none lt. ap not (same_tag _ k (drains_pending i none lt) waits)) ∙ again)
       where
-        by_bool : (a b : Bool) → (not a && not b) ≡ not (a || b)
-        by_bool a b = grind arith
-
         one_more : (a : ℕ) → (not (is_in a past.answered) && not (a == k)) ≡ not (is_in a (past.answered ++ k ∷ []))
         one_more a = grind (arith, in_one, is_in_append)
 

@@ -1,14 +1,12 @@
 -- What a frame is judged to be, case by case.
 use Rattle.std.proofs.Common.{◌≡◌, ◌≢◌, ℕ, Bool, true, false, not, ◌||◌, refl, ap, arith}
-use Rattle.std.specs.Prelude.{Option, Some, None, is_some, if◌then◌else◌}
+use Rattle.std.specs.Prelude.{Option, Some, None, if◌then◌else◌}
 use Rattle.std.proofs.lemmas.Bool.{or_parts}
 use Rattle.iscsi_pdu.specs.Header.{opcode_of, opcode_number, is_immediate, initiator_task_tag}
 use Rattle.iscsi_pdu.specs.Frames.{Frame}
 use Rattle.iscsi_pdu.specs.declared.header.Opcode.{Opcode}
 use Rattle.iscsi_pdu.specs.declared.header.Opcode.TheVariants as opcodes
 use Rattle.iscsi_pdu.specs.declared.reject.RejectReason.TheVariants as reasons
-use Rattle.iscsi_login.specs.declared.values.Values.{Values}
-use Rattle.iscsi_transfer.specs.WriteData.{command_fault}
 use Rattle.iscsi_requests.specs.declared.verdict.Verdict.{Verdict}
 use Rattle.iscsi_requests.specs.declared.verdict.Verdict.TheVariants.{Ignored, Rejected, Violating, Accepted}
 use Rattle.iscsi_requests.specs.Requests.{Past, is_command, is_function}
@@ -27,11 +25,6 @@ pub task_told : (past : Past) (frame : Frame) (fresh over taken faulty : Bool) �
 unfolding task_verdict
 task_told past frame fresh over taken faulty fresh_is over_is taken_is faulty_is = rw (fresh_is, over_is, taken_is, faulty_is) refl
 
--- the data of a SCSI Command is as agreed
-pub faultless_agreed : (values : Values) (frame : Frame) → is_command frame ≡ true → is_faulty values frame ≡ false
-    → is_some (command_fault values frame) ≡ false
-faultless_agreed values frame e none = let h = rw e at none in h
-
 -- ---- by the opcode
 
 pub verdict_at : (past : Past) (frame : Frame) (opcode : Opcode) → opcode_of (opcode_number frame.header) ≡ opcode
@@ -41,9 +34,6 @@ verdict_at past frame opcode e = ap (λ (o : Opcode). verdict_by o past frame) e
 -- in a discovery session most are refused
 pub verdict_refused : (past : Past) (frame : Frame) → is_refused past.params frame ≡ true → verdict past frame ≡ Rejected reasons.CommandNotSupported
 verdict_refused past frame e = rw e refl
-
-pub verdict_served : (past : Past) (frame : Frame) → is_refused past.params frame ≡ false → verdict past frame ≡ request_verdict past frame
-verdict_served past frame e = rw e refl
 
 -- ---- what is accepted is fresh, and its tag is free
 

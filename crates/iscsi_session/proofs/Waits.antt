@@ -8,10 +8,10 @@ use Rattle.std.proofs.lemmas.List.{map-append, append-nil}
 use Rattle.std.proofs.lemmas.List.Elements.{filter-append, All-append, All-map}
 use Rattle.iscsi_order.specs.Window.{taken as taken_numbers}
 use Rattle.iscsi_requests.specs.Drained.{Drained}
-use Rattle.iscsi_requests.specs.Requests.{Past, Drain, drain_for, draining, frame_of, frames_of, is_in, left, is_command, is_function, counted, over, pending, due, queue, unfinished, functions, removing}
-use Rattle.iscsi_requests.specs.Transfers.{tag_of, task_at, outs_of, tags_of, drains_of, is_asked_of}
+use Rattle.iscsi_requests.specs.Requests.{Past, Drain, drain_for, draining, frame_of, frames_of, is_in, left, is_command, is_function, over, pending, due, queue, unfinished, functions, removing}
+use Rattle.iscsi_requests.specs.Transfers.{task_at, outs_of, tags_of, drains_of, is_asked_of}
 use Rattle.iscsi_requests.specs.Texts.{exchange_of}
-use Rattle.iscsi_requests.specs.State.{SessionState, AreDistinct, IsLawful, Stands, standing, tasks_of, drained_of, transfers_of, functions_of, transfer_of, without, transfers_without}
+use Rattle.iscsi_requests.specs.State.{SessionState, AreDrained, AreDistinct, IsLawful, Stands, standing, tasks_of, drained_of, transfers_of, functions_of, transfer_of, without, transfers_without}
 use Rattle.iscsi_requests.proofs.Left.{filter_cong, left_append, in_at, in_left, in_left_back, not_in, is_in_append, filter_filter, in_back, in_filter, distinct_filter, distinct_append}
 use Rattle.iscsi_requests.proofs.Places.{or_known}
 use Rattle.iscsi_session.proofs.Kept.{kept_of, function_no_command, unfinished_other, unfinished_distinct, drains_apart}
@@ -100,29 +100,18 @@ module _ (past : Past) (lawful : IsLawful past) (k : ℕ) (rest : List ℕ) (is 
   unfolding due queue unfinished
   lawful_waiting removed once =
       let l : IsLawful acted_past = lawful_other past lawful k rest is no_command in
-      lawful_step past (past.acted ++ k ∷ []) (past.finished ++ k ∷ []) past.removed (past.drains ++ map (drain_for k) names) past.answered lawful (record {
-        over = omega (arith, ap (counted past.came) over_after);
-        in_order = l.in_order;
-        below = l.below;
-        acted = l.acted;
-        queued = l.queued;
-        at_once = l.at_once;
-        tags = l.tags;
-        function_tags = subst (λ (x : List ℕ). AreDistinct (map (tag_of past.came) x)) (sym functions_after) lawful.function_tags;
-        removed_below = l.removed_below;
-        removed_commands = l.removed_commands;
-        apart = l.apart;
-        drained = record {
-          functions = All-append (λ (d : Drain). is_function (frame_of past.came d.function) ≡ true) past.drains (map (drain_for k) names) l.drained.functions
-              (All-map (λ (d : Drain). is_function (frame_of past.came d.function) ≡ true) (drain_for k) names (λ i d lt. f));
-          acted = All-append (λ (d : Drain). is_in d.function (past.finished ++ k ∷ []) ≡ true) past.drains (map (drain_for k) names) l.drained.acted
-              (All-map (λ (d : Drain). is_in d.function (past.finished ++ k ∷ []) ≡ true) (drain_for k) names (λ i d lt. last_in));
-          answered = l.drained.answered;
-          removed = All-append (λ (d : Drain). is_in d.command past.removed ≡ true) past.drains (map (drain_for k) names) l.drained.removed
-              (All-map (λ (d : Drain). is_in d.command past.removed ≡ true) (drain_for k) names removed);
-          once = once;
-        };
-      })
+      let drained : AreDrained after = record {
+        functions = All-append (λ (d : Drain). is_function (frame_of past.came d.function) ≡ true) past.drains (map (drain_for k) names) l.drained.functions
+            (All-map (λ (d : Drain). is_function (frame_of past.came d.function) ≡ true) (drain_for k) names (λ i d lt. f));
+        acted = All-append (λ (d : Drain). is_in d.function (past.finished ++ k ∷ []) ≡ true) past.drains (map (drain_for k) names) l.drained.acted
+            (All-map (λ (d : Drain). is_in d.function (past.finished ++ k ∷ []) ≡ true) (drain_for k) names (λ i d lt. last_in));
+        answered = l.drained.answered;
+        removed = All-append (λ (d : Drain). is_in d.command past.removed ≡ true) past.drains (map (drain_for k) names) l.drained.removed
+            (All-map (λ (d : Drain). is_in d.command past.removed ≡ true) (drain_for k) names removed);
+        once = once;
+      } in
+      lawful_step past (past.acted ++ k ∷ []) (past.finished ++ k ∷ []) past.removed (past.drains ++ map (drain_for k) names) past.answered lawful
+      (grind (arith, over_after, functions_after))
     where
       last_in : is_in k (past.finished ++ k ∷ []) ≡ true
       last_in = is_in_append k past.finished (k ∷ []) ∙ or_known (is_in k past.finished) _ (rw (eq-eqb k k refl) refl)

@@ -12,58 +12,62 @@ use Rattle.iscsi_session.specs.Acts.{acted, ordered, ends}
 use Rattle.iscsi_session.specs.Answers.{command_answers}
 use Rattle.iscsi_session.specs.Commands.{carried_out}
 
+-- What a step does: it judges a frame, takes a request, asks for data by R2Ts, answers a function, or does a command.
+pub data StepKind : Type 0 where
+  Judge : StepKind
+  Take : StepKind
+  Ask : StepKind
+  Tell : StepKind
+  Do : StepKind
+
 -- The place is that of the frame among those of its connection. The turn counts the requests that become ready with
--- this frame, and then the commands that are done, each from 0 on. A frame makes R2Ts of one command due at most, or
--- brings the last data that one Task Management Function Request waits for.
-pub data Step : Type 0 where
-  Judging : (place : ℕ) → Step
-  Taking : (place : ℕ) (turn : ℕ) → Step
-  Asking : (place : ℕ) → Step
-  Answering : (place : ℕ) → Step
-  Doing : (place : ℕ) (turn : ℕ) → Step
+-- this frame, and then the commands that are done, each from 0 on. Every other step has turn 0: a frame makes R2Ts of
+-- one command due at most, or brings the last data that one Task Management Function Request waits for.
+pub record Step : Type 0 where
+  pub place : ℕ
+  pub kind : StepKind
+  pub turn : ℕ
+
+-- the step of this kind and turn that the frame of this place sets off
+abbrev pub step_at : StepKind → ℕ → ℕ → Step
+step_at kind turn place = record { place = place; kind = kind; turn = turn }
+
+abbrev pub Judging : ℕ → Step
+Judging place = step_at Judge 0 place
+
+abbrev pub Taking : ℕ → ℕ → Step
+Taking place turn = step_at Take turn place
+
+abbrev pub Asking : ℕ → Step
+Asking place = step_at Ask 0 place
+
+abbrev pub Answering : ℕ → Step
+Answering place = step_at Tell 0 place
+
+abbrev pub Doing : ℕ → ℕ → Step
+Doing place turn = step_at Do turn place
+
+-- kinds are compared by their numbers
+abbrev pub kind_number : StepKind → ℕ
+kind_number Judge = 0
+kind_number Take = 1
+kind_number Ask = 2
+kind_number Tell = 3
+kind_number Do = 4
+
+abbrev pub is_kind : StepKind → StepKind → Bool
+is_kind a b = kind_number a == kind_number b
 
 abbrev pub is_step : Step → Step → Bool
-is_step (Judging p) (Judging q) = p == q
-is_step (Judging p) (Taking q j) = false
-is_step (Judging p) (Asking q) = false
-is_step (Judging p) (Answering q) = false
-is_step (Judging p) (Doing q j) = false
-is_step (Taking p i) (Judging q) = false
-is_step (Taking p i) (Taking q j) = p == q && i == j
-is_step (Taking p i) (Asking q) = false
-is_step (Taking p i) (Answering q) = false
-is_step (Taking p i) (Doing q j) = false
-is_step (Asking p) (Judging q) = false
-is_step (Asking p) (Taking q j) = false
-is_step (Asking p) (Asking q) = p == q
-is_step (Asking p) (Answering q) = false
-is_step (Asking p) (Doing q j) = false
-is_step (Answering p) (Judging q) = false
-is_step (Answering p) (Taking q j) = false
-is_step (Answering p) (Asking q) = false
-is_step (Answering p) (Answering q) = p == q
-is_step (Answering p) (Doing q j) = false
-is_step (Doing p i) (Judging q) = false
-is_step (Doing p i) (Taking q j) = false
-is_step (Doing p i) (Asking q) = false
-is_step (Doing p i) (Answering q) = false
-is_step (Doing p i) (Doing q j) = p == q && i == j
+is_step a b = is_kind a.kind b.kind && a.turn == b.turn && a.place == b.place
 
 -- the frame of this place sets it off
 abbrev pub is_of : ℕ → Step → Bool
-is_of place (Judging p) = p == place
-is_of place (Taking p i) = p == place
-is_of place (Asking p) = p == place
-is_of place (Answering p) = p == place
-is_of place (Doing p i) = p == place
+is_of place step = step.place == place
 
 -- a command is done; every other step serves a frame
 abbrev pub is_doing : Step → Bool
-is_doing (Judging p) = false
-is_doing (Taking p i) = false
-is_doing (Asking p) = false
-is_doing (Answering p) = false
-is_doing (Doing p i) = true
+is_doing step = is_kind step.kind Do
 
 abbrev pub is_serving : Step → Bool
 is_serving step = not (is_doing step)

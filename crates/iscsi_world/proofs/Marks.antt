@@ -3,7 +3,7 @@ use Rattle.std.proofs.Common.{◌≡◌, ℕ, List, [], ◌∷◌, ◌++◌, Boo
 use Rattle.std.specs.List.{list_all}
 use Rattle.std.proofs.lemmas.Bool.{eqb-true}
 use Rattle.std.proofs.lemmas.List.Folds.{list_any-append}
-use Rattle.iscsi_session.specs.Steps.{Step, Judging, Taking, Asking, Answering, Doing, is_step, is_doing, is_serving}
+use Rattle.iscsi_session.specs.Steps.{StepKind, Judge, Take, Ask, Tell, Do, Step, kind_number, is_kind, is_step, is_doing, is_serving}
 use Rattle.iscsi_world.specs.History.{Point, Arriving, Before, AtEnd, Mark, is_point, is_same, is_within}
 use Rattle.iscsi_world.specs.World.{is_marked}
 use Rattle.iscsi_world.specs.Serving.{Agrees, is_of_frame, has_step, is_done_at, is_taken_at}
@@ -11,13 +11,21 @@ use Rattle.iscsi_world.proofs.Choices.{and_true, and_false, eqb_self}
 
 -- ---- points
 
+kind_true : (a b : StepKind) → is_kind a b ≡ true → a ≡ b
+kind_true Judge Judge e = refl
+kind_true Take Take e = refl
+kind_true Ask Ask e = refl
+kind_true Tell Tell e = refl
+kind_true Do Do e = refl
+kind_true _ _ e = absurd cc
+
 step_true : (a b : Step) → is_step a b ≡ true → a ≡ b
-step_true (Judging p) (Judging q) e = ap Judging (eqb-true p q e)
-step_true (Taking p i) (Taking q j) e = let both = and_true (eqb p q) (eqb i j) e in cc (eqb-true p q both.0, eqb-true i j both.1)
-step_true (Asking p) (Asking q) e = ap Asking (eqb-true p q e)
-step_true (Answering p) (Answering q) e = ap Answering (eqb-true p q e)
-step_true (Doing p i) (Doing q j) e = let both = and_true (eqb p q) (eqb i j) e in cc (eqb-true p q both.0, eqb-true i j both.1)
-step_true _ _ e = absurd cc
+step_true a b e =
+    let all = and_true (is_kind a.kind b.kind && eqb a.turn b.turn) (eqb a.place b.place) e in
+    let both = and_true (is_kind a.kind b.kind) (eqb a.turn b.turn) all.0 in
+    ap (λ (kind : StepKind). record a { kind = kind }) (kind_true a.kind b.kind both.0)
+    ∙ ap (λ (turn : ℕ). record a { kind = b.kind; turn = turn }) (eqb-true a.turn b.turn both.1)
+    ∙ ap (λ (place : ℕ). record b { place = place }) (eqb-true a.place b.place all.1)
 
 point_true : (a b : Point) → is_point a b ≡ true → a ≡ b
 point_true (Arriving p) (Arriving q) e = ap Arriving (eqb-true p q e)
@@ -26,11 +34,7 @@ point_true AtEnd AtEnd e = refl
 point_true _ _ e = absurd cc
 
 step_self : (a : Step) → is_step a a ≡ true
-step_self (Judging p) = eqb_self p
-step_self (Taking p i) = rw (eqb_self p, eqb_self i) refl
-step_self (Asking p) = eqb_self p
-step_self (Answering p) = eqb_self p
-step_self (Doing p i) = rw (eqb_self p, eqb_self i) refl
+step_self a = rw (eqb_self (kind_number a.kind), eqb_self a.turn, eqb_self a.place) refl
 
 point_self : (a : Point) → is_point a a ≡ true
 point_self (Arriving p) = eqb_self p
@@ -111,13 +115,12 @@ all_append p (m ∷ a) b x y = grind (arith, all_append p a b)
 -- ---- the kinds
 
 apart_steps : (a b : Bool) (point : Point) → (a && has_step is_serving point) ≡ true → (b && has_step is_doing point) ≡ false
-apart_steps a b (Before (Doing p i)) e = absurd (cc (e, and_false a))
+apart_steps a b (Before step) e = grind arith
 apart_steps a b (Arriving p) e = absurd (cc (e, and_false a))
 apart_steps a b AtEnd e = absurd (cc (e, and_false a))
-apart_steps a b _ e = and_false b
 
 steps_apart : (a b : Bool) (point : Point) → (a && has_step is_doing point) ≡ true → (b && has_step is_serving point) ≡ false
-steps_apart a b (Before (Doing p i)) e = and_false b
+steps_apart a b (Before step) e = grind arith
 steps_apart a b _ e = absurd (cc (e, and_false a))
 
 pub taken_done : (place : ℕ) → Apart (is_taken_at place) (is_done_at place)

@@ -8,7 +8,6 @@ use Rattle.std.proofs.lemmas.List.{append-nil, length-append, set-get_or, get_or
 use Rattle.iscsi_pdu.specs.Frames.{Frame, frames, rest, is_long, has_frame, first_frame, frame_length}
 use Rattle.iscsi_pdu.proofs.Frames.{no_frame, frames_none, rest_none, frames_step, rest_step, drop_shorter}
 use Rattle.iscsi_pdu.proofs.Cuts.{long_is_no_frame}
-use Rattle.iscsi_session.specs.Steps.{Judging, Taking, Asking, Answering, Doing}
 use Rattle.iscsi_login.specs.Directory.{KnownTargets}
 use Rattle.iscsi_world.specs.History.{Point, Arriving, Before, AtEnd, Mark, Arrival, Whole, TooLong, arrivals, is_within, connection_limit}
 use Rattle.iscsi_world.specs.Life.{Life, reads}
@@ -311,11 +310,7 @@ half_twice c x y half d = elim (eqb_tells d c) [
 -- a point of one frame is at its place
 within_place : (place : ℕ) (point : Point) → is_within place point ≡ has_place (λ p. eqb p place) point
 within_place place (Arriving p) = refl
-within_place place (Before (Judging p)) = refl
-within_place place (Before (Taking p i)) = refl
-within_place place (Before (Asking p)) = refl
-within_place place (Before (Answering p)) = refl
-within_place place (Before (Doing p i)) = refl
+within_place place (Before step) = refl
 within_place place AtEnd = refl
 
 -- what is so of places is so of the points at them

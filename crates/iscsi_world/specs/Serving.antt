@@ -5,7 +5,7 @@ use Rattle.iscsi_pdu.specs.Frames.{Frame, rest, is_long}
 use Rattle.iscsi_pdu.specs.Header.{header_length}
 use Rattle.iscsi_login.specs.Session.{is_same_target}
 use Rattle.iscsi_session.specs.Comings.{Coming, AreAhead, ArePlain, IsCalm}
-use Rattle.iscsi_session.specs.Steps.{Step, Judging, Taking, Asking, Answering, Doing, is_doing, is_serving}
+use Rattle.iscsi_session.specs.Steps.{Step, is_doing, is_serving}
 use Rattle.iscsi_world.specs.History.{Point, Arriving, Before, AtEnd, Mark, is_within, Arrival, Whole, arrivals, connection_limit}
 use Rattle.iscsi_world.specs.World.{Setting, World, present, is_marked, arrive, settle_one, settle, settle_for}
 use Rattle.iscsi_world.specs.Machine.{LinkState, Machine, IsSound, IsSoundAt, ReflectsSoundness, IsSure, Feeds, KeepsApart, KeepsPart, link_at, is_reading, is_closing, closed}
@@ -178,11 +178,7 @@ pub record TakesOne (c : ℕ) (starved : Option ℕ) (old new : Machine) : Type 
   pub leaves : Leaves c 1 starved old new
 
 abbrev pub place_of : Step → ℕ
-place_of (Judging place) = place
-place_of (Taking place turn) = place
-place_of (Asking place) = place
-place_of (Answering place) = place
-place_of (Doing place turn) = place
+place_of step = step.place
 
 abbrev pub has_place : (ℕ → Bool) → Point → Bool
 has_place p (Arriving place) = p place

@@ -1,4 +1,4 @@
-use Rattle.std.proofs.Common.{◌≡◌, ◌<◌, length, get_or, sym, ◌∙◌, arith}
+use Rattle.std.proofs.Common.{◌≡◌, ◌<◌, length, get_or, arith}
 use Rattle.std.proofs.lemmas.List.{take_all}
 use Rattle.std.proofs.lemmas.Option.{slice_get_within}
 use Rattle.iscsi_pdu.specs.declared.answer.Answer.TheVariants as answers
@@ -15,8 +15,7 @@ put-requires c =
     let answer = answers.DataIn c.data_in.result in
     let all = data_answers c.args.numbers c.args.values.now c.args.frame.now c.args.sent.now in
     let below : i < length (sent_pieces c.args.values.now c.args.sent.now) = slice_get_within _ i _ c.piece_of-piece.ensures in
-    let is : get_or all i answer ≡ answer = data_answer_at c.args.numbers c.args.values.now c.args.frame.now c.args.sent.now i answer
-    c.piece_of-piece.result c.piece_of-piece.ensures ∙ sym c.data_in.ensures in
+    let is : get_or all i answer ≡ answer = grind (arith, data_answer_at, c.piece_of-piece.ensures, c.data_in.ensures) in
     record {
       room = next_fits all i c.loop-data_sn.out.items c.args.out.now.items c.loop-data_sn.out.spare c.args.out.now.spare answer
           (omega (arith, below, data_answers_count c.args.numbers c.args.values.now c.args.frame.now c.args.sent.now)) is c.loop-data_sn.invariant
@@ -29,8 +28,7 @@ loop-data_sn-preserved c =
     let answer = answers.DataIn c.data_in.result in
     let all = data_answers c.args.numbers c.args.values.now c.args.frame.now c.args.sent.now in
     let below : i < length (sent_pieces c.args.values.now c.args.sent.now) = slice_get_within _ i _ c.piece_of-piece.ensures in
-    let is : get_or all i answer ≡ answer = data_answer_at c.args.numbers c.args.values.now c.args.frame.now c.args.sent.now i answer
-    c.piece_of-piece.result c.piece_of-piece.ensures ∙ sym c.data_in.ensures in
+    let is : get_or all i answer ≡ answer = grind (arith, data_answer_at, c.piece_of-piece.ensures, c.data_in.ensures) in
     written_more all i c.loop-data_sn.out.items c.put.new.self.items c.args.out.now.items c.loop-data_sn.out.spare c.put.new.self.spare c.args.out.now.spare
     answer (omega (arith, below, data_answers_count c.args.numbers c.args.values.now c.args.frame.now c.args.sent.now)) is c.loop-data_sn.invariant
     c.put.ensures.items c.put.ensures.spare

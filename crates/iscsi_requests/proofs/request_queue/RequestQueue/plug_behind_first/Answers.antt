@@ -5,43 +5,35 @@ use Rattle.iscsi_requests.specs.Functions.{plug}
 use Rattle.iscsi_requests.specs.State.{TaskLists, holding, takes_all, one_fewer, plugged_behind, window_of}
 use Rattle.iscsi_requests.specs.RequestQueue.{lists_of, keys_in, AreLines, moves_all, requests_at}
 use Rattle.iscsi_requests.proofs.Heads.{same_head, same_tail}
-use Rattle.iscsi_requests.proofs.Lines.{counted_out, replaced, marked_known}
+use Rattle.iscsi_requests.proofs.Lines.{Replaced, counted_out, replaced, marked_known}
 use Rattle.iscsi_requests.proofs.request_queue.RequestQueue.plug_behind_first.Goals as goal
+use Rattle.iscsi_requests.proofs.request_queue.RequestQueue.plug_behind_first.Goals.{After-drop-frame-inside}
+
+replaces : (c : After-drop-frame-inside) → Replaced c.self.inside.requests c.remove-frame.new.self c.insert_reserved-key.new.self c.args.number
+    c.insert_reserved-key.result c.remove-frame.result c.self.inside.window c.self.inside.due.items c.self.inside.queue.items
+replaces c = replaced _ _ _ _ c.remove-key.result _ _ _ _ _ _ _ _ c.self.view_is c.requires.vacant c.requires.some c.reserve.ensures.items
+    c.remove-key.ensures.value c.remove-frame.ensures.value c.remove-frame.ensures.updates c.self.invariant c.insert_reserved-key.ensures.was_vacant
+    c.plug.ensures c.insert_reserved-key.ensures.updates c.held.ensures.len
+
+moved : (c : After-drop-frame-inside) → (c.take_ready.new.window, c.take_ready.new.due.items) ≡ moves_all
+    (with_key c.args.number c.insert_reserved-key.result (counted_out c.remove-frame.result c.self.inside.window), remove c.self.inside.due.items 0)
+moved c = c.take_ready.ensures ∙ rw (c.arrive.ensures.key, c.count_out.ensures, c.remove-key.ensures.items, c.reserve.ensures.items) refl
 
 pub invariant_of-self-2 : goal.invariant_of-self-2
 invariant_of-self-2 c =
-    let r = replaced c.self.inside.requests c.remove-frame.new.self c.insert_reserved-key.new.self c.args.number c.remove-key.result
-    c.insert_reserved-key.result c.remove-frame.result _ c.self.inside.window c.self.inside.due.items _ c.self.inside.queue.items _ c.self.view_is
-    c.requires.vacant c.requires.some c.reserve.ensures.items c.remove-key.ensures.value c.remove-frame.ensures.value c.remove-frame.ensures.updates
-    c.self.invariant c.insert_reserved-key.ensures.was_vacant c.plug.ensures c.insert_reserved-key.ensures.updates c.held.ensures.len in
-    let counted : c.count_out.new.window ≡ counted_out c.remove-frame.result c.self.inside.window = c.count_out.ensures in
-    let moved : (c.take_ready.new.window, c.take_ready.new.due.items) ≡ moves_all
-    (with_key c.args.number c.insert_reserved-key.result (counted_out c.remove-frame.result c.self.inside.window), remove c.self.inside.due.items 0) =
-    c.take_ready.ensures ∙ rw (c.arrive.ensures.key, counted, c.remove-key.ensures.items, c.reserve.ensures.items) refl in
-    subst (λ (p : WindowKeys × List ℕ). AreLines c.insert_reserved-key.new.self (keys_in p.0.keys) p.1 c.self.inside.queue.items) (sym moved) r.lines
+    subst (λ (p : WindowKeys × List ℕ). AreLines c.insert_reserved-key.new.self (keys_in p.0.keys) p.1 c.self.inside.queue.items) (sym (moved c)) (replaces c).lines
 
 pub returns-clause-ok : goal.returns-clause-ok
 returns-clause-ok c =
-    let r = replaced c.self.inside.requests c.remove-frame.new.self c.insert_reserved-key.new.self c.args.number c.remove-key.result
-    c.insert_reserved-key.result c.remove-frame.result _ c.self.inside.window c.self.inside.due.items _ c.self.inside.queue.items _ c.self.view_is
-    c.requires.vacant c.requires.some c.reserve.ensures.items c.remove-key.ensures.value c.remove-frame.ensures.value c.remove-frame.ensures.updates
-    c.self.invariant c.insert_reserved-key.ensures.was_vacant c.plug.ensures c.insert_reserved-key.ensures.updates c.held.ensures.len in
-    let counted : c.count_out.new.window ≡ counted_out c.remove-frame.result c.self.inside.window = c.count_out.ensures in
-    let moved : (c.take_ready.new.window, c.take_ready.new.due.items) ≡ moves_all
-    (with_key c.args.number c.insert_reserved-key.result (counted_out c.remove-frame.result c.self.inside.window), remove c.self.inside.due.items 0) =
-    c.take_ready.ensures ∙ rw (c.arrive.ensures.key, counted, c.remove-key.ensures.items, c.reserve.ensures.items) refl in
     let given = lists_of c.self.inside.requests c.self.inside.window c.self.inside.due.items c.self.inside.queue.items in
-    ap (λ (p : WindowKeys × List ℕ). lists_of c.insert_reserved-key.new.self p.0 p.1 c.self.inside.queue.items) moved ∙ r.lists
-    ∙ ap (λ (t : TaskLists). takes_all (holding c.args.number plug t)) r.middle
-    ∙ ap (plugged_behind c.args.number given) (sym r.first)
+    ap (λ (p : WindowKeys × List ℕ). lists_of c.insert_reserved-key.new.self p.0 p.1 c.self.inside.queue.items) (moved c) ∙ (replaces c).lists
+    ∙ ap (λ (t : TaskLists). takes_all (holding c.args.number plug t)) (replaces c).middle
+    ∙ ap (plugged_behind c.args.number given) (sym (replaces c).first)
     ∙ ap (λ (t : TaskLists). plugged_behind c.args.number t t.due) c.self.view_is
 
 pub returns-clause-numbers : goal.returns-clause-numbers
 returns-clause-numbers c past frame others is s =
-    let r = replaced c.self.inside.requests c.remove-frame.new.self c.insert_reserved-key.new.self c.args.number c.remove-key.result
-    c.insert_reserved-key.result c.remove-frame.result _ c.self.inside.window c.self.inside.due.items _ c.self.inside.queue.items _ c.self.view_is
-    c.requires.vacant c.requires.some c.reserve.ensures.items c.remove-key.ensures.value c.remove-frame.ensures.value c.remove-frame.ensures.updates
-    c.self.invariant c.insert_reserved-key.ensures.was_vacant c.plug.ensures c.insert_reserved-key.ensures.updates c.held.ensures.len in
+    let r = replaces c in
     let counted : c.count_out.new.window ≡ counted_out c.remove-frame.result c.self.inside.window = c.count_out.ensures in
     let first = ap (λ (t : TaskLists). t.due) (sym c.self.view_is) ∙ r.first in
     let head : c.remove-frame.result ≡ frame = same_head _ frame _ others c.args.self.now.due first is in

@@ -69,10 +69,8 @@ returns-in_ok-reserve-in-Some-4-clause-acts c past s =
     let orders = c.args.orders.now.items in
     let d = due_first past _ c.in-Some.frame.now _ known c.in-Some.ensures.some in
     let kind : is_command (frame_of (standing past) d.0) ≡ false = ap is_command (sym d.3) ∙ sym c.is_command.ensures ∙ c.if-is_command.false in
-    let no_text : is_text (frame_of past.came d.0) ≡ false = no_text_there past _ d.0 d.1 known d.2
-    (ap is_text (sym d.3) ∙ sym c.is_text.ensures ∙ c.if-is_text.false) in
-    let no_function : is_function (frame_of past.came d.0) ≡ false = no_function_there past _ d.0 d.1 known d.2
-    (ap is_function (sym d.3) ∙ sym c.is_function.ensures ∙ c.if-is_function.false) in
+    let no_text : is_text (frame_of past.came d.0) ≡ false = grind (arith, no_text_there, c.is_text.ensures, c.if-is_text.false) in
+    let no_function : is_function (frame_of past.came d.0) ≡ false = grind (arith, no_function_there, c.is_function.ensures, c.if-is_function.false) in
     first_acts luns past d.0 d.1 _ _ _ _ _ d.2
     (subst (λ (bytes : List ℕ). ActsAs luns d.0 past c.answer.result c.answer.new.self (output bytes orders) (output c.answer.new.out.items orders))
     c.in_ok-reserve-in-Some-4.ensures.items (c.answer.ensures.acts luns past d.0 d.1 s d.2 kind no_text no_function orders))

@@ -20,8 +20,7 @@ returns-in-Idle-clause-ok c units numbers =
 pub loop-preserved : goal.loop-preserved
 loop-preserved c = record {
   turns = suc c.loop.invariant.turns;
-  ran = λ units numbers. acted_more c.args.luns.now _ _ _ _ _ _ _ units numbers (c.loop.invariant.ran units numbers)
-      (rw c.in-Taken.is at (acts c.in_ok-act.ensures.acts)) (c.in_ok-act.ensures.fewer c.in-Taken.is);
+  ran = grind (arith, acted_more, acts, c.loop.invariant.ran, c.in-Taken.is, c.in_ok-act.ensures.acts, c.in_ok-act.ensures.fewer);
   grows = grows_then _ _ _ c.loop.invariant.grows c.in_ok-act.ensures.grows;
   params = c.in_ok-act.ensures.params ∙ c.loop.invariant.params;
 }

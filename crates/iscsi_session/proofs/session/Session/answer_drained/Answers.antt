@@ -1,5 +1,4 @@
 use Rattle.std.proofs.Common.{◌≡◌, ◌++◌, ℕ, List, refl, sym, ap, subst, ◌∙◌}
-use Rattle.std.proofs.lemmas.Bool.{eq-eqb}
 use Rattle.iscsi_pdu.specs.Answer.{spelling}
 use Rattle.iscsi_pdu.specs.Header.{initiator_task_tag}
 use Rattle.iscsi_pdu.specs.declared.answer.Answer.{Answer}
@@ -12,28 +11,27 @@ use Rattle.iscsi_requests.specs.State.{SessionState, Stands, function_removed, f
 use Rattle.iscsi_session.proofs.Parts.{on_err_known}
 use Rattle.iscsi_session.proofs.Answered.{one_spelled}
 use Rattle.iscsi_session.proofs.Telling.{telling_none, telling_here, told_same}
-use Rattle.iscsi_session.specs.Steps.{Answering, tell, tell_due}
+use Rattle.iscsi_session.specs.Steps.{Tell, tell, tell_due}
 use Rattle.iscsi_session.proofs.Stages.{none_runs, first_stops, sent_runs, tells}
 use Rattle.iscsi_session.proofs.session.Session.answer_drained.Goals as goal
 
 pub returns-in_default-clause-ok : goal.returns-in_default-clause-ok
 unfolding tell_due
 returns-in_default-clause-ok c orders units =
-    none_runs Answering (λ place. eq-eqb place place refl) drained_functions tell
+    none_runs Tell 0 drained_functions tell
     (λ past s. telling_none past _ (subst (λ (x : SessionState). Stands past x) (sym c.self.view_is) s) c.in_default.ensures)
 
 pub returns-in_err-reserve-clause-stops : goal.returns-in_err-reserve-clause-stops
 unfolding tell_due
 returns-in_err-reserve-clause-stops c = on_err_known _
-    (first_stops Answering (λ place. eq-eqb place place refl) drained_functions tell c.in_err-reserve.ensures.items
-    (λ place. eq-eqb place place refl) (λ past s.
+    (first_stops Tell 0 drained_functions tell c.in_err-reserve.ensures.items (λ past s.
     (let t = telling_here past _ c.in-Some.function (subst (λ (x : SessionState). Stands past x) (sym c.self.view_is) s) c.in-Some.ensures in
     (t.function, t.rest, t.first))))
 
 pub returns-clause-ok : goal.returns-clause-ok
 unfolding tell_due told_answers
 returns-clause-ok c orders units =
-    sent_runs Answering (λ place. eq-eqb place place refl) drained_functions tell answered_by told_by tells _ _ _ _ orders units
+    sent_runs Tell 0 drained_functions tell answered_by told_by tells _ _ _ _ orders units
     (λ past s.
     (let known = subst (λ (x : SessionState). Stands past x) (sym c.self.view_is) s in
     let t = telling_here past _ c.in-Some.function known c.in-Some.ensures in

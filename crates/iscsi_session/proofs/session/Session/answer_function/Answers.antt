@@ -1,4 +1,4 @@
-use Rattle.std.proofs.Common.{◌≡◌, ◌++◌, ◌∷◌, [], List, ℕ, refl, sym, ap, subst, ◌∙◌, arith}
+use Rattle.std.proofs.Common.{◌≡◌, ◌++◌, [], List, ℕ, refl, sym, ap, subst, ◌∙◌, arith}
 use Rattle.iscsi_pdu.specs.Answer.{spelling}
 use Rattle.iscsi_pdu.specs.Frames.{Frame}
 use Rattle.iscsi_pdu.specs.declared.stamp.Stamp.{Stamp}
@@ -47,8 +47,7 @@ returns-clause-acts c past k rest s is e =
           ∙ ap (λ (a : Answer). c.args.out.now.items ++ spelling a) answer
           ∙ one_spelled c.args.out.now.items _ _ (function_same luns k past c.frame.inside.header result header
           (c.function_result-response.ensures past s) e none);
-      orders = c.push_reserved-2.ensures.items ∙ ap (λ (l : List (List ℕ)). l ++ c.frame.inside.header ∷ []) c.in_ok-reserve-2.ensures.items
-          ∙ function_ordered past k c.frame.inside.header c.args.orders.now.items e header;
+      orders = grind (arith, function_ordered, c.frame.inside.header);
     }
 
 pub returns-clause-fewer : goal.returns-clause-fewer
@@ -74,6 +73,5 @@ returns-then-awaits-clause-acts c past k rest s is e =
       stands = subst (λ (p : Past). Stands p c.drain.new.self) (acted_waits luns past s.lawful k rest is e some.0 some.1 some.2)
           (c.in_ok-drain.ensures.stands luns past k rest s is e reach awaits);
       out = c.in_ok-reserve.ensures.items ∙ none_spelled c.args.out.now.items _ (function_waits luns k past some.0 some.1 e some.2);
-      orders = c.push_reserved.ensures.items ∙ ap (λ (l : List (List ℕ)). l ++ c.frame.inside.header ∷ []) c.in_ok-reserve-2.ensures.items
-          ∙ function_ordered past k c.frame.inside.header c.args.orders.now.items e header;
+      orders = grind (arith, function_ordered, c.frame.inside.header);
     }

@@ -23,8 +23,7 @@ returns-clause-stands c luns past k rest s is e same awaits =
     let some : 0 < length c.self.inside.tasks.due = omega (arith, ap (λ (l : List Frame). length l) line) in
     let g = given_frame c.drop_due.result c.remove.new.self.due c.drop_due.ensures.some c.drop_due.ensures.same c.drop_due.ensures.none
     (still_due c.args.reach.now c.self.inside.tasks c.remove.new.self c.remove.ensures some) in
-    let removed : c.remove.new.self ≡ without reach c.self.inside.tasks = c.remove.ensures
-    ∙ ap (λ (r : FunctionReach). without r c.self.inside.tasks) same in
+    let removed : c.remove.new.self ≡ without reach c.self.inside.tasks = grind (arith, c.remove.ensures, c.self.inside.tasks) in
     let tasks = g.2 ∙ ap (λ (t : TaskLists). record t { due = drop 1 t.due }) removed in
     let transfers = c.in_ok-drain.ensures.ok ∙ ap (λ (r : FunctionReach). record c.self.inside.transfers {
       list = transfers_without r c.self.inside.transfers.list;

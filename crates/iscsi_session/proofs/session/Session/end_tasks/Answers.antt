@@ -30,10 +30,8 @@ returns-then-plugs-clause-stands c luns past k rest s is e same unasked =
     let does : plugs past reach ≡ true = ap (plugs past) (sym same) ∙ sym (c.plugs.ensures.past past s) ∙ c.if-plugs.true in
     let ends = stands_unreached luns past _ k e none does middle in
     let number : n ≡ ref_cmd_sn frame.header = c.ref_cmd_sn.ensures ∙ ap ref_cmd_sn header in
-    let free : is_vacant left n ≡ true = vacant_still frame (drop 1 tasks.due) tasks n
-    (ap (is_vacant tasks) (c.ref_cmd_sn.ensures ∙ ap (λ (r : FunctionReach). ref_cmd_sn r.function) c.reach.view_is)
-    ∙ ap (λ (x : SessionState). is_vacant x.tasks (ref_cmd_sn c.args.reach.now.function)) c.self.view_is
-    ∙ c.plugs.ensures.vacant c.if-plugs.true) in
+    let free : is_vacant left n ≡ true =
+    grind (arith, vacant_still, c.ref_cmd_sn.ensures, c.reach.view_is, c.self.view_is, c.plugs.ensures.vacant, c.if-plugs.true) in
     let after = stands_plugged_behind luns past _ k n e does number free ends in
     let now : c.plug_behind_first.new.self ≡ takes_all (holding n plug left) = c.in_ok-numbers.ensures.ok ∙ ap (plugged_behind n tasks) some in
     (c.in_ok-numbers.ensures.numbers (numbers (ended luns k past)) frame (drop 1 tasks.due) some (window_stands (ended luns k past) _ ends), rw now after)

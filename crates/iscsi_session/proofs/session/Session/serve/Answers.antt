@@ -1,9 +1,8 @@
 use Rattle.std.proofs.Common.{refl}
-use Rattle.std.proofs.lemmas.Bool.{eq-eqb}
-use Rattle.iscsi_session.specs.Steps.{Asking, Answering}
+use Rattle.iscsi_session.specs.Steps.{Ask, Tell}
 use Rattle.iscsi_session.proofs.Parts.{on_err_known}
 use Rattle.iscsi_session.proofs.Runs.{grows_then}
-use Rattle.iscsi_session.proofs.Stages.{judging_stops, judging_ends, taken_on, taken_fails, taken_ended, asked_then, asked_ended, told_then, served_stops, taken_stops}
+use Rattle.iscsi_session.proofs.Stages.{judges, judging_stops, judging_ends, taken_on, taken_fails, taken_ended, asked_then, asked_ended, told_then, stops_at, taken_stops}
 use Rattle.iscsi_session.proofs.session.Session.serve.Goals as goal
 
 pub returns-in_err-receive-clause-err : goal.returns-in_err-receive-clause-err
@@ -14,35 +13,35 @@ pub returns-in-Violating-clause-ok : goal.returns-in-Violating-clause-ok
 returns-in-Violating-clause-ok c units numbers =
     let taken = c.in_ok-receive.ensures in
     taken_ended c.args.frame
-    (judging_ends c.args.frame (record { judged_is = taken.verdict; stands = taken.stands; out = taken.out; orders = refl }) c.in-Violating.is)
+    (judging_ends c.args.frame (judges taken.verdict taken.stands taken.out) c.in-Violating.is)
 
 pub returns-in_err-act_all-clause-err : goal.returns-in_err-act_all-clause-err
 returns-in_err-act_all-clause-err c =
     let taken = c.in_ok-receive.ensures in
     on_err_known _ (taken_stops c.args.luns.now c.args.frame _ _ _ _ (taken_fails c.args.luns.now _ c.args.frame
-    (record { judged_is = taken.verdict; stands = taken.stands; out = taken.out; orders = refl }) c.in_default.not-Violating c.in_err-act_all.ensures.err))
+    (judges taken.verdict taken.stands taken.out) c.in_default.not-Violating c.in_err-act_all.ensures.err))
 
 pub returns-then-not-branch-clause-ok : goal.returns-then-not-branch-clause-ok
 returns-then-not-branch-clause-ok c units numbers =
     let taken = c.in_ok-receive.ensures in
-    taken_ended c.args.frame (taken_on _ c.args.frame (record { judged_is = taken.verdict; stands = taken.stands; out = taken.out; orders = refl })
+    taken_ended c.args.frame (taken_on _ c.args.frame (judges taken.verdict taken.stands taken.out)
     c.in_default.not-Violating (λ place. refl) (rw c.if-not-branch.true at (c.in_ok-act_all.ensures.ok units numbers)))
 
 pub returns-in_err-ask_due-clause-err : goal.returns-in_err-ask_due-clause-err
 returns-in_err-ask_due-clause-err c =
     let taken = c.in_ok-receive.ensures in
-    on_err_known _ (served_stops c.args.luns.now c.args.frame _ _ _ _ Asking (λ place. eq-eqb place place refl) (λ place. refl) (λ units numbers.
+    on_err_known _ (stops_at Ask 0 (λ place. refl) (λ units numbers.
     asked_ended c.args.frame (asked_then c.args.frame (λ place. refl) (λ place turn. refl)
-    (taken_on _ c.args.frame (record { judged_is = taken.verdict; stands = taken.stands; out = taken.out; orders = refl })
+    (taken_on _ c.args.frame (judges taken.verdict taken.stands taken.out)
     c.in_default.not-Violating (λ place. refl) (rw c.if-not-branch.false at (c.in_ok-act_all.ensures.ok units numbers)))
     (c.in_err-ask_due.ensures.stops _ units))))
 
 pub returns-in_err-answer_drained-clause-err : goal.returns-in_err-answer_drained-clause-err
 returns-in_err-answer_drained-clause-err c =
     let taken = c.in_ok-receive.ensures in
-    on_err_known _ (served_stops c.args.luns.now c.args.frame _ _ _ _ Answering (λ place. eq-eqb place place refl) (λ place. refl) (λ units numbers.
+    on_err_known _ (stops_at Tell 0 (λ place. refl) (λ units numbers.
     told_then c.args.frame (λ place. refl) (λ place turn. refl) (λ place. refl) (asked_then c.args.frame (λ place. refl) (λ place turn. refl)
-    (taken_on _ c.args.frame (record { judged_is = taken.verdict; stands = taken.stands; out = taken.out; orders = refl })
+    (taken_on _ c.args.frame (judges taken.verdict taken.stands taken.out)
     c.in_default.not-Violating (λ place. refl) (rw c.if-not-branch.false at (c.in_ok-act_all.ensures.ok units numbers)))
     (c.in_ok-ask_due.ensures.ok _ units)) (c.in_err-answer_drained.ensures.stops _ units)))
 
@@ -50,7 +49,7 @@ pub returns-clause-ok : goal.returns-clause-ok
 returns-clause-ok c units numbers =
     let taken = c.in_ok-receive.ensures in
     told_then c.args.frame (λ place. refl) (λ place turn. refl) (λ place. refl) (asked_then c.args.frame (λ place. refl) (λ place turn. refl)
-    (taken_on _ c.args.frame (record { judged_is = taken.verdict; stands = taken.stands; out = taken.out; orders = refl })
+    (taken_on _ c.args.frame (judges taken.verdict taken.stands taken.out)
     c.in_default.not-Violating (λ place. refl) (rw c.if-not-branch.false at (c.in_ok-act_all.ensures.ok units numbers)))
     (c.in_ok-ask_due.ensures.ok _ units)) (c.in_ok-answer_drained.ensures.ok _ units)
 

@@ -4,14 +4,15 @@ use Rattle.iscsi_session.specs.Runs.{output}
 use Rattle.iscsi_session.proofs.Came.{came_none, came_then, came_as, came_with}
 use Rattle.iscsi_session.proofs.Parts.{on_err_known}
 use Rattle.iscsi_session.proofs.Runs.{grows_none, grows_then}
-use Rattle.iscsi_session.proofs.Settled.{none_done, settled_more, all_settled, settling_stops, settle_stops}
+use Rattle.iscsi_session.proofs.Stages.{none_ran}
+use Rattle.iscsi_session.proofs.Settled.{settling, settled_more, all_settled, settling_stops, settle_stops}
 use Rattle.iscsi_session.proofs.AtRest.{eases_none, eases_then}
 use Rattle.iscsi_session.proofs.session.Session.settle.Goals as goal
 
 pub loop-init : goal.loop-init
 loop-init g c = record {
   turns = 0;
-  ran = came_none _ _ _ _ (λ comings. none_done _ _ _);
+  ran = came_none _ _ _ _ (λ comings. none_ran settling _ _ _);
   back = λ sound. sound;
   sure = λ sure. sure;
   grows = grows_none _;
