@@ -1,17 +1,15 @@
 -- What is done for a session stays within its target's part.
-use Rattle.std.proofs.Common.{◌≡◌, ◌≢◌, ℕ, ◌<◌, List, [], length, Bool, true, false, Result, Ok, refl, sym, ap, ◌∙◌, subst, inl, inr, Option, Some, None}
+use Rattle.std.proofs.Common.{◌≡◌, ◌≢◌, ℕ, ◌<◌, List, [], length, Bool, true, false, Result, refl, sym, ap, ◌∙◌, subst, inl, inr, Option, Some, arith}
 use Rattle.std.specs.Prelude.{◌⊎◌, slice_index_or}
-use Rattle.std.proofs.lemmas.Bool.{eqb-true}
 use Rattle.std.proofs.lemmas.Bool.Decides.{eqb_tells}
 use Rattle.std.proofs.lemmas.List.{get_or-set_other}
-use Rattle.scsi_unit.specs.Units.{UnitStates, leave}
+use Rattle.scsi_unit.specs.Units.{UnitStates}
 use Rattle.iscsi_login.specs.Session.{is_same_target}
-use Rattle.iscsi_world.specs.World.{left, units_at, with_units, changed_units}
-use Rattle.iscsi_world.specs.Machine.{LinkState, Machine, KeepsApart, KeepsPart, link_at, with_link, shut_link, closed, session_in_phase, is_with, is_reading, is_closing, is_logging_in}
+use Rattle.iscsi_world.specs.World.{with_units, changed_units}
+use Rattle.iscsi_world.specs.Machine.{LinkState, Machine, KeepsApart, KeepsPart, link_at, with_link, closed, is_with, is_reading, is_closing, is_logging_in}
 use Rattle.iscsi_world.specs.Serving.{ended_unless}
 use Rattle.iscsi_world.specs.SessionCalls.{called}
 use Rattle.iscsi_world.specs.declared.phase.Phase.{Phase}
-use Rattle.iscsi_world.specs.declared.phase.Phase.TheVariants as phases
 use Rattle.iscsi_world.proofs.Moving.{link_set, link_other}
 
 -- ---- one call after the other
@@ -19,19 +17,8 @@ use Rattle.iscsi_world.proofs.Moving.{link_set, link_other}
 pub apart_none : (target : ℕ) (machine : Machine) → KeepsApart target machine machine
 apart_none target machine = record { links = λ d e. refl; units = λ at differ. refl; same = λ d e. inl e }
 
-closing_without : (target : ℕ) (phase : Phase) → is_closing phase ≡ true → is_with target phase ≡ false
-closing_without target (phases.FullFeature session) e = absurd cc
-closing_without target _ e = refl
-
 pub apart_then : (target : ℕ) (given now after : Machine) → KeepsApart target given now → KeepsApart target now after → KeepsApart target given after
-apart_then target given now after a b = record {
-  links = λ d e. b.links d (ap (λ (l : LinkState). is_with target l.phase) (a.links d e) ∙ e) ∙ a.links d e;
-  units = λ at differ. b.units at differ ∙ a.units at differ;
-  same = λ d e. elim (a.same d e) [
-    | inl with_ ↦ b.same d with_
-    | inr closing ↦ inr (ap (λ (l : LinkState). is_closing l.phase) (b.links d (closing_without target (link_at now d).phase closing)) ∙ closing)
-  ];
-}
+apart_then target given now after a b = grind arith
 
 pub apart_as : (target : ℕ) (given now after : Machine) → after ≡ now → KeepsApart target given now → KeepsApart target given after
 apart_as target given now after e k = let P : Machine → Type 0 = λ m. KeepsApart target given m in subst P (sym e) k
@@ -60,8 +47,7 @@ apart_set target machine units c link lt own then_ others = record {
 -- its session's call on its target's units
 others_stay : (units : UnitStates) (o : Option ℕ) (target : ℕ) (all : List UnitStates) → is_same_target o (Some target) ≡ true
     → (at : ℕ) → at ≢ target → slice_index_or (with_units o units all) at [] ≡ slice_index_or all at []
-others_stay units None target all e at differ = absurd cc
-others_stay units (Some t) target all e at differ = get_or-set_other all t at units [] (λ same. differ (same ∙ eqb-true t target e))
+others_stay units o target all e at differ = grind (arith, get_or-set_other)
 
 pub target_apart : (at : ℕ) (target : Option ℕ) (machine : Machine) (units : UnitStates) (c : ℕ) (link : LinkState) → c < length machine.links
     → is_same_target target (Some at) ≡ true → is_with at (link_at machine c).phase ≡ true → is_with at link.phase ≡ true
@@ -77,28 +63,16 @@ link_apart target machine c link lt own then_ = apart_set target machine machine
 
 -- ---- it closes
 
-left_apart : (target : ℕ) (phase : Phase) (all : List UnitStates) → is_with target phase ≡ true → (at : ℕ) → at ≢ target
-    → slice_index_or (left (session_in_phase phase) all) at [] ≡ slice_index_or all at []
-unfolding changed_units
-left_apart target phases.Free all e at differ = refl
-left_apart target (phases.Login login) all e at differ = refl
-left_apart target (phases.FullFeature session) all e at differ =
-    others_stay (leave session.params.nexus (units_at session.params.target all)) session.params.target target all e at differ
-left_apart target phases.Closing all e at differ = refl
-
 pub closed_apart : (target : ℕ) (machine : Machine) (c : ℕ) → c < length machine.links → is_with target (link_at machine c).phase ≡ true
     → KeepsApart target machine (closed machine c)
-unfolding closed
-closed_apart target machine c lt own =
-    apart_set target machine (left (session_in_phase (link_at machine c).phase) machine.units) c (shut_link (link_at machine c)) lt own (inr refl)
-    (left_apart target (link_at machine c).phase machine.units own)
+unfolding closed changed_units
+closed_apart target machine c lt own = grind (arith, apart_set, others_stay)
 
 -- ---- one that does not go on is closed
 
 pub ended_apart : {E : Type 0} (r : Result Bool E) (target : ℕ) (machine : Machine) (c : ℕ) → c < length machine.links
     → is_with target (link_at machine c).phase ≡ true → KeepsApart target machine (ended_unless r c machine)
-ended_apart (Ok true) target machine c lt own = apart_none target machine
-ended_apart _ target machine c lt own = closed_apart target machine c lt own
+ended_apart r target machine c lt own = grind (arith, apart_none, closed_apart)
 
 -- ---- so many frames
 
@@ -115,20 +89,12 @@ part_halved machine c half lt = λ target own. link_apart target machine c (reco
 pub part_as : (c : ℕ) (given now after : Machine) → after ≡ now → KeepsPart c given now → KeepsPart c given after
 part_as c given now after e k = λ target own. apart_as target given now after e (k target own)
 
-reading_or_closing : (phase : Phase) → is_reading phase ≡ true → is_closing phase ≡ true → ⊥
-reading_or_closing phases.Free r e = absurd cc
-reading_or_closing _ r e = absurd cc
-
 pub part_then : (c : ℕ) (given now after : Machine) → is_reading (link_at now c).phase ≡ true → KeepsPart c given now → KeepsPart c now after
     → KeepsPart c given after
-part_then c given now after reads a b = λ target own. elim ((a target own).same c own) [
-  | inl with_ ↦ apart_then target given now after (a target own) (b target with_)
-  | inr closing ↦ absurd (reading_or_closing (link_at now c).phase reads closing)
-]
+part_then c given now after reads a b = grind arith
 
 no_session : (target : ℕ) (phase : Phase) → is_logging_in phase ≡ true → is_with target phase ≡ false
-no_session target (phases.FullFeature session) e = absurd cc
-no_session target _ e = refl
+no_session target phase e = grind arith
 
 -- a login is no session
 pub part_login : (c : ℕ) (given after : Machine) → is_logging_in (link_at given c).phase ≡ true → KeepsPart c given after

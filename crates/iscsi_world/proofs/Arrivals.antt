@@ -1,5 +1,5 @@
 -- What a further piece brings.
-use Rattle.std.proofs.Common.{◌≡◌, ℕ, zero, suc, ◌+◌, List, [], ◌∷◌, ◌++◌, length, drop, map, Bool, false, cond, refl, sym, ap, ◌∙◌, arith, append_assoc}
+use Rattle.std.proofs.Common.{◌≡◌, ℕ, zero, suc, ◌+◌, List, [], ◌∷◌, ◌++◌, length, drop, map, Bool, false, cond, refl, ap, ◌∙◌, arith, append_assoc}
 use Rattle.std.specs.List.{enumerate_from, fold}
 use Rattle.std.proofs.lemmas.List.{append-nil, map-append}
 use Rattle.std.proofs.lemmas.List.Sums.{fold-append}
@@ -15,9 +15,7 @@ long_end long = cond long (TooLong ∷ []) []
 
 enumerate-append : {X : Type 0} (n : ℕ) (xs ys : List X) → enumerate_from n (xs ++ ys) ≡ enumerate_from n xs ++ enumerate_from (n + length xs) ys
 enumerate-append n [] ys = let e : n + 0 ≡ n = omega arith in rw e refl
-enumerate-append n (x ∷ xs) ys =
-    let e : n + length (x ∷ xs) ≡ n + 1 + length xs = omega arith in
-    rw e (ap (λ t. (n, x) ∷ t) (enumerate-append (n + 1) xs ys))
+enumerate-append n (x ∷ xs) ys = grind (arith, enumerate-append (n + 1) xs ys)
 
 enumerate-drop : {X : Type 0} (n k : ℕ) (xs : List X) → drop k (enumerate_from n xs) ≡ enumerate_from (n + k) (drop k xs)
 enumerate-drop n zero xs = let e : n + 0 ≡ n = omega arith in rw e refl
@@ -41,9 +39,7 @@ short_arrivals bytes e = rw e (append-nil (map Whole (frames bytes)))
 
 joined_frames : (b p : List ℕ) → arrivals (b ++ p) ≡ map Whole (frames b) ++ arrivals (rest b ++ p)
 unfolding arrivals
-joined_frames b p =
-    rw (frames_in_pieces b p, rest_in_pieces b p, map-append Whole (frames b) (frames (rest b ++ p)))
-    (append_assoc (map Whole (frames b)) (map Whole (frames (rest b ++ p))) (long_end (is_long (rest (rest b ++ p)))))
+joined_frames b p = grind (arith, frames_in_pieces, rest_in_pieces, map-append, append_assoc)
 
 pub joined_arrivals : (bytes piece : List ℕ) → is_long (rest bytes) ≡ false → arrivals (bytes ++ piece) ≡ arrivals bytes ++ arrivals (rest bytes ++ piece)
 joined_arrivals bytes piece e = rw (short_arrivals bytes e) (joined_frames bytes piece)
@@ -52,15 +48,7 @@ joined_arrivals bytes piece e = rw (short_arrivals bytes e) (joined_frames bytes
 pub new_is : (bytes piece : List ℕ) → is_long (rest bytes) ≡ false → new_arrivals bytes piece
     ≡ enumerate_from (length (arrivals bytes)) (arrivals (rest bytes ++ piece))
 unfolding new_arrivals
-new_is bytes piece e =
-    let n = length (arrivals bytes) in
-    let zero_plus : 0 + n ≡ n = omega arith in
-    enumerate-drop 0 n (arrivals (bytes ++ piece))
-    ∙ ap (λ k. enumerate_from k (drop n (arrivals (bytes ++ piece)))) zero_plus
-    ∙ ap (λ t. enumerate_from n (drop n t)) (joined_arrivals bytes piece e)
-    ∙ ap (enumerate_from n) (drop-append_seam (arrivals bytes) (arrivals (rest bytes ++ piece)))
+new_is bytes piece e = grind (arith, enumerate-drop, joined_arrivals, drop-append_seam)
 
 pub in_pieces : (bytes piece : List ℕ) → is_long (rest bytes) ≡ false → arrivals (bytes ++ piece) ≡ arrivals bytes ++ map (λ a. a.1) (new_arrivals bytes piece)
-in_pieces bytes piece e =
-    joined_arrivals bytes piece e ∙ ap (λ t. arrivals bytes ++ t) (sym (ap (map (λ a. a.1)) (new_is bytes piece e)
-    ∙ map-enumerate (length (arrivals bytes)) (arrivals (rest bytes ++ piece))))
+in_pieces bytes piece e = grind (arith, joined_arrivals, new_is, map-enumerate)

@@ -1,6 +1,6 @@
 -- A Login request at one connection of the code, before its answer is sent.
 use Rattle.std.specs.Result.{OnErr}
-use Rattle.std.proofs.Common.{◌≡◌, ℕ, arith, ◌<◌, List, Result, Ok, Err, length, set, get_or, true, Option, Some, None, refl, sym, ap, ◌∙◌}
+use Rattle.std.proofs.Common.{◌≡◌, ℕ, arith, ◌<◌, List, Result, length, set, get_or, true, Option, Some, None, refl, ap, ◌∙◌}
 use Rattle.std.proofs.lemmas.List.{length-map, get_or-map, get_or-set_same, map-set, set-set, set-get_or}
 use Rattle.iscsi_pdu.specs.Frames.{Frame}
 use Rattle.iscsi_pdu.specs.declared.answer.Answer.{Answer}
@@ -12,26 +12,23 @@ use Rattle.iscsi_login.specs.Login.{reply_of}
 use Rattle.iscsi_login.specs.declared.session_params.SessionParams.{SessionParams}
 use Rattle.iscsi_login.specs.declared.reply.Reply.{Reply}
 use Rattle.iscsi_login.specs.declared.reply.Reply.TheVariants.{Full}
-use Rattle.scsi_unit.specs.Units.{UnitStates, join}
-use Rattle.iscsi_world.specs.World.{left, changed_units, lookup_for}
-use Rattle.iscsi_world.specs.Machine.{LinkState, Machine, link_at, with_link, closed, begun, begun_link, shut_link, shut_older, logged_in, is_logging_in, is_reading, session_in_phase, sessions, free_link, IsAnswered}
+use Rattle.scsi_unit.specs.Units.{join}
+use Rattle.iscsi_world.specs.World.{changed_units, lookup_for}
+use Rattle.iscsi_world.specs.Machine.{LinkState, Machine, link_at, with_link, closed, begun, begun_link, shut_older, logged_in, is_logging_in, is_reading, session_in_phase, sessions, free_link, IsAnswered}
 use Rattle.iscsi_world.proofs.Lending.{get_or_any}
 use Rattle.iscsi_world.specs.declared.phase.Phase.{Phase}
-use Rattle.iscsi_world.specs.declared.phase.Phase.TheVariants.{Login, Closing}
+use Rattle.iscsi_world.specs.declared.phase.Phase.TheVariants.{Login}
 
 -- ---- phases
 
 pub login_there : (phase : Phase) → is_logging_in phase ≡ true → (login : LoginState) × (phase ≡ Login login)
-login_there (Login login) e = (login, refl)
-login_there _ e = absurd cc
+login_there phase e = grind arith
 
 pub no_session : (phase : Phase) → is_logging_in phase ≡ true → session_in_phase phase ≡ None
-no_session (Login login) e = refl
-no_session _ e = absurd cc
+no_session phase e = grind arith
 
 pub still_reading : (phase : Phase) → is_logging_in phase ≡ true → is_reading phase ≡ true
-still_reading (Login login) e = refl
-still_reading _ e = absurd cc
+still_reading phase e = grind arith
 
 -- ---- a connection whose session has still to begin
 
@@ -45,13 +42,7 @@ some_is x y e = cc
 
 pub waits : (reply : Reply) (after : LoginState) (old new : LinkState) (response : LoginResponse) (session : SessionParams)
     → IsAnswered reply after old (Some (response, session)) new → IsWaiting reply old response session new
-waits (Full r s) after old new response session h = record {
-  reply_is =
-      ap (λ (p : LoginResponse × SessionParams). Full p.0 p.1) (some_is (r, s) (response, session) (sym h.0));
-  same = h.1;
-  logging_in = h.2;
-}
-waits _ after old new response session h = let no = h.0 in absurd cc
+waits reply after old new response session h = grind arith
 
 -- ---- the machine with that connection
 
@@ -66,41 +57,15 @@ pub record Enters (machine given : Machine) (c : ℕ) (was : LinkState) : Type 0
 
 pub enters : (machine given : Machine) (c : ℕ) (was d : LinkState) → machine ≡ given → length machine.links ≡ 64 → c < 64
     → was ≡ get_or machine.links c d → is_logging_in (link_at given c).phase ≡ true → Enters machine given c was
-enters machine given c was d same count lt is logs_given =
-    let below : c < length machine.links = omega (arith, count, lt) in
-    let old : was ≡ link_at machine c = is ∙ get_or_any machine.links c d free_link below in
-    let logs : is_logging_in (link_at machine c).phase ≡ true = ap (λ (m : Machine). is_logging_in (link_at m c).phase) same ∙ logs_given in
-    let login = login_there was.phase (ap (λ (l : LinkState). is_logging_in l.phase) old ∙ logs) in
-    record { same = same; in_range = below; old = old; logs = logs; login = login.0; there = login.1 }
+enters machine given c was d same count lt is logs_given = grind (arith, get_or_any, login_there)
 
 pub link_there : (machine : Machine) (c : ℕ) (link : LinkState) → c < length machine.links → link_at (with_link machine c link) c ≡ link
 link_there machine c link lt = get_or-set_same machine.links c link free_link lt
 
--- closing it is closing the connection as it was
-closed_alike : (machine : Machine) (c : ℕ) (link : LinkState) → c < length machine.links → link.waiting ≡ (link_at machine c).waiting
-    → session_in_phase link.phase ≡ None → is_logging_in (link_at machine c).phase ≡ true → closed (with_link machine c link) c ≡ closed machine c
-unfolding closed
-closed_alike machine c link lt waiting none logs =
-    let there = link_there machine c link lt in
-    let was = no_session (link_at machine c).phase logs in
-    let links : set (set machine.links c link) c (shut_link (link_at (with_link machine c link) c)) ≡ set machine.links c (shut_link (link_at machine c)) =
-    ap (λ (l : LinkState). set (set machine.links c link) c (shut_link l)) there ∙ set-set machine.links c link (shut_link link)
-    ∙ ap (λ (w : List ℕ). set machine.links c (record { half = (shut_link link).half; phase = Closing; waiting = w })) waiting in
-    let units : left (session_in_phase (link_at (with_link machine c link) c).phase) machine.units
-    ≡ left (session_in_phase (link_at machine c).phase) machine.units =
-    ap (λ (l : LinkState). left (session_in_phase l.phase) machine.units) there ∙ ap (λ (o : Option SessionParams). left o machine.units) (none ∙ sym was) in
-    ap (λ (ls : List LinkState). record {
-      directory = machine.directory;
-      units =
-          left (session_in_phase (link_at (with_link machine c link) c).phase) machine.units;
-      links = ls;
-    }) links
-    ∙ ap (λ (us : List UnitStates). record { directory = machine.directory; units = us; links = set machine.links c (shut_link (link_at machine c)) }) units
-
 module _ (machine given : Machine) (c : ℕ) (was link : LinkState) (e : Enters machine given c was) where
   pub closed_asked : link.waiting ≡ was.waiting → session_in_phase link.phase ≡ None → closed (with_link machine c link) c ≡ closed given c
-  closed_asked waiting none = closed_alike machine c link e.in_range (waiting ∙ ap (λ (l : LinkState). l.waiting) e.old) none e.logs
-      ∙ ap (λ (m : Machine). closed m c) e.same
+  unfolding closed
+  closed_asked waiting none = grind (arith, link_there, set-set)
 
   pub reads_asked : is_logging_in link.phase ≡ true → is_reading (link_at (with_link machine c link) c).phase ≡ true
   reads_asked logs = ap (λ (l : LinkState). is_reading l.phase) (link_there machine c link e.in_range) ∙ still_reading link.phase logs
@@ -120,11 +85,9 @@ begun_alike machine c link session answer lt same now was =
     ∙ ap (λ (o : Option SessionParams). set (sessions machine.links) c o) (no_session link.phase now)
     ∙ set_own (sessions machine.links) c None None (get_or-map (λ (l : LinkState). session_in_phase l.phase) machine.links c free_link None lt
     ∙ no_session (link_at machine c).phase was) (rw length-map lt) in
-    let begins : begun_link session answer (link_at (with_link machine c link) c) ≡ begun_link session answer (link_at machine c) =
-    ap (begun_link session answer) (there ∙ same) in
+    let begins : begun_link session answer (link_at (with_link machine c link) c) ≡ begun_link session answer (link_at machine c) = grind arith in
     let links : set (set machine.links c link) c (begun_link session answer (link_at (with_link machine c link) c))
-    ≡ set machine.links c (begun_link session answer (link_at machine c)) =
-    set-set machine.links c link _ ∙ ap (set machine.links c) begins in
+    ≡ set machine.links c (begun_link session answer (link_at machine c)) = grind (arith, set-set) in
     ap (λ (ls : List LinkState). shut_older (older session (sessions (set machine.links c link)))
     (record { directory = machine.directory; units = units; links = ls })) links
     ∙ ap (λ (all : List (Option SessionParams)). shut_older (older session all)
@@ -140,5 +103,4 @@ begun_by_request machine c login request session response e = rw e refl
 -- ---- results
 
 pub on_err : {X E P : Type 0} (r : Result X E) → P → OnErr r P
-on_err (Ok x) p = tt
-on_err (Err e) p = p
+on_err r p = grind arith

@@ -8,21 +8,20 @@ use Rattle.iscsi_login.specs.declared.session_params.SessionParams.{SessionParam
 use Rattle.scsi_unit.specs.Units.{UnitStates, AreSound}
 use Rattle.std.proofs.lemmas.Bool.Decides.{eqb_tells}
 use Rattle.iscsi_session.specs.Requests.{Past}
-use Rattle.iscsi_session.specs.State.{SessionState, IsLawful, remembered}
+use Rattle.iscsi_session.specs.State.{SessionState, remembered}
 use Rattle.iscsi_session.specs.Steps.{Step, Judging, Taking, Asking, Answering, Doing, is_of, is_doing, is_serving, Work, served, settled}
 use Rattle.iscsi_session.specs.Comings.{Coming, TargetUnits, CameAs, AreAhead, ArePlain, AreOf, IsCalm, lend}
 use Rattle.iscsi_session.proofs.Came.{plain_calm, others_calm}
 use Rattle.iscsi_session.specs.Runs.{output, Starts, is_failed, IsReached, Runs}
 use Rattle.iscsi_session.proofs.Steps.{served_agrees, settled_agrees}
-use Rattle.iscsi_login.specs.Session.{is_same_target}
 use Rattle.iscsi_world.specs.History.{Point, Before, Mark, connection_limit}
-use Rattle.iscsi_world.specs.World.{Setting, World, present, past_of, is_marked, fails, work_of, changed, close, worked_on, worked, served_by, take_in, settled_by, settle_one, units_at, orders_by, orders_in}
+use Rattle.iscsi_world.specs.World.{Setting, World, present, past_of, is_marked, fails, work_of, changed, close, worked, served_by, take_in, settle_one, units_at, orders_by, orders_in}
 use Rattle.iscsi_world.specs.Machine.{Machine, IsSound, IsSoundAt, ReflectsSoundness, link_at}
 use Rattle.iscsi_world.specs.SessionCalls.{LeavesSession, ChangesOne, called}
-use Rattle.iscsi_world.specs.Stands.{IsQuiet, IsQuietIn, stand_in, Begins}
+use Rattle.iscsi_world.specs.Stands.{stand_in, Begins}
 use Rattle.iscsi_world.specs.Serving.{Serves, Agrees, ActsAs, reached_since, kept, is_taken_at, is_done_by}
 use Rattle.iscsi_world.specs.declared.phase.Phase.TheVariants as phases
-use Rattle.iscsi_world.proofs.Choices.{cond_true, eqb_self}
+use Rattle.iscsi_world.proofs.Choices.{eqb_self}
 use Rattle.iscsi_world.proofs.Linked.{units_with}
 use Rattle.iscsi_world.proofs.Working.{IsAtWork, at_work, past_at, session_link, left_by, serves_worked}
 use Rattle.iscsi_world.proofs.Marks.{mark_at, same_self, marked_as, marked_none}
@@ -42,13 +41,11 @@ starved_if None c = None
 starved_if (Some step) c = Some c
 
 pub begins_if : (failed : Option (ℕ → Step)) (c place : ℕ) → Begins (starved_if failed c) (marks_of c failed place)
-begins_if None c place = refl
-begins_if (Some step) c place = refl
+begins_if failed c place = grind arith
 
 -- a step of the connection is marked where it is the one that failed
 pub failed_as : (failed : Option (ℕ → Step)) (c place : ℕ) (step : Step) → is_marked (marks_of c failed place) c (Before step) ≡ is_failed failed place step
-failed_as None c place step = marked_none c (Before step)
-failed_as (Some s) c place step = marked_as c (Before (s place)) (Before step)
+failed_as failed c place step = grind (arith, marked_none, marked_as)
 
 -- ---- what was reached
 
@@ -58,22 +55,10 @@ last_there m front = in_order [] (m ∷ []) front (m ∷ []) refl (ap (λ (b : B
 abbrev points : ℕ → List Step → List Mark
 points c steps = map (λ (point : Point). mark_at c point) (map Before steps)
 
-reached_on : (failed : Option (ℕ → Step)) (c place : ℕ) (work : Work) (w : World) → IsReached failed place work
-    → stand_in (marks_of c failed place) (reached_since w (worked_on c work w)) ≡ true
-unfolding changed
-reached_on None c place work w r = refl
-reached_on (Some step) c place work w r =
-    let m = mark_at c (Before (step place)) in
-    let split : points c work.reached ≡ points c r.0 ++ m ∷ [] =
-    ap (points c) r.1 ∙ ap (map (λ (point : Point). mark_at c point)) (map-append Before r.0 (step place ∷ []))
-    ∙ map-append (λ (point : Point). mark_at c point) (map Before r.0) (Before (step place) ∷ []) in
-    ap (stand_in (m ∷ [])) (drop-append_seam w.reached (points c work.reached) ∙ split) ∙ last_there m (points c r.0)
-
 pub reached_by : (b : Bool) (failed : Option (ℕ → Step)) (c place : ℕ) (work : Work) (w : World) → work.goes_on ≡ b → IsReached failed place work
     → stand_in (marks_of c failed place) (reached_since w (worked c work w)) ≡ true
 unfolding worked close changed
-reached_by true failed c place work w e r = rw e (reached_on failed c place work w r)
-reached_by false failed c place work w e r = rw e (reached_on failed c place work w r)
+reached_by b failed c place work w e r = grind (arith, map-append, drop-append_seam, last_there)
 
 -- ---- of which steps it asks
 
@@ -112,31 +97,17 @@ pub record IsCalled (c : ℕ) (target : Option ℕ) (given middle : Machine) : T
 params_same : (past : Past) → (remembered past).params ≡ past.params
 params_same past = refl
 
-lawful_there : (s : Setting) (sent : ℕ → ℕ) (half : ℕ → List ℕ) (w : World) (machine : Machine) (c : ℕ) (past : Past) → c < connection_limit
-    → Serves s sent half w machine → IsAtWork w c past → IsLawful past
-lawful_there s sent half w machine c past lt h a =
-    let quiet : IsQuiet (Some a.life) = (let q = h.quiet c lt in rw a.at at q) in
-    subst IsQuietIn a.phase quiet
-
 starts : (s : Setting) (sent : ℕ → ℕ) (half : ℕ → List ℕ) (w : World) (machine : Machine) (c : ℕ) (past : Past) (state : SessionState)
     (units : UnitStates) → c < connection_limit → Serves s sent half w machine → IsAtWork w c past
     → state ≡ remembered past → units_at state.params.target machine.units ≡ units → Starts (work_of past w) state (lend units w.comings)
-starts s sent half w machine c past state units lt h a is target = record {
-  lawful = lawful_there s sent half w machine c past lt h a;
-  remembered = is;
-  units = ap (λ (us : UnitStates). lend us w.comings)
-      (ap (λ (all : List UnitStates). units_at past.params.target all) (sym (ap (λ (m : Machine). m.units) h.is ∙ units_with s sent half w))
-      ∙ ap (λ (p : SessionParams). units_at p.target machine.units) (sym (ap (λ (x : SessionState). x.params) is ∙ params_same past)) ∙ target);
-  goes_on = refl;
-}
+starts s sent half w machine c past state units lt h a is target = grind (arith, units_with)
 
 -- the units of a target that is sound
 no_units : AreSound []
 no_units i d lt = absurd (omega (arith, lt))
 
 pub lent_sound : (target : Option ℕ) (machine : Machine) → IsSound machine → AreSound (units_at target machine.units)
-lent_sound None machine sound = no_units
-lent_sound (Some target) machine sound = sound_at machine sound target
+lent_sound target machine sound = grind (arith, sound_at)
 
 -- of the session's target they are calm where it is sound, and of another one always
 pub lent_calm : (target : Option ℕ) (machine : Machine) (came : List Coming) → AreOf target came
@@ -241,10 +212,7 @@ serve_acts c frame marks place w past at = ap (λ (o : Option Past). served_by o
 pub settle_acts : (c target : ℕ) (marks : List Mark) (place : ℕ) (w : World) (past : Past) → past_of (present c w) ≡ Some past
     → past.params.target ≡ Some target → settle_one marks place target w c ≡ worked c (settled (fails marks c) place (work_of past w)) w
 unfolding settle_one
-settle_acts c target marks place w past at same =
-    ap (λ (o : Option Past). settled_by o marks place target c w) at
-    ∙ cond_true (is_same_target past.params.target (Some target)) _ w
-    (ap (λ (t : Option ℕ). is_same_target t (Some target)) same ∙ eqb_self target)
+settle_acts c target marks place w past at same = grind arith
 
 -- the one mark of a call that stopped is of its kind
 pub serve_kind : (c : ℕ) (step : ℕ → Step) → ((place : ℕ) → is_of place (step place) ≡ true) → ((place : ℕ) → is_serving (step place) ≡ true)

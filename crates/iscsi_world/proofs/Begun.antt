@@ -1,5 +1,5 @@
 -- A connection on which full feature phase has begun, or not.
-use Rattle.std.proofs.Common.{◌≡◌, ℕ, Result, Ok, Err, OnOk, OnErr, subst, sym}
+use Rattle.std.proofs.Common.{◌≡◌, ℕ, Result, OnOk, OnErr, arith}
 use Rattle.iscsi_pdu.specs.declared.answer.Answer.{Answer}
 use Rattle.iscsi_login.specs.LoginState.{IsTargetBelow}
 use Rattle.iscsi_login.specs.Values.{AreInRange}
@@ -10,5 +10,4 @@ use Rattle.iscsi_world.specs.Machine.{LinkState, begun_link, IsWithin}
 pub begun_within : {T E : Type 0} (r : Result T E) (n : ℕ) (new old : LinkState) (session : SessionParams) (answer : Answer)
     → OnOk r (new ≡ begun_link session answer old) → OnErr r (new ≡ old) → IsTargetBelow n session.target → AreInRange session.values
     → IsWithin n old.phase → IsWithin n new.phase
-begun_within (Ok end) n new old session answer ok err target values was = subst (λ (l : LinkState). IsWithin n l.phase) (sym ok) (target, values)
-begun_within (Err e) n new old session answer ok err target values was = subst (λ (l : LinkState). IsWithin n l.phase) (sym err) was
+begun_within r n new old session answer ok err target values was = grind arith

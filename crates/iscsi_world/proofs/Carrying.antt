@@ -1,20 +1,20 @@
 -- What the Task Management Functions of one session do to the rest of its target, as calls of the target.
-use Rattle.std.proofs.Common.{◌≡◌, ℕ, ◌+◌, ◌<◌, List, [], ◌∷◌, ◌++◌, ◌≤◌, length, take, get_or, Bool, true, false, not, eqb, Option, Some, None, refl, sym, ap, ◌∙◌, subst, inl, arith, cond}
+use Rattle.std.proofs.Common.{◌≡◌, ℕ, ◌+◌, ◌<◌, List, [], ◌∷◌, ◌++◌, ◌≤◌, length, take, get_or, Bool, true, false, not, eqb, Some, None, refl, sym, ap, ◌∙◌, arith}
 use Rattle.std.specs.Prelude.{◌==◌}
 use Rattle.std.specs.List.{fold, range_with_len}
-use Rattle.std.proofs.lemmas.Bool.{eq-eqb, eqb-true}
+use Rattle.std.proofs.lemmas.Bool.{eq-eqb}
 use Rattle.std.proofs.lemmas.List.{append-nil, get_or-set_other, take_all, take_more}
 use Rattle.std.proofs.lemmas.List.Sums.{fold-append}
 use Rattle.iscsi_pdu.specs.Header.{lun_field}
 use Rattle.iscsi_login.specs.Session.{is_same_target}
 use Rattle.scsi_unit.specs.Units.{UnitStates}
-use Rattle.iscsi_session.specs.Comings.{Coming, TargetUnits, lend}
+use Rattle.iscsi_session.specs.Comings.{Coming, lend}
 use Rattle.iscsi_session.specs.Requests.{Past, removing}
 use Rattle.iscsi_session.specs.State.{SessionState, Stands}
 use Rattle.iscsi_session.specs.Steps.{Work}
 use Rattle.iscsi_session.specs.Runs.{output, Starts, Leaves, Runs}
 use Rattle.iscsi_world.specs.History.{connection_limit, connections}
-use Rattle.iscsi_world.specs.World.{Setting, World, present, past_of, units_at, changed_units, work_of, worked, worked_on, function_of, reaches_others, lost, told_by, told_loss, losing, lost_by, lose_one, reset_by, reset, carry_out}
+use Rattle.iscsi_world.specs.World.{Setting, World, present, past_of, units_at, changed_units, work_of, worked, function_of, reaches_others, lost, told_by, told_loss, losing, lost_by, lose_one, reset_by, reset, carry_out}
 use Rattle.iscsi_world.specs.Machine.{Machine, KeepsApart, link_at, is_with}
 use Rattle.iscsi_world.specs.SessionCalls.{LeavesSession, LosesCommands}
 use Rattle.iscsi_world.specs.Stands.{machine_with}
@@ -22,7 +22,6 @@ use Rattle.iscsi_world.specs.Serving.{Serves, Preserves, StaysWithin, CarriesOut
 use Rattle.iscsi_world.proofs.Choices.{cond_true, cond_false}
 use Rattle.iscsi_world.proofs.Lists.{range_next}
 use Rattle.iscsi_world.proofs.Lives.{present-lives}
-use Rattle.iscsi_world.proofs.Linked.{serves_world, units_with}
 use Rattle.iscsi_world.proofs.Walks.{on-fold, on-lose_one, on-carry_out, on-carry_all}
 use Rattle.iscsi_world.proofs.Keeping.{Prolongs, goes_walk, on-reset}
 use Rattle.iscsi_world.proofs.Comings.{comings_reset}
@@ -39,22 +38,7 @@ pub losing_leaves : (header : List ℕ) (work : Work) (state then_ : SessionStat
     → Starts work state (lend units comings)
     → Stands (removing (lost header units work.past) work.past) then_ → units_then ≡ told_loss header work.past units
     → Leaves work (losing header work) then_ (output waiting []) (output waiting []) (lend units_then comings)
-losing_leaves header work state then_ waiting units units_then comings begin stands told =
-    let now : Stands (losing header work).past then_ =
-    subst (λ (us : TargetUnits). Stands (removing (lost header us.states work.past) work.past) then_) (sym begin.units) stands in
-    record {
-      lawful = now.lawful;
-      remembered = now.remembered;
-      units = ap (λ (us : TargetUnits). lend (told_loss header work.past us.states) us.comings) begin.units
-          ∙ ap (λ (us : UnitStates). lend us comings) (sym told);
-      params = refl;
-      more = [];
-      answers = sym (append-nil work.past.answers);
-      spelled = sym (append-nil waiting);
-      functions = [];
-      acted = sym (append-nil work.orders);
-      ordered = refl;
-    }
+losing_leaves header work state then_ waiting units units_then comings begin stands told = grind (arith, append-nil)
 
 pub losing_runs : (header : List ℕ) (state then_ : SessionState) (waiting : List ℕ) (units units_then : UnitStates)
     → ((past : Past) → Stands past state → Stands (removing (lost header units past) past) then_)
@@ -76,39 +60,22 @@ unfolding lose_one
 own_same header target c d w e = cond_true (eqb d c) w (lost_by (past_of (present d w)) header target d w) (eq-eqb d c e)
 
 pub loses_own : (machine : Machine) (header : List ℕ) (target c d : ℕ) → d ≡ c → CarriesOut (λ w. lose_one header target c w d) machine machine
-loses_own machine header target c d e = does_nothing is_of_none (λ s marks place w. lose_one header target c w d) kept machine machine
-    (λ s sent half w place marks agree h.
-    (serves_world s sent half w _ machine (own_same header target c d w e) h, ap (λ (v : World). v.comings) (own_same header target c d w e)))
-
-unreached : (o : Option Past) (header : List ℕ) (target d : ℕ) (w : World) → IsElsewhere target o → lost_by o header target d w ≡ w
-unreached None header target d w e = refl
-unreached (Some past) header target d w e = cond_false (is_same_target past.params.target (Some target)) _ w e
+loses_own machine header target c d e = grind (arith, does_nothing, own_same)
 
 lose_other : (header : List ℕ) (target c d : ℕ) (w : World) → IsElsewhere target (past_of (present d w)) → lose_one header target c w d ≡ w
 unfolding lose_one
-lose_other header target c d w other = by_test (eqb d c)
-  where
-    by_test : (b : Bool) → cond b w (lost_by (past_of (present d w)) header target d w) ≡ w
-    by_test true = refl
-    by_test false = unreached (past_of (present d w)) header target d w other
+lose_other header target c d w other = grind arith
 
 pub loses_none : (machine : Machine) (header : List ℕ) (target c d : ℕ) → d < connection_limit → is_with target (link_at machine d).phase ≡ false
     → CarriesOut (λ w. lose_one header target c w d) machine machine
-loses_none machine header target c d lt other = does_nothing is_of_none (λ s marks place w. lose_one header target c w d) kept machine machine
-    (λ s sent half w place marks agree h.
-    (let same = lose_other header target c d w (elsewhere s sent half w machine d target lt h other) in
-    (serves_world s sent half w _ machine same h, ap (λ (v : World). v.comings) same)))
+loses_none machine header target c d lt other = grind (arith, does_nothing, lose_other, elsewhere)
 
 -- ---- another session of the target
 
 lose_acts : (header : List ℕ) (target c d : ℕ) (w : World) (past : Past) → eqb d c ≡ false → past_of (present d w) ≡ Some past
     → past.params.target ≡ Some target → lose_one header target c w d ≡ worked d (losing header (work_of past w)) w
 unfolding lose_one worked
-lose_acts header target c d w past other at same =
-    cond_false (eqb d c) w (lost_by (past_of (present d w)) header target d w) other
-    ∙ ap (λ (o : Option Past). lost_by o header target d w) at
-    ∙ cond_true (is_same_target past.params.target (Some target)) (worked_on d (losing header (work_of past w)) w) w
-    (ap (λ (t : Option ℕ). is_same_target t (Some target)) same ∙ eq-eqb target target refl)
+lose_acts header target c d w past other at same = grind arith
 
 pub loses_called : (header : List ℕ) (target c d : ℕ) (given after : Machine) (k : IsCalled d (Some target) given after) → eqb d c ≡ false
     → LeavesSession (λ then_ waiting. LosesCommands header (units_at (Some target) given.units) (units_at (Some target) after.units) k.session then_
@@ -177,43 +144,22 @@ reset_machine header target machine =
 reset_serves : (s : Setting) (sent : ℕ → ℕ) (half : ℕ → List ℕ) (w : World) (machine : Machine) (header : List ℕ) (target : ℕ)
     → Serves s sent half w machine → Serves s sent half (reset header target w) (reset_machine header target machine)
 unfolding reset
-reset_serves s sent half w machine header target h =
-    let f = changed_units (reset_by (function_of header) (lun_field header)) (Some target) in
-    record {
-      is = ap (reset_machine header target) h.is
-          ∙ ap (λ (us : List UnitStates). let m : Machine = record (machine_with s sent half w) { units = f us } in m) (units_with s sent half w)
-          ∙ sym (machine_reset s sent half w (f w.units));
-      answered = λ d lt. rw (present-lives d (record w { units = f w.units }) w refl) (h.answered d lt);
-      quiet = λ d lt. rw (present-lives d (record w { units = f w.units }) w refl) (h.quiet d lt);
-    }
+reset_serves s sent half w machine header target h = grind (arith, machine_reset, present-lives)
 
 pub reset_does : (machine : Machine) (header : List ℕ) (target : ℕ) → CarriesOut (reset header target) machine (reset_machine header target machine)
 reset_does machine header target = does_nothing is_of_none (λ s marks place w. reset header target w) kept machine (reset_machine header target machine)
     (λ s sent half w place marks agree h. (reset_serves s sent half w machine header target h, comings_reset header target w))
 
 reset_moves : (b : ℕ) (machine : Machine) (header : List ℕ) (target : ℕ) → Preserves b None machine (reset_machine header target machine)
-reset_moves b machine header target = record {
-  alters = alters_same b machine (reset_machine header target machine) refl;
-  back = reset_back header target machine;
-  sure = reset_sure header target machine;
-  closing = tt;
-  units = reset_units header target machine;
-}
+reset_moves b machine header target = search (arith, alters_same, reset_back, reset_sure, reset_units)
 
 reset_apart : (machine : Machine) (header : List ℕ) (target t : ℕ) → is_same_target (Some target) (Some t) ≡ true
     → KeepsApart t machine (reset_machine header target machine)
 unfolding changed_units
-reset_apart machine header target t e = record {
-  links = λ d e. refl;
-  units = λ at differ. get_or-set_other machine.units target at _ [] (λ same. differ (same ∙ eqb-true target t e));
-  same = λ d e. inl e;
-}
+reset_apart machine header target t e = grind (arith, get_or-set_other)
 
 pub reset_stays : (machine : Machine) (header : List ℕ) (target : ℕ) → StaysWithin (Some target) None machine (reset_machine header target machine)
-reset_stays machine header target = record {
-  apart = λ t same. reset_apart machine header target t same;
-  moves = λ c. reset_moves c machine header target;
-}
+reset_stays machine header target = search (arith, reset_apart, reset_moves)
 
 -- ---- a function
 
@@ -231,9 +177,7 @@ carried_reset header c target given middle after reaches moves lose told =
 pub not_carried : (header : List ℕ) (c target : ℕ) (machine : Machine) → reaches_others (function_of header) ≡ false
     → CarriesOut (λ w. carry_out c target w header) machine machine
 unfolding carry_out
-not_carried header c target machine other =
-    carried_as (λ w. w) (λ w. carry_out c target w header) machine machine
-    (λ w. cond_false (reaches_others (function_of header)) _ w other) (carried_none machine)
+not_carried header c target machine other = search (arith, cond_false, carried_none)
 
 -- ---- one after the other
 
@@ -251,9 +195,7 @@ carried_next c target headers i header given middle after lt is moves so_far one
 
 pub carried_all : (c target : ℕ) (headers : List (List ℕ)) (i : ℕ) (given after : Machine) → length headers ≤ i
     → CarriesOut (λ w. fold (carry_out c target) w (take i headers)) given after → CarriesOut (λ w. fold (carry_out c target) w headers) given after
-carried_all c target headers i given after whole d =
-    carried_as (λ w. fold (carry_out c target) w (take i headers)) (λ w. fold (carry_out c target) w headers) given after
-    (λ w. ap (fold (carry_out c target) w) (sym (take_all i headers whole))) d
+carried_all c target headers i given after whole d = grind (arith, carried_as, take_all)
 
 -- ---- what a session that lost commands is told
 

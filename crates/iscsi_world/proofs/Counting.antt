@@ -1,6 +1,6 @@
 -- What the code counts of a Data-Out whose data is not needed.
-use Rattle.std.proofs.Common.{◌≡◌, ℕ, if◌then◌else◌, ◌+◌, ◌-◌, ◌<◌, ◌≤◌, List, [], ◌++◌, length, take, drop, Bool, true, false, not, Some, refl, sym, ap, ◌∙◌, subst, arith, inl, inr, append-nil, append_assoc, eq-eqb}
-use Rattle.std.proofs.lemmas.Bool.{and_from, le-leb}
+use Rattle.std.proofs.Common.{◌≡◌, ℕ, if◌then◌else◌, ◌+◌, ◌-◌, ◌<◌, ◌≤◌, List, [], ◌++◌, length, take, drop, Bool, true, false, not, Some, refl, sym, ap, ◌∙◌, subst, arith, append_assoc}
+use Rattle.std.proofs.lemmas.Bool.{le-leb}
 use Rattle.std.proofs.lemmas.List.{take-append-drop, length-take-le, length-take, length-drop, length-append, take-append-le}
 use Rattle.iscsi_pdu.specs.Header.{header_length, data_length, opcode_number, opcode_of}
 use Rattle.iscsi_pdu.specs.Segment.{most_data}
@@ -11,11 +11,10 @@ use Rattle.iscsi_pdu.specs.declared.part.Part.{Part}
 use Rattle.iscsi_pdu.specs.declared.part.Part.TheVariants as parts
 use Rattle.iscsi_pdu.specs.declared.header.Opcode.TheVariants as opcodes
 use Rattle.iscsi_pdu.proofs.Fields.{not_long}
-use Rattle.iscsi_pdu.proofs.Cuts.{data_length-append, frame_length-append, data_length-take}
+use Rattle.iscsi_pdu.proofs.Cuts.{data_length-append, frame_length-append}
 use Rattle.iscsi_pdu.proofs.DataOuts.{Alike, alike_frame, alike_framed, alike_data_length, alike_more, is_data_out-header, is_data_out-more, shown_alike, has_frame-short}
-use Rattle.iscsi_pdu.proofs.Frames.{has_frame-true}
 use Rattle.iscsi_world.specs.History.{arrivals}
-use Rattle.iscsi_world.specs.Life.{Life, Phase, LoggingIn, FullFeature, Closing, Over}
+use Rattle.iscsi_world.specs.Life.{Life, Phase}
 use Rattle.iscsi_world.specs.World.{longer}
 use Rattle.iscsi_world.specs.HalfRead.{out_in, IsCounted, NeedsNot, CanCount, CountsPiece}
 use Rattle.iscsi_world.specs.Machine.{LinkState, is_reading}
@@ -24,32 +23,17 @@ use Rattle.iscsi_world.specs.declared.phase.Phase as code
 use Rattle.iscsi_transfer.specs.Counted.{brought}
 use Rattle.iscsi_world.specs.Stands.{phase_for, needs_in, IsHalf, IsQuietIn}
 use Rattle.iscsi_world.proofs.Taking.{none_whole}
-use Rattle.iscsi_world.proofs.HalfRead.{like, counted, out_head, alike_long, long_more, IsUnneeded}
+use Rattle.iscsi_world.proofs.HalfRead.{like, counted, alike_long, long_more, IsUnneeded}
 
 -- ---- as the code counts
-
-opcode_is : (n : ℕ) → opcode_of n ≡ opcodes.DataOut → n ≡ 0x05
-opcode_is n is = grind arith
 
 pub can_count_by : (framer header waiting : List ℕ) (phase : code.Phase) (more : ℕ) → is_reading phase ≡ true → header_length ≤ length framer
     → header ≡ take header_length framer → opcode_of (opcode_number header) ≡ opcodes.DataOut → data_length header ≤ most_data
     → 0 < more → more < wanted framer → NeedsNot phase (brought header (data_length header))
     → CanCount (record { half = if is_reading phase then framer else []; phase = phase; waiting = waiting }) more
 unfolding is_data_out missing
-can_count_by framer header waiting phase more reads_ whole is opcode short some few unneeded = rw reads_ (record {
-  out = data_out_by framer whole (ap opcode_number (sym is) ∙ opcode_is (opcode_number header) opcode);
-  short = not_long framer header is short;
-  part = part_by framer more whole some few;
-  unneeded = subst (λ (n : ℕ). NeedsNot phase (brought (take header_length framer) n)) (data_length-take framer)
-      (subst (λ (h : List ℕ). NeedsNot phase (brought h (data_length h))) is unneeded);
-})
-  where
-    data_out_by : (framer : List ℕ) → header_length ≤ length framer → opcode_number (take header_length framer) ≡ 0x05 → is_data_out framer ≡ true
-    data_out_by framer whole opcode =
-        out_head framer whole ∙ and_from _ _ (le-leb _ _ (let l = length-take-le header_length framer whole in omega (arith, l))) (eq-eqb _ _ opcode)
-
-    part_by : (framer : List ℕ) (more : ℕ) → header_length ≤ length framer → 0 < more → more < wanted framer → length framer + more < frame_length framer
-    part_by framer more whole some few = grind arith
+can_count_by framer header waiting phase more reads_ whole is opcode short some few unneeded =
+    grind (arith, not_long, le-leb)
 
 counted_then : (x y z : List ℕ) → IsCounted x y → IsCounted y z → IsCounted x z
 counted_then x y z a b = record { out = b.out; header = a.header ∙ b.header; long = a.long ∙ b.long }
@@ -79,21 +63,7 @@ counts_more x bytes piece after used (parts.Data header lent) k fits some takes 
 counts_more x bytes piece after used (parts.Frame frame) k fits some takes =
     absurd (cc (takes.brings.other, is_data_out-more x (take used piece) (like x bytes k).out_a))
 counts_more x bytes piece after used (parts.End header) k fits some takes =
-    let a = like x bytes k in
-    let whole = (has_frame-true (x ++ take used piece) takes.brings.whole).whole in
-    absurd (omega (
-      arith,
-      whole,
-      fits,
-      k.long,
-      length-append x (take used piece),
-      length-take used piece,
-      frame_length-append x (take used piece) (is_data_out-header x a.out_a),
-      alike_framed x bytes a,
-    ))
-
-pub counts_first : (bytes piece : List ℕ) → is_data_out bytes ≡ true → IsCounted bytes (bytes ++ take 0 piece)
-counts_first bytes piece out = rw (append-nil bytes) (record { out = out; header = refl; long = refl })
+    grind (arith, like, length-append, length-take, frame_length-append, is_data_out-header, alike_framed)
 
 -- ---- a piece that is counted
 
@@ -112,14 +82,10 @@ counted_none piece old new k =
 
 not_needed : (directory : KnownTargets) (life : Life) (phase : Phase) (out : Frame) → NeedsNot (phase_for directory life phase) out → IsQuietIn phase
     → needs_in phase out ≡ false
-not_needed directory life LoggingIn out none quiet = refl
-not_needed directory life (FullFeature session) out none quiet = none session (record { lawful = quiet; remembered = refl })
-not_needed directory life Closing out none quiet = refl
-not_needed directory life Over out none quiet = refl
+not_needed directory life phase out none quiet = grind arith
 
 like_half : (life : Life) (half : List ℕ) → is_data_out half ≡ true → IsHalf (Some life) half → IsCounted half (rest life.bytes)
-like_half life half out (inl all) = rw (← all) (record { out = out; header = refl; long = refl })
-like_half life half out (inr k) = k.1
+like_half life half out kept = grind arith
 
 -- what a connection has of a piece that it counted
 pub counted_fed : (directory : KnownTargets) (life : Life) (piece : List ℕ) (old new : LinkState) → old.phase ≡ phase_for directory life life.phase
@@ -137,13 +103,11 @@ counted_fed directory life piece old new phase quiet kept k =
       alike = like new.half (bytes ++ piece) (counted_then new.half (old.half ++ piece) (bytes ++ piece) k.counted longer_);
       none = still_part bytes piece a.out_b (let part = k.can.part in omega (arith, part, half.long, alike_framed old.half bytes a));
       short = long_more bytes piece front ∙ sym (alike_long old.half bytes a) ∙ k.can.short;
-      unneeded = ap (needs_in life.phase) out ∙ not_needed directory life life.phase (out_in old.half)
-          (subst (λ (p : code.Phase). NeedsNot p (out_in old.half)) phase k.can.unneeded) quiet;
+      unneeded = grind arith;
     }
 
 pub not_true : (b : Bool) → not b ≡ true → b ≡ false
-not_true false is = refl
-not_true true is = absurd cc
+not_true b is = grind arith
 
 -- ---- as much as came is counted
 
@@ -162,22 +126,15 @@ module _ (framer piece x : List ℕ) (done : ℕ) (out : is_data_out framer ≡ 
   same_frame = frame_length-append framer (take done piece) (is_data_out-header framer out)
 
   pub counts_one : HoldsOne x
-  counts_one =
-      let a = like x (framer ++ take done piece) k in
-      record {
-        lent = λ e. omega (arith, part, within, so_far, same_frame, k.long, alike_framed x (framer ++ take done piece) a);
-        kept = λ e. absurd (cc (e, a.out_a));
-      }
+  counts_one = grind (arith, like, so_far, same_frame, alike_framed)
 
   pub counts_on : (used : ℕ) (given : Part) (after : List ℕ) → done < length piece → Takes x (take (length piece - done) (drop done piece)) used given after
       → IsCounted after (framer ++ take (done + used) piece) × (0 < used) × (done + used ≤ length piece)
   counts_on used given after more takes =
       let bytes : List ℕ = framer ++ take done piece in
       let left = length-drop done piece in
-      let whole : take (length piece - done) (drop done piece) ≡ drop done piece =
-      ap (λ (n : ℕ). take n (drop done piece)) (sym left) ∙ take-length (drop done piece) in
+      let whole : take (length piece - done) (drop done piece) ≡ drop done piece = grind (arith, take-length) in
       let on = counts_more x bytes (drop done piece) after used given k (omega (arith, part, within, so_far, same_frame, left)) (omega (arith, left, more))
       (subst (λ (l : List ℕ). Takes x l used given after) whole takes) in
-      let same : bytes ++ take used (drop done piece) ≡ framer ++ take (done + used) piece =
-      append_assoc framer (take done piece) (take used (drop done piece)) ∙ ap (λ (l : List ℕ). framer ++ l) (sym (take_more piece done used within)) in
+      let same : bytes ++ take used (drop done piece) ≡ framer ++ take (done + used) piece = grind (arith, append_assoc, take_more) in
       (subst (IsCounted after) same on.0, on.1, (let few = on.2 in omega (arith, few, left, more)))

@@ -1,5 +1,5 @@
 -- Calls one after the other: what each of them does, and what they do together.
-use Rattle.std.proofs.Common.{◌≡◌, ℕ, List, [], ◌∷◌, ◌++◌, length, Bool, true, Option, Some, None, refl, sym, ap, ◌∙◌, subst, append_assoc, arith}
+use Rattle.std.proofs.Common.{◌≡◌, ℕ, List, [], ◌∷◌, ◌++◌, length, Bool, true, Option, None, refl, sym, ap, ◌∙◌, subst, append_assoc, arith}
 use Rattle.std.specs.Prelude.{drop}
 use Rattle.std.specs.List.{list_all}
 use Rattle.std.proofs.Math.Seq.{drop-append_seam}
@@ -23,9 +23,7 @@ Halves = (ℕ → List ℕ) → ℕ → List ℕ
 -- ---- which connection was closed first
 
 pub begins_both : (a b : Option ℕ) (xs ys : List Mark) → Begins a xs → Begins b ys → Begins (first_of a b) (xs ++ ys)
-begins_both None b xs ys none h = subst (λ (l : List Mark). Begins b (l ++ ys)) (sym none) h
-begins_both (Some c) b [] ys h g = absurd h
-begins_both (Some c) b (m ∷ xs) ys h g = h
+begins_both a b xs ys none h = grind arith
 
 -- ---- what was reached, one after the other
 
@@ -51,12 +49,7 @@ since w v g = ap (drop (length w.reached)) g.reached.1 ∙ drop-append_seam w.re
 -- in one World, and then in the next
 pub reached_both : (a b : List Mark) (w v u : World) → Prolongs w v → Prolongs v u → stand_in a (reached_since w v) ≡ true → stand_in b (reached_since v u) ≡ true
     → stand_in (a ++ b) (reached_since w u) ≡ true
-reached_both a b w v u first second h g =
-    let behind = first.reached.0 ++ second.reached.0 in
-    let whole : u.reached ≡ w.reached ++ behind = second.reached.1 ∙ ap (λ (l : List Mark). l ++ second.reached.0) first.reached.1
-    ∙ append_assoc w.reached first.reached.0 second.reached.0 in
-    ap (stand_in (a ++ b)) (ap (drop (length w.reached)) whole ∙ drop-append_seam w.reached behind)
-    ∙ in_order a b first.reached.0 second.reached.0 (ap (stand_in a) (sym (since w v first)) ∙ h) (ap (stand_in b) (sym (since v u second)) ∙ g)
+reached_both a b w v u first second h g = grind (arith, append_assoc, drop-append_seam, in_order)
 
 -- ---- one call
 
@@ -96,10 +89,7 @@ does_as kind act other halves starved given after same d = does_from d d.of_kind
 
 pub does_on : (kind : ℕ → Mark → Bool) (act : Act) (halves : Halves) (starved : Option ℕ) (a b given after : Machine) → a ≡ given → b ≡ after
     → ActsAs kind act halves starved a b → ActsAs kind act halves starved given after
-does_on kind act halves starved a b given after e f d =
-    let P : Machine → Type 0 = λ m. ActsAs kind act halves starved m after in
-    let Q : Machine → Type 0 = λ m. ActsAs kind act halves starved a m in
-    subst P e (subst Q f d)
+does_on kind act halves starved a b given after e f d = grind arith
 
 pub does_starved : (kind : ℕ → Mark → Bool) (act : Act) (halves : Halves) (a b : Option ℕ) (given after : Machine) → a ≡ b
     → ActsAs kind act halves a given after → ActsAs kind act halves b given after

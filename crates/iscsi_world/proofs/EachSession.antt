@@ -1,12 +1,10 @@
 -- What is true of each session and kept by each step of it is true whatever has happened.
-use Rattle.std.proofs.Common.{◌≡◌, ◌≢◌, ℕ, ◌+◌, List, [], ◌∷◌, ◌++◌, Bool, true, false, cond, Option, Some, None, refl, sym, ap, ◌∙◌, subst, inl, inr}
+use Rattle.std.proofs.Common.{◌≡◌, ◌≢◌, ℕ, List, [], ◌∷◌, ◌++◌, Bool, true, false, cond, Option, Some, refl, sym, ap, ◌∙◌, subst, arith}
 use Rattle.std.specs.List.{AllByRecursion, fold}
-use Rattle.std.proofs.lemmas.Bool.Decides.{eqb_tells}
 use Rattle.iscsi_pdu.specs.Frames.{Frame}
 use Rattle.iscsi_pdu.specs.declared.answer.Answer.{Answer}
 use Rattle.iscsi_pdu.specs.declared.answer.Answer.TheVariants as answers
 use Rattle.iscsi_login.specs.Session.{is_same_target, older}
-use Rattle.iscsi_login.specs.Login.{login}
 use Rattle.iscsi_login.specs.declared.session_params.SessionParams.{SessionParams}
 use Rattle.iscsi_login.specs.declared.reply.Reply.{Reply}
 use Rattle.iscsi_login.specs.declared.reply.Reply.TheVariants.{GoOn, Full, Refused}
@@ -14,10 +12,10 @@ use Rattle.iscsi_session.specs.Requests.{Past, begun as begun_past}
 use Rattle.iscsi_session.specs.Steps.{Work, served, settled}
 use Rattle.iscsi_world.specs.History.{Event, Open, Bytes, Gone, Mark, History}
 use Rattle.iscsi_world.specs.Life.{Life, Closing, born, past_in, ended_in}
-use Rattle.iscsi_world.specs.World.{Setting, World, present, changed, past_of, live, close, reaching, end, answered, asked, begun, begins, requests_of, lookup_for, end_older, replied, log_in, work_of, fails, with_past, worked_on, worked, losing, reset, serve, brought, longer, bring, happen, begun_event, happened, new_world, world}
+use Rattle.iscsi_world.specs.World.{Setting, World, present, changed, past_of, live, close, reaching, end, answered, begun, begins, end_older, replied, log_in, work_of, fails, with_past, worked_on, worked, losing, reset, serve, brought, longer, bring, happen, begun_event, happened, new_world, world}
 use Rattle.iscsi_world.specs.Laws.{HasBytes}
 use Rattle.iscsi_world.proofs.Framed.{AreBytes, Fits, IsFramed, bytes_joined, new_framed}
-use Rattle.iscsi_world.proofs.Lives.{IsPlaced, open_placed, ended_placed, answered_placed, asked_placed, begun_placed, worked_placed, longer_placed, present-was, present-changed_other, present-lives, present-end, present-end_other, found_born, changed_twice}
+use Rattle.iscsi_world.proofs.Lives.{IsPlaced, open_placed, ended_placed, answered_placed, begun_placed, worked_placed, longer_placed, present-was, present-changed_other, present-lives, present-end, present-end_other, found_born, changed_twice}
 use Rattle.iscsi_world.proofs.Walks.{Walk, EventWalk, on-brought}
 
 -- its bytes are bytes, and this is so of its session, where it has one
@@ -29,8 +27,7 @@ abbrev pub Each : (ℕ → Past → Type 0) → World → Type 0
 Each Q w = (d : ℕ) (life : Life) → present d w ≡ Some life → Has (Q d) life
 
 has_past : (Q : ℕ → Past → Type 0) (c : ℕ) (w : World) (past : Past) (o : Option Life) → present c w ≡ o → Each Q w → past_of o ≡ Some past → Q c past
-has_past Q c w past None at each is = absurd cc
-has_past Q c w past (Some life) at each is = (each c life at).1 past is
+has_past Q c w past o at each is = grind arith
 
 pub each_past : (Q : ℕ → Past → Type 0) (c : ℕ) (w : World) (past : Past) → Each Q w → past_of (present c w) ≡ Some past → Q c past
 each_past Q c w past each is = has_past Q c w past (present c w) refl each is
@@ -53,13 +50,7 @@ same_past x y e = cc
 -- R is so before something is done to connection c, and Q after it
 module _ (R Q : ℕ → Past → Type 0) (c : ℕ) (w : World) (others : (d : ℕ) (past : Past) → d ≢ c → R d past → Q d past) (each : Each R w) where
   pub each_put : (f : Life → Life) → IsPlaced f → ((life : Life) → Has (R c) life → Has (Q c) (f life)) → Each Q (changed f c w)
-  each_put f placed here d life at = elim (eqb_tells d c) [
-    | inl same ↦ (
-        let was = present-was f c w life placed (ap (λ (k : ℕ). present k (changed f c w)) (sym same.1) ∙ at) in
-        subst (λ (k : ℕ). Has (Q k) life) (sym same.1) (subst (Has (Q c)) was.2 (here was.0 (each c was.0 was.1))))
-    | inr differ ↦ (
-        let h = each d life (sym (present-changed_other f c d w placed.on differ.1) ∙ at) in (h.0, λ past is. others d past differ.1 (h.1 past is)))
-  ]
+  each_put f placed here d life at = grind (arith, present-was, present-changed_other)
 
   pub each_worked_on : (work : Work) → Q c work.past → Each Q (worked_on c work w)
   each_worked_on work known = each_lives Q (changed (with_past work.past) c w) (worked_on c work w) refl
@@ -91,8 +82,7 @@ module _ (Q : ℕ → Past → Type 0) where
   each_close c w each = each_lives Q (changed (ended_in Closing) c w) (close c w) refl (each_ended c w each)
 
   each_older : (o : Option ℕ) (w : World) → Each Q w → Each Q (end_older o w)
-  each_older None w each = each
-  each_older (Some d) w each = each_ended d w each
+  each_older o w each = grind (arith, each_ended)
 
   each_answered : (answer : Answer) (c : ℕ) (w : World) → Each Q w → Each Q (changed (answered answer) c w)
   each_answered answer c w each = each_changed (answered answer) c w (answered_placed answer) (λ life h. h) each
@@ -111,9 +101,7 @@ module _ (Q : ℕ → Past → Type 0) where
   each_logs_in : (s : Setting) (c : ℕ) (request : Frame) (w : World) → ((session : SessionParams) → Q c (begun_past session)) → Each Q w
       → Each Q (log_in s c request w)
   unfolding log_in
-  each_logs_in s c request w new each =
-      each_replied (login (c + 1) (requests_of (present c w)) (lookup_for s.directory (live w) request) request) c (changed (asked request) c w) new
-      (each_changed (asked request) c w (asked_placed request) (λ life h. h) each)
+  each_logs_in s c request w new each = grind (arith, each_replied, each_changed)
 
   each_reset : (header : List ℕ) (target : ℕ) (w : World) → Each Q w → Each Q (reset header target w)
   unfolding reset
@@ -144,16 +132,10 @@ module _ (Q : ℕ → Past → Type 0) where
 
   each_open : (c : ℕ) (w : World) → Each Q w → Each Q (record w { lives = w.lives ++ born c ∷ [] })
   unfolding present
-  each_open c w each d life at = elim (found_born c d w.lives life at) [
-    | inl before ↦ each d life before
-    | inr new ↦ subst (Has (Q d)) new (tt, λ past is. absurd cc)
-  ]
+  each_open c w each d life at = grind (arith, found_born)
 
   each_end : (c : ℕ) (w : World) → Each Q w → Each Q (end c w)
-  each_end c w each d life at = elim (eqb_tells d c) [
-    | inl same ↦ absurd (cc (ap (λ (k : ℕ). present k (end c w)) same.1, present-end c w, at))
-    | inr differ ↦ each d life (sym (present-end_other c d w differ.1) ∙ at)
-  ]
+  each_end c w each d life at = grind (arith, present-end, present-end_other)
 
   each_longer : (c : ℕ) (piece : List ℕ) (w : World) → AreBytes piece → Each Q w → Each Q (changed (longer piece) c w)
   each_longer c piece w bytes each =
@@ -161,8 +143,7 @@ module _ (Q : ℕ → Past → Type 0) where
 
   brought_framed : (o : Option Life) (c : ℕ) (w : World) (piece : List ℕ) → present c w ≡ o → Each Q w → AreBytes piece
       → AllByRecursion IsFramed (brought o piece)
-  brought_framed None c w piece at each bytes = tt
-  brought_framed (Some life) c w piece at each bytes = new_framed life.bytes piece (each c life at).0 bytes
+  brought_framed o c w piece at each bytes = grind (arith, new_framed)
 
   -- where a new session has it, and a frame of a session keeps it
   module _ (s : Setting) (new : (c : ℕ) (session : SessionParams) → Q c (begun_past session))

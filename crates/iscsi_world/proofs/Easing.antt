@@ -1,5 +1,5 @@
 -- What an event of one connection does to the others makes none of their data needed.
-use Rattle.std.proofs.Common.{◌≡◌, ◌≢◌, ℕ, ◌+◌, List, [], ◌∷◌, if◌then◌else◌, Bool, true, false, Option, Some, None, refl, sym, ap, ◌∙◌, subst, inl, inr}
+use Rattle.std.proofs.Common.{◌≡◌, ◌≢◌, ℕ, List, [], ◌∷◌, if◌then◌else◌, Bool, true, false, Option, Some, None, refl, sym, ap, ◌∙◌, subst, inl, inr, arith}
 use Rattle.std.specs.List.{AllByRecursion, fold}
 use Rattle.std.proofs.lemmas.Bool.{false≢true}
 use Rattle.std.proofs.lemmas.Bool.Decides.{eqb_tells}
@@ -7,17 +7,16 @@ use Rattle.iscsi_pdu.specs.Frames.{Frame}
 use Rattle.iscsi_login.specs.declared.reply.Reply.{Reply}
 use Rattle.iscsi_login.specs.declared.reply.Reply.TheVariants.{GoOn, Full, Refused}
 use Rattle.iscsi_login.specs.Session.{older}
-use Rattle.iscsi_login.specs.Login.{login}
 use Rattle.iscsi_pdu.specs.declared.answer.Answer.TheVariants as answers
 use Rattle.iscsi_session.specs.Requests.{Past}
-use Rattle.iscsi_session.specs.Steps.{Work, served, settled}
+use Rattle.iscsi_session.specs.Steps.{Work, settled}
 use Rattle.iscsi_session.specs.Needed.{is_needed}
 use Rattle.iscsi_session.proofs.Needed.{others_need_no_data}
 use Rattle.iscsi_world.specs.History.{Mark, Point, AtEnd, Arrival, Whole, TooLong}
-use Rattle.iscsi_world.specs.Life.{Life, Phase, LoggingIn, FullFeature, Closing, Over, past_in, ended_in}
-use Rattle.iscsi_world.specs.World.{Setting, World, present, changed, past_of, live, close, reaching, answered, asked, begun, begins, requests_of, lookup_for, end_older, replied, log_in, work_of, fails, with_past, worked_on, worked, losing, lost, reset, take_step, arrive}
-use Rattle.iscsi_world.specs.Stands.{needs_in, needs}
-use Rattle.iscsi_world.proofs.Lives.{present-changed_none, present-changed_other, present-placed, present-lives, ended_placed, worked_placed}
+use Rattle.iscsi_world.specs.Life.{Life, Closing, ended_in}
+use Rattle.iscsi_world.specs.World.{Setting, World, present, changed, past_of, live, close, reaching, answered, begun, begins, end_older, replied, log_in, work_of, fails, with_past, worked_on, worked, losing, lost, reset, take_step, arrive}
+use Rattle.iscsi_world.specs.Stands.{needs}
+use Rattle.iscsi_world.proofs.Lives.{present-changed_none, present-changed_other, present-placed, present-lives, worked_placed}
 use Rattle.iscsi_world.proofs.Linked.{present-close, present-close_other, present-reaching}
 use Rattle.iscsi_world.proofs.Walks.{Walk, EventWalk, IsAny, KnownArrival, on-serve, on-brought}
 use Rattle.iscsi_world.proofs.Working.{present_worked_other}
@@ -30,15 +29,8 @@ abbrev needs_by : Option Past → Frame → Bool
 needs_by None out = false
 needs_by (Some past) out = is_needed past out
 
-phase_needs : (phase : Phase) (out : Frame) → needs_in phase out ≡ needs_by (past_in phase) out
-phase_needs LoggingIn out = refl
-phase_needs (FullFeature session) out = refl
-phase_needs Closing out = refl
-phase_needs Over out = refl
-
 past_needs : (life : Option Life) (out : Frame) → needs life out ≡ needs_by (past_of life) out
-past_needs None out = refl
-past_needs (Some life) out = phase_needs life.phase out
+past_needs life out = grind arith
 
 -- ---- one connection changes
 
@@ -47,11 +39,7 @@ same_others c w v same = λ d out differ some. sym (ap (λ (o : Option Life). ne
 
 worked_other : (c d : ℕ) (work : Work) (w : World) → d ≢ c → present d (worked c work w) ≡ present d w
 unfolding worked
-worked_other c d work w differ = by_end work.goes_on
-  where
-    by_end : (b : Bool) → present d (if b then worked_on c work w else close c (worked_on c work w)) ≡ present d w
-    by_end true = present_worked_other w c d work differ
-    by_end false = present-close_other c d (worked_on c work w) differ ∙ present_worked_other w c d work differ
+worked_other c d work w differ = grind (arith, present_worked_other, present-close_other)
 
 -- one that is closed needs none
 closed_needs : (c : ℕ) (w : World) (out : Frame) (o : Option Life) → present c w ≡ o → needs (present c (close c w)) out ≡ false
@@ -92,14 +80,7 @@ module _ (s : Setting) (marks : List Mark) (c : ℕ) where
 
   settles_eases : (d target place : ℕ) (past : Past) (w : World) → past_of (present d w) ≡ Some past
       → Eases c w (worked d (settled (fails marks d) place (work_of past w)) w)
-  settles_eases d target place past w at = λ e out differ some. elim (eqb_tells e d) [
-    | inl same ↦
-        let after = worked_needs d (settled (fails marks d) place (work_of past w)) w out
-        (subst (λ (k : ℕ). needs (present k (worked d (settled (fails marks d) place (work_of past w)) w)) out ≡ true) same.1 some) in
-        subst (λ (k : ℕ). needs (present k w) out ≡ true) (sym same.1)
-        (needed_there d past w out at (others_need_no_data.settled (fails marks d) place out (work_of past w) after))
-    | inr other ↦ ap (λ (o : Option Life). needs o out) (sym (worked_other d e (settled (fails marks d) place (work_of past w)) w other.1)) ∙ some
-  ]
+  settles_eases d target place past w at = grind (arith, worked_needs, others_need_no_data, worked_other)
 
   loses_eases : (d : ℕ) (past : Past) (header : List ℕ) (w : World) → past_of (present d w) ≡ Some past
       → Eases c w (worked_on d (losing header (work_of past w)) w)
@@ -120,9 +101,7 @@ module _ (s : Setting) (marks : List Mark) (c : ℕ) where
   serve_walk = record {
     same = λ w. (λ d out differ some. some);
     then_ = then_eases;
-    serves = λ d past frame place w at here. subst (λ (k : ℕ). Eases k w (worked d (served (fails marks d) place frame (work_of past w)) w)) here
-        (same_others d w (worked d (served (fails marks d) place frame (work_of past w)) w)
-        (λ e differ. worked_other d e (served (fails marks d) place frame (work_of past w)) w differ));
+    serves = grind (arith, worked_other);
     settles = λ d target past place w at same own. settles_eases d target place past w at;
     loses = λ d target past header w at same own. loses_eases d past header w at;
     resets = λ header target w own. resets_eases header target w;
@@ -130,24 +109,12 @@ module _ (s : Setting) (marks : List Mark) (c : ℕ) where
 
   -- an older session ends
   ends_eases : (o : Option ℕ) (w : World) → Eases c w (end_older o w)
-  ends_eases None w = λ d out differ some. some
-  ends_eases (Some e) w = λ d out differ some. elim (eqb_tells d e) [
-    | inl same ↦ absurd (false≢true (sym (ended_needs e w out (present e w) refl)
-        ∙ subst (λ (k : ℕ). needs (present k (changed (ended_in Closing) e w)) out ≡ true) same.1 some))
-    | inr other ↦ ap (λ (o : Option Life). needs o out) (sym (present-changed_other (ended_in Closing) e d w (λ life. refl) other.1)) ∙ some
-  ]
-    where
-      ended_needs : (e : ℕ) (w : World) (out : Frame) (o : Option Life) → present e w ≡ o → needs (present e (changed (ended_in Closing) e w)) out ≡ false
-      ended_needs e w out None at = ap (λ (o : Option Life). needs o out) (present-changed_none (ended_in Closing) e w at)
-      ended_needs e w out (Some life) at = ap (λ (o : Option Life). needs o out) (present-placed (ended_in Closing) ended_placed e w life at)
+  ends_eases o w = grind (arith, present-changed_other, present-changed_none, present-placed)
 
   replied_eases : (reply : Reply) (w : World) → Eases c w (replied reply c w)
   replied_eases (GoOn response) w = same_others c w _
       (λ d differ. present-changed_other (answered (answers.LoginResponse response)) c d w (λ life. refl) differ)
-  replied_eases (Refused response) w =
-      let v = changed (answered (answers.LoginResponse response)) c w in
-      same_others c w (close c v) (λ d differ. present-close_other c d v differ
-      ∙ present-changed_other (answered (answers.LoginResponse response)) c d w (λ life. refl) differ)
+  replied_eases (Refused response) w = grind (arith, present-close_other, present-changed_other)
   replied_eases (Full response session) w =
       let v = begins session (answers.LoginResponse response) c w in
       then_eases w v (end_older (older session (live w)) v)
@@ -157,20 +124,10 @@ module _ (s : Setting) (marks : List Mark) (c : ℕ) where
 
   log_in_eases : (request : Frame) (w : World) → Eases c w (log_in s c request w)
   unfolding log_in
-  log_in_eases request w =
-      let v = changed (asked request) c w in
-      then_eases w v (log_in s c request w) (same_others c w v (λ d differ. present-changed_other (asked request) c d w (λ life. refl) differ))
-      (replied_eases (login (c + 1) (requests_of (present c w)) (lookup_for s.directory (live w) request) request) v)
+  log_in_eases request w = grind (arith, present-changed_other, replied_eases)
 
   eases_walk : EventWalk s marks c (Eases c) IsHere
-  eases_walk = record {
-    same = λ w. (λ d out differ some. some);
-    then_ = then_eases;
-    closes = λ w. same_others c w (close c w) (λ d differ. present-close_other c d w differ);
-    reaches = λ points w. same_others c w (reaching c points w) (λ d differ. present-reaching d c points w);
-    logs_in = λ request life w at is. log_in_eases request w;
-    serves = λ place frame life session w at is here. on-serve serve_walk c place session.params.target frame w here (λ target own. tt);
-  }
+  eases_walk = grind (arith, present-close_other, present-reaching, log_in_eases, on-serve, serve_walk)
 
   all_here : (all : List (ℕ × Arrival)) → AllByRecursion (KnownArrival IsHere c) all
   all_here [] = tt
@@ -181,6 +138,4 @@ module _ (s : Setting) (marks : List Mark) (c : ℕ) where
   arrivals_ease w all = on-brought eases_walk w all (all_here all)
 
   pub closing_eases : (points : List Point) (w : World) → Eases c w (close c (reaching c points w))
-  closing_eases points w =
-      let v = reaching c points w in
-      then_eases w v (close c v) (eases_walk.reaches points w) (eases_walk.closes v)
+  closing_eases points w = grind (arith, eases_walk)

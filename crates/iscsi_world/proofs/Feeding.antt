@@ -1,8 +1,7 @@
 -- A whole event of bytes keeps the code where the World is.
-use Rattle.std.proofs.Common.{◌≡◌, ◌≢◌, ℕ, ◌+◌, ◌<◌, ◌≤◌, ◌⊎◌, List, [], ◌∷◌, ◌++◌, length, drop, Bool, true, false, Option, Some, None, refl, sym, ap, ◌∙◌, subst, arith, inl, inr}
+use Rattle.std.proofs.Common.{◌≡◌, ◌≢◌, ℕ, ◌+◌, ◌<◌, ◌≤◌, List, [], ◌∷◌, ◌++◌, length, Bool, true, false, Option, Some, None, refl, sym, ap, ◌∙◌, subst, arith, inl, inr}
 use Rattle.std.specs.Prelude.{All, Result, Ok, Err, OnOk, IfErr}
 use Rattle.std.specs.List.{fold, enumerate_from}
-use Rattle.std.proofs.lemmas.Bool.{false≢true}
 use Rattle.std.proofs.lemmas.Bool.Decides.{eqb_tells}
 use Rattle.std.proofs.lemmas.List.{append-nil, get_or-set_same, set-set, drop_all}
 use Rattle.std.proofs.lemmas.List.FromFn.{length-enumerate_from}
@@ -11,27 +10,26 @@ use Rattle.iscsi_pdu.proofs.Cuts.{rest_in_pieces}
 use Rattle.scsi_unit.specs.Units.{UnitStates, AreSound}
 use Rattle.iscsi_session.specs.Comings.{Coming, AreAhead, ArePlain, IsCalm}
 use Rattle.iscsi_session.proofs.Came.{plain_ahead, ahead_self}
-use Rattle.iscsi_world.specs.History.{Bytes, Arriving, AtEnd, Point, Mark, History, Arrival, arrivals, new_arrivals, happening, plain, marked, connection_limit}
+use Rattle.iscsi_world.specs.History.{Bytes, Arriving, AtEnd, Point, Mark, History, Arrival, arrivals, new_arrivals, plain, marked, connection_limit}
 use Rattle.iscsi_world.specs.Life.{Life, reads}
 use Rattle.iscsi_world.specs.World.{Setting, World, present, changed, reads_life, is_marked, close, reaching, take_step, arrive, brought, longer, bring, begun_event, world}
-use Rattle.iscsi_world.specs.Machine.{LinkState, Machine, IsSound, IsSoundAt, WhereSound, Feeds, link_at, with_link, closed, is_reading, is_open_at, free_link, shut_link}
-use Rattle.iscsi_world.specs.HalfRead.{out_in, IsCounted, CountsPiece, KeepsPiece, KeepsPieceAt}
-use Rattle.iscsi_world.specs.Stands.{link_of, needs_in, needs, IsHalf, IsQuiet, IsShort, IsStarved, StandsAt, Stands, StandsAfter, stand_in, are_reached, Begins}
+use Rattle.iscsi_world.specs.Machine.{LinkState, Machine, IsSound, IsSoundAt, WhereSound, Feeds, link_at, with_link, closed, is_reading, is_open_at}
+use Rattle.iscsi_world.specs.HalfRead.{KeepsPiece, KeepsPieceAt}
+use Rattle.iscsi_world.specs.Stands.{link_of, needs, IsHalf, IsQuiet, IsShort, IsStarved, StandsAt, Stands, StandsAfter, stand_in, are_reached, Begins}
 use Rattle.iscsi_world.specs.Serving.{Serves, first_starved, with_half, is_among, reached_since, TakesAll}
 use Rattle.iscsi_world.specs.declared.fault.Starved.{Starved}
 use Rattle.iscsi_world.proofs.Arrivals.{new_is}
 use Rattle.iscsi_world.proofs.Moving.{own_self, changes_feeds}
 use Rattle.iscsi_world.proofs.Reflected.{sound_back}
-use Rattle.iscsi_world.proofs.Choices.{cond_true}
 use Rattle.iscsi_world.proofs.Marks.{mark_at, marked_one, marked_none, unmarked}
 use Rattle.iscsi_world.proofs.Walks.{any_arrivals, on-arrivals}
 use Rattle.iscsi_world.proofs.Keeping.{Prolongs, Stays, goes, on-close, on-reaching, on-then, on-same}
 use Rattle.iscsi_world.proofs.Linked.{reads_there, some_reads, closes, present-close, serves_as, serves_reaching, present-reaching}
 use Rattle.iscsi_world.proofs.Comings.{comings_changed}
-use Rattle.iscsi_world.proofs.Fed.{piece_came, came_here, came_other, longer_serves, fed_of, fed_arrivals, fed_left, short_of, half_after}
+use Rattle.iscsi_world.proofs.Fed.{piece_came, came_here, came_other, longer_serves, fed_of, fed_arrivals, fed_left, short_of}
 use Rattle.iscsi_world.proofs.Counting.{counted_none}
 use Rattle.iscsi_world.proofs.Easing.{Eases, arrivals_ease, closing_eases}
-use Rattle.iscsi_world.proofs.Standing.{half_here, half_other, fresh, present-begun, present-fresh, stands_as, serving, link_stands, is_open_there}
+use Rattle.iscsi_world.proofs.Standing.{fresh, present-begun, present-fresh, stands_as, serving, link_stands, is_open_there}
 use Rattle.iscsi_world.proofs.Frames.{idle_step, unmarked_step, marked_step, reached_first}
 use Rattle.iscsi_world.proofs.Doing.{reached_both}
 use Rattle.iscsi_world.proofs.Taking.{halving, rehalved, halves_idle, half_twice, idle_all, serves_halves}
@@ -39,8 +37,7 @@ use Rattle.iscsi_world.proofs.Taking.{halving, rehalved, halves_idle, half_twice
 -- ---- between two events again
 
 still_none : (a b : Bool) → (a ≡ true → b ≡ true) → b ≡ false → a ≡ false
-still_none true b eases none = absurd (false≢true (sym none ∙ eases refl))
-still_none false b eases none = refl
+still_none a b eases none = grind arith
 
 -- what is kept of a present life that stayed, and whose needs did not grow
 kept_on : (before after : Option Life) (half : List ℕ) → Stays before after → ((out : Frame) → needs after out ≡ true → needs before out ≡ true)
@@ -49,23 +46,14 @@ kept_on None None half s eases kept = tt
 kept_on None (Some y) half s eases kept = absurd s
 kept_on (Some x) None half s eases kept = tt
 kept_on (Some x) (Some y) half s eases (inl all) = inl (all ∙ ap rest (sym s.0))
-kept_on (Some x) (Some y) half s eases (inr counted) =
-    let same : rest y.bytes ≡ rest x.bytes = ap rest s.0 in
-    inr (
-      ap (λ (b : List ℕ). needs_in y.phase (out_in b)) same ∙ still_none _ _ (eases (out_in (rest x.bytes))) counted.0,
-      subst (IsCounted half) (sym same) counted.1,
-    )
+kept_on (Some x) (Some y) half s eases (inr counted) = grind arith
 
 short_kept : (before after : Option Life) → Stays before after → IsShort before → IsShort after
-short_kept None None s h = tt
-short_kept None (Some y) s h = absurd s
-short_kept (Some x) None s h = tt
-short_kept (Some x) (Some y) s h = λ e. ap (λ (bytes : List ℕ). is_long (rest bytes)) s.0 ∙ h (s.1 e)
+short_kept before after s h = grind arith
 
 here_short : (bytes : List ℕ) (x : Life) (after : Option Life) → x.bytes ≡ bytes → Stays (Some x) after
     → (reads_life after ≡ true → is_long (rest bytes) ≡ false) → IsShort after
-here_short bytes x None e s short = tt
-here_short bytes x (Some y) e s short = λ reads_y. ap is_long (ap rest (s.0 ∙ e)) ∙ short reads_y
+here_short bytes x after e s short = grind arith
 
 -- where the World that the arrivals made of the longer one is served, it is stood at
 pub stands_again : (s : Setting) (sent : ℕ → ℕ) (w v : World) (machine now : Machine) (comings : List Coming) (c : ℕ) (piece left_ : List ℕ) (life : Life)
@@ -74,18 +62,12 @@ pub stands_again : (s : Setting) (sent : ℕ → ℕ) (w v : World) (machine now
     → (reads_life (present c v) ≡ true → is_long (rest (life.bytes ++ piece)) ≡ false)
     → Serves s sent (with_half c left_ h.half) v now → StandsAt s sent v now
 stands_again s sent w v machine now comings c piece left_ life lt h at goes eases keeps short serves =
-    let here : Stays (Some (longer piece life)) (present c v) = subst (λ (o : Option Life). Stays o (present c v)) (came_here comings c piece w life at)
-    (goes.stays c) in
-    let other : (d : ℕ) → d ≢ c → Stays (present d w) (present d v) = λ d differ. subst (λ (o : Option Life). Stays o (present d v))
-    (came_other comings c d piece w differ) (goes.stays d) in
+    let here : Stays (Some (longer piece life)) (present c v) = grind (arith, came_here) in
+    let other : (d : ℕ) → d ≢ c → Stays (present d w) (present d v) = grind (arith, came_other) in
     record {
       half = with_half c left_ h.half;
       is = serves.is;
-      kept = λ d below. elim (eqb_tells d c) [
-        | inl same ↦ rw (same.1, half_here c left_ h.half) keeps
-        | inr differ ↦ rw (half_other c d left_ h.half differ.1) (kept_on (present d w) (present d v) (h.half d) (other d differ.1)
-            (λ out some. ap (λ (o : Option Life). needs o out) (sym (came_other comings c d piece w differ.1)) ∙ eases d out differ.1 some) (h.kept d below))
-      ];
+      kept = grind (arith, kept_on, came_other);
       answered = serves.answered;
       quiet = serves.quiet;
       short = λ d below. elim (eqb_tells d c) [
@@ -96,13 +78,11 @@ stands_again s sent w v machine now comings c piece left_ life lt h at goes ease
 
 -- all bytes are kept of what came
 all_kept : (bytes : List ℕ) (x : Life) (after : Option Life) → x.bytes ≡ bytes → Stays (Some x) after → IsHalf after (rest bytes)
-all_kept bytes x None e s = tt
-all_kept bytes x (Some y) e s = inl (sym (ap rest (s.0 ∙ e)))
+all_kept bytes x after e s = grind arith
 
 pub all_here : (comings : List Coming) (c : ℕ) (piece : List ℕ) (w v : World) (life : Life) → present c w ≡ Some life
     → Prolongs (piece_came comings c piece w) v → IsHalf (present c v) (rest (life.bytes ++ piece))
-all_here comings c piece w v life at goes = all_kept (life.bytes ++ piece) (longer piece life) (present c v) refl
-    (subst (λ (o : Option Life). Stays o (present c v)) (came_here comings c piece w life at) (goes.stays c))
+all_here comings c piece w v life at goes = grind (arith, came_here)
 
 -- ---- the event's end
 
@@ -157,9 +137,7 @@ brings : (s : Setting) (marks : List Mark) (comings : List Coming) (c : ℕ) (pi
     → bring s marks c piece (begun_event comings w) ≡ take_step marks c AtEnd (λ u. u)
     (fold (arrive s marks c) (piece_came comings c piece w) (enumerate_from (length (arrivals life.bytes)) (arrivals (rest life.bytes ++ piece))))
 unfolding bring
-brings s marks comings c piece w life at short =
-    ap (λ (l : List (ℕ × Arrival)). take_step marks c AtEnd (λ u. u) (fold (arrive s marks c) (piece_came comings c piece w) l))
-    (ap (λ (o : Option Life). brought o piece) (present-begun comings c w ∙ at) ∙ new_is life.bytes piece short)
+brings s marks comings c piece w life at short = grind (arith, present-begun, new_is)
 
 short_there : (o : Option Life) (life : Life) → o ≡ Some life → IsShort o → reads life.phase ≡ true → is_long (rest life.bytes) ≡ false
 short_there o life e h r = (subst IsShort e h) r
@@ -181,8 +159,7 @@ comes s sent w machine first now comings c piece starved f takes ahead =
     let short = short_there (present c w) life there.1 (f.stands.short c f.in_range) there.2 in
     let kept : IsHalf (Some life) (half c) = subst (λ (o : Option Life). IsHalf o (half c)) there.1 (f.stands.kept c f.in_range) in
     let link = link_stands s sent w machine c f.in_range f.stands ∙ ap (λ (o : Option Life). link_of s.directory (sent c) (half c) o) there.1 in
-    let old_half : (link_at machine c).half ≡ half c = ap (λ (l : LinkState). l.half) link
-    ∙ cond_true (reads life.phase) (half c) [] there.2 in
+    let old_half : (link_at machine c).half ≡ half c = grind arith in
     let now_half = (link_at first c).half in
     let fed = fed_of s.directory life piece (half c) (link_at machine c) (link_at first c) (ap (λ (l : LinkState). l.phase) link)
     (subst IsQuiet there.1 (f.stands.quiet c f.in_range)) old_half kept f.keeps in
@@ -208,12 +185,9 @@ comes s sent w machine first now comings c piece starved f takes ahead =
     let eased : Eases c v0 e.last = subst (Eases c v0) e.is (arrivals_ease s marks c v0 all) in
     let stays : Stays (Some (longer piece life)) (present c e.last) = subst (λ (o : Option Life). Stays o (present c e.last))
     (came_here comings c piece w life there.1) (followed.stays c) in
-    let none_came : arrivals now_half ≡ [] → present c e.last ≡ Some (longer piece life) = λ none. e.same c
-    ∙ ap (λ (l : List Arrival). present c (fold (arrive s marks c) v0 (enumerate_from n l))) none
-    ∙ came_here comings c piece w life there.1 in
+    let none_came : arrivals now_half ≡ [] → present c e.last ≡ Some (longer piece life) = grind (arith, came_here) in
     let left = fed_left life (half c) piece now_half short kept fed in
-    let keeps : IsHalf (present c e.last) left_ = half_after (longer piece life) now_half (rest life.bytes ++ piece) left_ (present c e.last)
-    left (rest_in_pieces life.bytes piece) stays none_came in
+    let keeps : IsHalf (present c e.last) left_ = grind (arith, rest_in_pieces) in
     record {
       marks = marks;
       first = takes.takes.first n;
@@ -301,9 +275,7 @@ comes_idle s sent w machine c piece lt stands open_ r =
 
 nothing_new : (bytes : List ℕ) → new_arrivals bytes [] ≡ []
 unfolding new_arrivals
-nothing_new bytes =
-    ap (λ (b : List ℕ). drop (length (arrivals bytes)) (enumerate_from 0 (arrivals b))) (append-nil bytes)
-    ∙ drop_all (length (arrivals bytes)) (enumerate_from 0 (arrivals bytes)) (omega (arith, length-enumerate_from 0 (arrivals bytes)))
+nothing_new bytes = grind (arith, append-nil, drop_all, length-enumerate_from)
 
 pub comes_empty : (s : Setting) (sent : ℕ → ℕ) (w : World) (machine : Machine) (c : ℕ) → c < connection_limit → StandsAt s sent w machine
     → is_open_at machine c ≡ true → StandsAt s sent (bring s [] c [] (fresh w)) machine
@@ -319,10 +291,7 @@ comes_empty s sent w machine c lt stands open_ =
     let whole : take_step [] c AtEnd (λ u. u) (fold (arrive s [] c) v0 (brought (present c (fresh w)) [])) ≡ e.last =
     ap (λ (l : List (ℕ × Arrival)). take_step [] c AtEnd (λ u. u) (fold (arrive s [] c) v0 l)) none ∙ e.is in
     let left_ = half c in
-    let own : (d : ℕ) → half d ≡ with_half c left_ half d = λ d. elim (eqb_tells d c) [
-      | inl same ↦ rw same.1 (sym (half_here c left_ half))
-      | inr differ ↦ sym (half_other c d left_ half differ.1)
-    ] in
+    let own : (d : ℕ) → half d ≡ with_half c left_ half d = grind arith in
     let here = came_here [] c [] w life there.1 in
     let same_reads : reads_life (present c v0) ≡ reads life.phase = ap reads_life here in
     let kept : IsHalf (Some life) left_ = subst (λ (o : Option Life). IsHalf o left_) there.1 (stands.kept c lt) in
@@ -343,58 +312,33 @@ kept_is machine first c piece k = k.is ∙ ap (with_link machine c) k.keeps.same
 -- it closes as it would have before
 pub closed_kept : (machine : Machine) (c : ℕ) (half : List ℕ) → c < length machine.links → closed (kept_as machine c half) c ≡ closed machine c
 unfolding closed
-closed_kept machine c half lt =
-    let link = record (link_at machine c) { half = half } in
-    rw (get_or-set_same machine.links c link free_link lt, set-set machine.links c link (shut_link (link_at machine c))) refl
+closed_kept machine c half lt = grind (arith, get_or-set_same, set-set)
 
 -- no more is whole than if all of it had been kept
 pub fed_few : (machine first : Machine) (c : ℕ) (piece : List ℕ) → KeepsPieceAt c piece machine first
     → length (arrivals (link_at first c).half) ≤ length (arrivals ((link_at machine c).half ++ piece))
-fed_few machine first c piece k = by_kind k.keeps.half
-  where
-    by_kind : ((link_at first c).half ≡ (link_at machine c).half ++ piece) ⊎ CountsPiece piece (link_at machine c) (link_at first c)
-        → length (arrivals (link_at first c).half) ≤ length (arrivals ((link_at machine c).half ++ piece))
-    by_kind (inl all) = omega (arith, ap (λ (b : List ℕ). length (arrivals b)) all)
-    by_kind (inr counts) = omega (arith, ap (λ (l : List Arrival). length l) (counted_none piece (link_at machine c) (link_at first c) counts))
+fed_few machine first c piece k = grind (arith, counted_none)
 
 pub kept_feeds : (machine first : Machine) (c : ℕ) (half : List ℕ) → c < length machine.links → is_reading (link_at machine c).phase ≡ true
     → first ≡ kept_as machine c half → Feeds c machine first
-kept_feeds machine first c half lt r is =
-    let P : Machine → Type 0 = λ m. Feeds c machine m in
-    subst P (sym is) (changes_feeds c machine machine.units c (record (link_at machine c) { half = half }) lt
-    (halving (link_at machine c) half r) (own_self c machine))
+kept_feeds machine first c half lt r is = search (arith, is, changes_feeds, halving, own_self)
 
 pub kept_reads : (machine first : Machine) (c : ℕ) (half : List ℕ) → c < length machine.links → is_reading (link_at machine c).phase ≡ true
     → first ≡ kept_as machine c half → is_reading (link_at first c).phase ≡ true
-kept_reads machine first c half lt r is =
-    let link = record (link_at machine c) { half = half } in
-    ap (λ (m : Machine). is_reading (link_at m c).phase) is ∙ ap (λ (l : LinkState). is_reading l.phase) (get_or-set_same machine.links c link free_link lt) ∙ r
+kept_reads machine first c half lt r is = grind (arith, get_or-set_same)
 
 stands_after : (s : Setting) (sent : ℕ → ℕ) (h : History) (now : Machine) (comings : List Coming) (c : ℕ) (piece : List ℕ) (starved : Option ℕ)
     → (IsSound now → ArePlain comings) → ((target : ℕ) → IsSoundAt target now → IsCalm target comings)
     → Came s sent (world s h) comings c piece starved now → StandsAfter s sent h (Bytes c piece) starved now
-stands_after s sent h now comings c piece starved plain_ calm k = record {
-  marks = k.marks;
-  comings = comings;
-  first = k.first;
-  reached = k.reached;
-  plain = plain_;
-  calm = calm;
-  stands = stands_as s sent now h (happening k.marks comings (Bytes c piece)) _ refl k.stands;
-}
+stands_after s sent h now comings c piece starved plain_ calm k = grind (arith, stands_as)
 
 plain_marks : (s : Setting) (sent : ℕ → ℕ) (h : History) (now : Machine) (c : ℕ) (piece : List ℕ) → Came s sent (world s h) [] c piece None now
     → Stands s sent now (h ++ plain (Bytes c piece) ∷ [])
-plain_marks s sent h now c piece k = stands_as s sent now h (plain (Bytes c piece)) _ refl
-    (subst (λ (marks : List Mark). StandsAt s sent (bring s marks c piece (fresh (world s h))) now) k.first k.stands)
+plain_marks s sent h now c piece k = grind (arith, stands_as)
 
 starved_marks : (s : Setting) (sent : ℕ → ℕ) (h : History) (now : Machine) (c d : ℕ) (piece : List ℕ) → Came s sent (world s h) [] c piece (Some d) now
     → (marks : List Mark) × IsStarved s (world s h) (Bytes c piece) d marks × Stands s sent now (h ++ marked marks (Bytes c piece) ∷ [])
-starved_marks s sent h now c d piece k = (
-  k.marks,
-  record { first = k.first; reached = k.reached },
-  stands_as s sent now h (marked k.marks (Bytes c piece)) _ refl k.stands,
-)
+starved_marks s sent h now c d piece k = grind (arith, stands_as)
 
 module _ (machine first now : Machine) (c : ℕ) (piece : List ℕ) (lt : c < connection_limit)
     (reads_so : is_reading (link_at machine c).phase ≡ true) (keeps : KeepsPieceAt c piece machine first) where

@@ -1,5 +1,5 @@
 -- What a life becomes where bytes come, on any connection: it asks and is answered more.
-use Rattle.std.proofs.Common.{◌≡◌, ℕ, List, [], ◌∷◌, ◌++◌, Bool, true, false, not, eqb, Some, refl, sym, ap, ◌∙◌, append_assoc, append-nil}
+use Rattle.std.proofs.Common.{◌≡◌, ℕ, List, [], ◌∷◌, ◌++◌, Bool, true, false, not, eqb, Some, refl, sym, ◌∙◌, append_assoc, append-nil, arith}
 use Rattle.std.specs.Prelude.{find, ⊤}
 use Rattle.iscsi_pdu.specs.Frames.{Frame}
 use Rattle.iscsi_world.specs.Life.{Life, is_over, out_of}
@@ -26,33 +26,10 @@ pub record Follows (x y : Life) : Type 0 where
   pub asks : Asks x y
 
 life_same : (x : Life) → Follows x x
-life_same x = record {
-  goes = record { connection = refl; over = refl; still = λ e. refl; answered = ([], sym (append-nil (out_of x))) };
-  asks = asks_same x x refl refl;
-}
+life_same x = grind (arith, append-nil)
 
 life_then : (x y z : Life) → Follows x y → Follows y z → Follows x z
-life_then x y z f g =
-    let a = f.goes in
-    let b = g.goes in
-    record {
-      goes = record {
-        connection = b.connection ∙ a.connection;
-        over = b.over ∙ a.over;
-        still = λ e. b.still (a.over ∙ e) ∙ a.still e;
-        answered = (
-          a.answered.0 ++ b.answered.0,
-          b.answered.1 ∙ ap (λ (front : List ℕ). front ++ b.answered.0) a.answered.1
-              ∙ append_assoc (out_of x) a.answered.0 b.answered.0,
-        );
-      };
-      asks = record {
-        connection = g.asks.connection ∙ f.asks.connection;
-        more = f.asks.more ++ g.asks.more;
-        requests = g.asks.requests ∙ ap (λ (l : List Frame). l ++ g.asks.more) f.asks.requests
-            ∙ append_assoc x.requests f.asks.more g.asks.more;
-      };
-    }
+life_then x y z f g = grind (arith, append_assoc)
 
 -- ---- all lives
 
@@ -86,10 +63,7 @@ pub record Continues (f : Life → Life) (x : Life) : Type 0 where
   pub asks : Asks x (f x)
 
 goes_by : (f : Life → Life) (x : Life) → is_over x.phase ≡ false → Continues f x → Follows x (f x)
-goes_by f x open_ c = record {
-  goes = record { connection = c.connection; over = c.is_open ∙ sym open_; still = λ e. absurd (cc (e, open_)); answered = c.answered };
-  asks = c.asks;
-}
+goes_by f x open_ c = grind arith
 
 pub lives_changed : (f : Life → Life) (c : ℕ) (lives : List Life) → ((life : Life) → find (is_present c) lives ≡ Some life → Continues f life)
     → LivesFollow lives (changed_first (is_present c) f lives)

@@ -54,8 +54,7 @@ frames_fit (suc n) bytes a = frames_by (has_frame bytes) n bytes refl a
     (frames_fit n (drop (frame_length bytes) bytes) (all_drop _ (frame_length bytes) bytes a))
 
 end_framed : (b : Bool) (place : ℕ) → AllByRecursion IsFramed (enumerate_from place (long_end b))
-end_framed true place = (tt, tt)
-end_framed false place = tt
+end_framed b place = grind arith
 
 all_framed : (fs : List Frame) (b : Bool) (place : ℕ) → AllByRecursion Fits fs → AllByRecursion IsFramed (enumerate_from place (map Whole fs ++ long_end b))
 all_framed [] b place a = end_framed b place

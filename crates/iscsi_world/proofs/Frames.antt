@@ -13,7 +13,7 @@ use Rattle.iscsi_world.specs.History.{Point, Arriving, Mark, Arrival, Whole, con
 use Rattle.iscsi_world.specs.Life.{Life, Phase, LoggingIn, FullFeature, reads}
 use Rattle.iscsi_world.specs.World.{Setting, World, present, changed, reads_life, is_marked, close, reaching, take_step, log_in, take_in, settle_one, settle, serve, is_login, taken_in, taken_by, comes, arrive, settle_for, carry_out_for, orders_in}
 use Rattle.iscsi_world.specs.Machine.{LinkState, Machine, ReflectsSoundness, link_at, is_reading, closed, logged_in}
-use Rattle.iscsi_world.specs.Stands.{phase_for, link_of, stand_in}
+use Rattle.iscsi_world.specs.Stands.{link_of, stand_in}
 use Rattle.iscsi_world.specs.Serving.{Serves, Agrees, ActsAs, reached_since, CarriesOut, kept, is_of_none, first_of, is_of_frame, is_taken_at, is_done_at, is_done_by, is_done_below, Takes, Settles, SettlesOne, SettlesFor}
 use Rattle.iscsi_world.specs.declared.phase.Phase.TheVariants as phases
 use Rattle.iscsi_world.proofs.Choices.{eqb_self, cond_true, cond_false, and_true, and_false}
@@ -28,7 +28,6 @@ use Rattle.iscsi_world.proofs.Walks.{on-fold, on-take_in, on-settle_one, on-sett
 use Rattle.iscsi_world.proofs.Keeping.{Prolongs, goes_walk, on-then, on-reaching}
 use Rattle.iscsi_world.proofs.Doing.{reached_both, does_nothing, does_as, does_from, does_then}
 use Rattle.iscsi_world.proofs.AtWork.{IsCalled, CallDoes, last_there, marks_of, starved_if, call_does, own_past, served_orders, serve_acts, serve_agrees}
-use Rattle.std.proofs.lemmas.Bool.Decides.{nat_tests}
 
 -- ---- a connection that does not read
 
@@ -50,15 +49,9 @@ record IsLoggingIn (directory : KnownTargets) (login : LoginState) (o : Option L
   phase : life.phase ≡ LoggingIn
   known : remembered directory (life.connection + 1) life.requests ≡ login
 
-logging_in_for : (directory : KnownTargets) (login : LoginState) (life : Life) (ph : Phase) → life.phase ≡ ph
-    → phase_for directory life ph ≡ phases.Login login → IsLoggingIn directory login (Some life)
-logging_in_for directory login life LoggingIn e same = record { life = life; at = refl; phase = e; known = cc }
-logging_in_for directory login life _ e same = absurd cc
-
 logging_in_of : (directory : KnownTargets) (sent : ℕ) (half : List ℕ) (login : LoginState) (o : Option Life)
     → (link_of directory sent half o).phase ≡ phases.Login login → IsLoggingIn directory login o
-logging_in_of directory sent half login None same = absurd cc
-logging_in_of directory sent half login (Some life) same = logging_in_for directory login life life.phase refl same
+logging_in_of directory sent half login o same = grind arith
 
 logging_in : (s : Setting) (sent : ℕ → ℕ) (half : ℕ → List ℕ) (w : World) (machine : Machine) (c : ℕ) (login : LoginState) → c < connection_limit
     → Serves s sent half w machine → (link_at machine c).phase ≡ phases.Login login
@@ -239,16 +232,16 @@ takes_served failed goes_on orders c target frame given middle ended after starv
 -- ---- the sessions of a target are settled, one after the other
 
 below_here : (c place : ℕ) → Apart (is_done_below c place) (is_done_by c place)
-below_here c place mark e = grind (arith, nat_tests)
+below_here c place mark e = grind arith
 
 here_below : (c place : ℕ) → Apart (is_done_by c place) (is_done_below c place)
-here_below c place mark e = grind (arith, nat_tests)
+here_below c place mark e = grind arith
 
 below_more : (c place : ℕ) → Wider (is_done_below c place) (is_done_below (c + 1) place)
-below_more c place mark e = grind (arith, nat_tests)
+below_more c place mark e = grind arith
 
 here_more : (c place : ℕ) → Wider (is_done_by c place) (is_done_below (c + 1) place)
-here_more c place mark e = grind (arith, nat_tests)
+here_more c place mark e = grind arith
 
 below_all : (c place : ℕ) → Wider (is_done_below c place) (is_done_at place)
 below_all c place mark e = (and_true (nat_lt mark.connection c) (is_done_at place mark) e).1
@@ -264,8 +257,7 @@ none_settled target machine = does_nothing (is_done_below 0) (λ s marks place w
 
 fold_next : (marks : List Mark) (place target c : ℕ) (w : World) → fold (settle_one marks place target) w (range_with_len 0 (c + 1))
     ≡ settle_one marks place target (fold (settle_one marks place target) w (range_with_len 0 c)) c
-fold_next marks place target c w = ap (fold (settle_one marks place target) w) (range_next c)
-    ∙ fold-append (settle_one marks place target) w (range_with_len 0 c) (c ∷ [])
+fold_next marks place target c w = grind (arith, range_next, fold-append)
 
 pub settled_next : (target c : ℕ) (a b : Option ℕ) (given middle after : Machine) → ReflectsSoundness middle after
     → SettledBelow target c a given middle → SettlesOne target c b middle after → SettledBelow target (c + 1) (first_of a b) given after

@@ -1,5 +1,5 @@
 -- A Data-Out that is half read and whose data is not needed: its header and the number of its bytes decide all.
-use Rattle.std.proofs.Common.{◌≡◌, ℕ, zero, suc, if◌then◌else◌, ◌+◌, ◌-◌, ◌<◌, ◌≤◌, List, [], ◌∷◌, ◌++◌, length, take, drop, Bool, true, false, ◌⊎◌, Option, Some, refl, sym, ap, ◌∙◌, arith, inl, inr}
+use Rattle.std.proofs.Common.{◌≡◌, ℕ, zero, suc, if◌then◌else◌, ◌+◌, ◌<◌, ◌≤◌, List, [], ◌∷◌, ◌++◌, length, take, drop, Bool, true, false, ◌⊎◌, Option, Some, refl, sym, ap, ◌∙◌, arith, inl, inr}
 use Rattle.std.specs.List.{fold, enumerate_from}
 use Rattle.std.proofs.lemmas.Bool.{and_parts, eqb-true}
 use Rattle.std.proofs.lemmas.List.{take-append-drop, length-take-le, length-take, length-drop, length-append, length-replicate, drop_all, take-append-le}
@@ -7,7 +7,7 @@ use Rattle.iscsi_pdu.specs.Header.{header_length, data_length, additional_length
 use Rattle.iscsi_pdu.specs.Frames.{Frame, rest_within, rest, has_frame, is_long, first_frame, frame_length}
 use Rattle.iscsi_pdu.specs.Parts.{is_data_out}
 use Rattle.iscsi_pdu.proofs.Cuts.{data_length-append, frame_length-append}
-use Rattle.iscsi_pdu.proofs.DataOuts.{Alike, alike_frame, alike_framed, alike_data_length, alike_additional, alike_more, is_data_out-header, is_data_out-append}
+use Rattle.iscsi_pdu.proofs.DataOuts.{Alike, alike_frame, alike_framed, alike_data_length, alike_more, is_data_out-header, is_data_out-append}
 use Rattle.iscsi_pdu.proofs.Frames.{no_frame, drop_shorter, has_frame-true, frames_step, rest_step, rest_none}
 use Rattle.iscsi_pdu.proofs.Zeros.{drop_append}
 use Rattle.iscsi_session.specs.Requests.{Past}
@@ -16,7 +16,7 @@ use Rattle.iscsi_session.specs.Needed.{is_needed, AreAlike}
 use Rattle.iscsi_session.proofs.Needed.{needed_alike, unneeded_data_is_unread}
 use Rattle.iscsi_world.specs.History.{Mark, Arriving, Arrival, Whole, arrivals}
 use Rattle.iscsi_world.specs.Life.{Life, Phase, LoggingIn, FullFeature, Closing, Over}
-use Rattle.iscsi_world.specs.World.{Setting, World, present, past_of, reaching, take_step, fails, work_of, worked, take_in, orders_in, carry_out_for, settle_for, serve, is_login, taken_in, comes, arrive}
+use Rattle.iscsi_world.specs.World.{Setting, World, present, past_of, reaching, take_step, fails, work_of, worked, take_in, orders_in, serve, is_login, taken_in, comes, arrive}
 use Rattle.iscsi_world.specs.HalfRead.{out_in, IsCounted}
 use Rattle.iscsi_world.specs.Stands.{needs_in}
 use Rattle.iscsi_world.proofs.Linked.{present-reaching}
@@ -31,15 +31,7 @@ out_head bytes long =
     ap is_data_out (sym (take-append-drop header_length bytes)) ∙ is_data_out-append head (drop header_length bytes) enough
 
 pub like : (half bytes : List ℕ) → IsCounted half bytes → Alike half bytes
-like half bytes k =
-    let whole = is_data_out-header bytes k.out in
-    let half_whole : header_length ≤ length half = omega (arith, whole, k.long) in
-    record {
-      out_a = out_head half half_whole ∙ ap is_data_out k.header ∙ sym (out_head bytes whole) ∙ k.out;
-      out_b = k.out;
-      head = k.header;
-      long = k.long;
-    }
+like half bytes k = grind (arith, is_data_out-header, out_head)
 
 pub counted : (half bytes : List ℕ) → Alike half bytes → IsCounted half bytes
 counted half bytes a = record { out = a.out_b; header = a.head; long = a.long }
@@ -56,14 +48,7 @@ short_frame bytes out none short = let whole = is_data_out-header bytes out in g
 
 same_tail : (half bytes more : List ℕ) → Alike half bytes → length bytes < frame_length bytes
     → drop (frame_length (half ++ more)) (half ++ more) ≡ drop (frame_length (bytes ++ more)) (bytes ++ more)
-same_tail half bytes more a short =
-    let all = alike_more half bytes more a in
-    let framed : frame_length (bytes ++ more) ≡ frame_length bytes = frame_length-append bytes more (is_data_out-header bytes a.out_b) in
-    let n = frame_length bytes in
-    let tail : (xs : List ℕ) → length xs ≡ length bytes → drop n (xs ++ more) ≡ drop (n - length bytes) more =
-    λ xs long. drop_append n xs more ∙ ap (λ (front : List ℕ). front ++ drop (n - length xs) more) (drop_all n xs (omega (arith, long, short)))
-    ∙ ap (λ (k : ℕ). drop (n - k) more) long in
-    rw (alike_framed (half ++ more) (bytes ++ more) all, framed) (tail half a.long ∙ sym (tail bytes refl))
+same_tail half bytes more a short = grind (arith, frame_length-append, is_data_out-header, drop_append, drop_all, alike_framed)
 
 -- ---- the Data-Outs that they are
 
@@ -73,20 +58,7 @@ out_number bytes out = eqb-true _ _ (and_parts _ _ (sym (out_head bytes (is_data
 
 frames_alike : (a b : List ℕ) → Alike a b → AreAlike (first_frame b) (first_frame a)
 unfolding first_frame
-frames_alike a b h =
-    let behind : ℕ = header_length + additional_length b in
-    record {
-      header = h.head;
-      long = rw (
-        alike_data_length a b h,
-        alike_additional a b h,
-        length-take (data_length b) (drop behind a),
-        length-take (data_length b) (drop behind b),
-        length-drop behind a,
-        length-drop behind b,
-        h.long,
-      ) refl;
-    }
+frames_alike a b h = grind (arith, length-take, length-drop)
 
 body_fits : (bytes : List ℕ) → frame_length bytes ≤ length bytes → data_length bytes ≤ length (drop (header_length + additional_length bytes) bytes)
 unfolding frame_length
@@ -101,8 +73,7 @@ frame_unneeded past bytes more out whole none =
     let f = has_frame-true (bytes ++ more) whole in
     let behind : ℕ = header_length + additional_length (bytes ++ more) in
     let body : length (take (data_length (bytes ++ more)) (drop behind (bytes ++ more))) ≡ data_length bytes =
-    length-take-le (data_length (bytes ++ more)) (drop behind (bytes ++ more))
-    (body_fits (bytes ++ more) f.whole) ∙ data_length-append bytes more front in
+    grind (arith, length-take-le, body_fits) in
     needed_alike past (out_in bytes) (first_frame (bytes ++ more)) (record {
       header = take-append-le header_length bytes more front;
       long = body ∙ sym (length-replicate {A = ℕ} (data_length bytes) 0);
@@ -122,17 +93,13 @@ module _ (marks : List Mark) (c place : ℕ) (one other : Frame) (past : Past) (
 
   serve_same : (target : Option ℕ) → serve marks c place target other w ≡ serve marks c place target one w
   unfolding serve
-  serve_same target =
-      ap (λ (v : World). settle_for marks place target (carry_out_for c target (orders_in marks c place other w) v)) take_same
-      ∙ ap (λ (orders : List (List ℕ)). settle_for marks place target (carry_out_for c target orders (take_in marks c place one w))) orders_same
+  serve_same target = grind (arith, take_same, orders_same)
 
 taken_same : (s : Setting) (marks : List Mark) (c place : ℕ) (one other : Frame) (life : Life) (phase : Phase) (w : World)
     → present c w ≡ Some life → life.phase ≡ phase → AreAlike one other → opcode_number one.header ≡ 0x05 → needs_in phase one ≡ false
     → taken_in s marks c place other phase w ≡ taken_in s marks c place one phase w
 unfolding is_login
-taken_same s marks c place one other life LoggingIn w at is alike out none =
-    let opcode : opcode_number other.header ≡ 0x05 = ap opcode_number alike.header ∙ out in
-    rw (opcode, out) refl
+taken_same s marks c place one other life LoggingIn w at is alike out none = grind arith
 taken_same s marks c place one other life (FullFeature session) w at is alike out none =
     serve_same marks c place one other session w (ap past_of at ∙ rw is refl)
     (unneeded_data_is_unread (fails marks c) place one other (work_of session w) alike out none) session.params.target
@@ -146,15 +113,13 @@ unfolding arrive take_step
 arrive_same s marks c place one other life w at alike out none =
     let v = reaching c (Arriving place ∷ []) w in
     let there : present c v ≡ Some life = present-reaching c c (Arriving place ∷ []) w ∙ at in
-    let same : comes s marks c place (Whole other) v ≡ comes s marks c place (Whole one) v =
-    rw there (taken_same s marks c place one other life life.phase v there refl alike out none) in
+    let same : comes s marks c place (Whole other) v ≡ comes s marks c place (Whole one) v = grind (arith, taken_same) in
     rw same refl
 
 -- ---- the arrivals of a piece
 
 none_by : (b : Bool) (bytes more : List ℕ) → has_frame bytes ≡ b → (b ≡ true → has_frame more ≡ false) → has_frame (if b then more else bytes) ≡ false
-none_by true bytes more is none = none refl
-none_by false bytes more is none = is
+none_by b bytes more is none = grind arith
 
 within_none : (n : ℕ) (bytes : List ℕ) → length bytes ≤ n → has_frame (rest_within n bytes) ≡ false
 within_none zero [] few = no_frame
@@ -168,10 +133,7 @@ rest_none_whole bytes = within_none (length bytes) bytes (omega arith)
 
 phase_unneeded : (phase : Phase) (bytes more : List ℕ) → is_data_out bytes ≡ true → has_frame (bytes ++ more) ≡ true
     → needs_in phase (out_in bytes) ≡ false → needs_in phase (first_frame (bytes ++ more)) ≡ false
-phase_unneeded (FullFeature session) bytes more out whole none = frame_unneeded session bytes more out whole none
-phase_unneeded LoggingIn bytes more out whole none = refl
-phase_unneeded Closing bytes more out whole none = refl
-phase_unneeded Over bytes more out whole none = refl
+phase_unneeded phase bytes more out whole none = grind (arith, frame_unneeded)
 
 pub long_more : (bytes more : List ℕ) → header_length ≤ length bytes → is_long (bytes ++ more) ≡ is_long bytes
 unfolding is_long

@@ -1,18 +1,16 @@
 -- How heavy the connection is that a frame came on.
-use Rattle.std.proofs.Common.{◌≡◌, ◌≢◌, ℕ, suc, ◌+◌, ◌-◌, ◌<◌, ◌≤◌, ◌&&◌, List, ◌∷◌, ◌++◌, length, take, drop, replicate, Bool, true, false, Option, Some, None, refl, sym, ap, ◌∙◌, subst, arith, inl, inr}
+use Rattle.std.proofs.Common.{◌≡◌, ◌≢◌, ℕ, suc, ◌+◌, ◌<◌, ◌≤◌, ◌&&◌, List, ◌∷◌, ◌++◌, length, take, drop, Bool, true, Option, Some, None, refl, sym, subst, arith, inl, inr}
 use Rattle.std.proofs.lemmas.Bool.Decides.{eqb_tells}
 use Rattle.std.proofs.lemmas.Bool.{leb-true}
 use Rattle.std.proofs.lemmas.List.{length-append, length-take, length-set, length-replicate}
 use Rattle.iscsi_pdu.specs.Header.{header_length}
-use Rattle.iscsi_pdu.specs.Segment.{segment, padded}
+use Rattle.iscsi_pdu.specs.Segment.{segment}
 use Rattle.iscsi_pdu.specs.Frames.{Frame, frames, has_frame, first_frame}
 use Rattle.iscsi_pdu.specs.Answer.{spelling}
-use Rattle.iscsi_pdu.specs.LoginRequest.{tsih}
 use Rattle.iscsi_pdu.specs.LoginResponse.{login_text}
 use Rattle.iscsi_pdu.specs.declared.answer.Answer.TheVariants as answers
 use Rattle.iscsi_pdu.specs.declared.login_response.LoginResponse.{LoginResponse}
 use Rattle.iscsi_pdu.specs.declared.login_response.LoginRefusal.{LoginRefusal}
-use Rattle.iscsi_pdu.specs.declared.login_response.LoginReply.TheVariants as replies
 use Rattle.iscsi_pdu.proofs.Frames.{frames_none, frames_step}
 use Rattle.iscsi_login.specs.LoginState.{LoginState}
 use Rattle.iscsi_login.specs.Lookup.{Lookup}
@@ -23,10 +21,10 @@ use Rattle.iscsi_login.specs.declared.reply.Reply.{Reply}
 use Rattle.iscsi_login.specs.declared.reply.Reply.TheVariants.{GoOn, Full, Refused}
 use Rattle.iscsi_session.proofs.AtRest.{begun_rests, begun_pending}
 use Rattle.iscsi_world.specs.World.{lookup_for}
-use Rattle.iscsi_world.specs.Machine.{LinkState, Machine, link_at, with_link, shut_link, closed, sessions, gone_on_link, refused_link, begun_link, shut_older, joined_session, replied, logged_in}
+use Rattle.iscsi_world.specs.Machine.{LinkState, Machine, link_at, with_link, shut_link, closed, sessions, begun_link, shut_older, joined_session, replied, logged_in}
 use Rattle.iscsi_world.specs.Bounded.{weight, Rests, AddsAtMost}
 use Rattle.iscsi_world.proofs.Moving.{link_set, link_other}
-use Rattle.iscsi_world.proofs.Bounding.{adds_none, adds_then, adds_shut, waiting_least}
+use Rattle.iscsi_world.proofs.Bounding.{adds_none, adds_then, adds_shut}
 
 -- ---- a connection closes
 
@@ -35,8 +33,7 @@ unfolding closed
 closed_link machine c lt = link_set machine machine.units c (shut_link (link_at machine c)) lt
 
 pub closed_loads : (n : ℕ) (old new : Machine) (c : ℕ) → c < length old.links → new ≡ closed old c → AddsAtMost n (link_at old c) (link_at new c)
-closed_loads n old new c lt is =
-    subst (AddsAtMost n (link_at old c)) (sym (ap (λ (m : Machine). link_at m c) is ∙ closed_link old c lt)) (adds_shut n (link_at old c))
+closed_loads n old new c lt is = grind (arith, closed_link)
 
 pub halved_adds : (n : ℕ) (old new : LinkState) (half : List ℕ) → AddsAtMost n (record old { half = half }) new → AddsAtMost n old new
 halved_adds n old new half a = a
@@ -47,8 +44,7 @@ apart_next c e = absurd (omega (arith, e))
 -- ---- the header of a frame is whole
 
 header_there : (a b c : Bool) → (a && b && c) ≡ true → a ≡ true
-header_there true b c e = refl
-header_there false b c e = absurd cc
+header_there a b c e = grind arith
 
 whole_first : (bytes : List ℕ) → has_frame bytes ≡ true → length (first_frame bytes).header ≡ header_length
 unfolding has_frame first_frame
@@ -57,24 +53,12 @@ whole_first bytes e =
     omega (arith, long, length-take header_length bytes)
 
 pub header_whole : (bytes : List ℕ) (frame : Frame) (others : List Frame) → frames bytes ≡ frame ∷ others → length frame.header ≡ header_length
-header_whole bytes frame others e = by_case (has_frame bytes) refl
-  where
-    first_is : (a b : Frame) (x y : List Frame) → a ∷ x ≡ b ∷ y → a ≡ b
-    first_is a b x y e = cc
-
-    by_case : (b : Bool) → has_frame bytes ≡ b → length frame.header ≡ header_length
-    by_case true h = subst (λ (f : Frame). length f.header ≡ header_length) (first_is _ _ _ _ (sym (frames_step bytes h) ∙ e)) (whole_first bytes h)
-    by_case false h = absurd (let none = sym (frames_none bytes h) ∙ e in cc)
+header_whole bytes frame others e = grind (arith, frames_step, whole_first, frames_none)
 
 -- ---- a login
 
 segment_long : (bytes : List ℕ) → length (segment bytes) ≤ length bytes + 3
-segment_long bytes =
-    let n = padded (length bytes) - length bytes in
-    let zeros : List ℕ = replicate n 0 in
-    let count : length zeros ≡ n = length-replicate {A = ℕ} n 0 in
-    let both : length (segment bytes) ≡ length bytes + length zeros = length-append bytes zeros in
-    omega (arith, both, count)
+segment_long bytes = grind (arith, length-replicate, length-append)
 
 response_long : (isid : List ℕ) (r : LoginResponse) → r.isid ≡ isid → length isid ≤ 6 → length (login_text r.reply) ≤ 8192
     → length (spelling (answers.LoginResponse r)) ≤ 9000
@@ -94,9 +78,7 @@ reply_short login lookup request = by_refusal (refusal_of login lookup request)
     isid_short = omega (arith, length-take 6 (drop 8 request.header))
 
     by_refusal : (o : Option LoginRefusal) → IsShortReply (reply_unless o lookup login request)
-    by_refusal (Some refusal) =
-        response_long (take 6 (drop 8 request.header)) (login_response login request (tsih request.header) (replies.Refused refusal)) refl isid_short
-        (omega arith)
+    by_refusal (Some refusal) = grind arith
     by_refusal None =
         let now = brought lookup.directory login request in
         let step = step_of request.header now.due in
@@ -111,17 +93,7 @@ reply_short login lookup request = by_refusal (refusal_of login lookup request)
 -- more waits
 more_waits : (old new : LinkState) (more : List ℕ) → new.waiting ≡ old.waiting ++ more → length more ≤ 9000 → weight new ≡ length new.waiting → Rests new.phase
     → AddsAtMost 1 old new
-more_waits old new more is short plain rests r = record {
-  fits = omega (
-    arith,
-    ap (λ (l : List ℕ). length l) is,
-    length-append old.waiting more,
-    short,
-    plain,
-    waiting_least (length old.waiting) old.phase,
-  );
-  rests = rests;
-}
+more_waits old new more is short plain rests r = grind (arith, length-append)
 
 older_loads : (o : Option ℕ) (machine : Machine) (c : ℕ) → c < length machine.links → AddsAtMost 0 (link_at machine c) (link_at (shut_older o machine) c)
 older_loads None machine c lt = adds_none 0 (link_at machine c)
@@ -134,14 +106,8 @@ older_loads (Some d) machine c lt = elim (eqb_tells c d) [
 
 replied_loads : (reply : Reply) (login : LoginState) (c : ℕ) (machine : Machine) → c < length machine.links → IsShortReply reply
     → AddsAtMost 1 (link_at machine c) (link_at (replied reply login c machine) c)
-replied_loads (GoOn response) login c machine lt short =
-    let link = gone_on_link login (answers.LoginResponse response) (link_at machine c) in
-    subst (AddsAtMost 1 (link_at machine c)) (sym (link_set machine machine.units c link lt))
-    (more_waits (link_at machine c) link (spelling (answers.LoginResponse response)) refl short refl tt)
-replied_loads (Refused response) login c machine lt short =
-    let link = refused_link (answers.LoginResponse response) (link_at machine c) in
-    subst (AddsAtMost 1 (link_at machine c)) (sym (link_set machine machine.units c link lt))
-    (more_waits (link_at machine c) link (spelling (answers.LoginResponse response)) refl short refl tt)
+replied_loads (GoOn response) login c machine lt short = search (arith, link_set, more_waits)
+replied_loads (Refused response) login c machine lt short = search (arith, link_set, more_waits)
 replied_loads (Full response session) login c machine lt short =
     let answer = answers.LoginResponse response in
     let link = begun_link session answer (link_at machine c) in

@@ -1,15 +1,14 @@
 -- Whatever happens, the Login requests of a life stay, and more may come after them: so a life that names a target goes on to name it.
-use Rattle.std.proofs.Common.{◌≡◌, ℕ, suc, List, [], ◌∷◌, length, map, Bool, true, false, refl, sym, ap, subst}
+use Rattle.std.proofs.Common.{◌≡◌, ℕ, suc, List, [], ◌∷◌, length, map, Bool, refl, ap, arith}
 use Rattle.std.specs.Prelude.{⊤}
 use Rattle.std.specs.List.{fold}
 use Rattle.iscsi_login.specs.Directory.{KnownTargets}
 use Rattle.iscsi_world.specs.History.{Event, Open, Bytes, Gone, Mark, History}
-use Rattle.iscsi_world.specs.Life.{Life, Over, ended_in, born}
+use Rattle.iscsi_world.specs.Life.{Life, born}
 use Rattle.iscsi_world.specs.World.{Setting, World, is_present, over, end, bring, happen, begun_event, happened}
 use Rattle.iscsi_world.specs.Isolation.{named_in}
 use Rattle.iscsi_world.proofs.Following.{Asks, asks_same, LivesFollow}
 use Rattle.iscsi_world.proofs.Keeping.{Prolongs, on-bring}
-use Rattle.iscsi_world.proofs.Choices.{cond_true, cond_false}
 use Rattle.iscsi_world.proofs.IsolatedLives.{AllFrom, Selection, HasTarget, all_front}
 use Rattle.iscsi_world.proofs.IsolatedLogin.{named_later}
 
@@ -54,10 +53,7 @@ unfolding LivesAsk AllFrom Named HasTarget
 back_from g directory n [] [] asks all = tt
 back_from g directory n [] (y ∷ ys) asks all = absurd asks
 back_from g directory n (x ∷ xs) [] asks all = absurd asks
-back_from g directory n (x ∷ xs) (y ∷ ys) asks all = (
-  (λ t e. all.0 t (named_later directory x y asks.0.more t asks.0.connection asks.0.requests e)),
-  back_from g directory (suc n) xs ys asks.1 all.1,
-)
+back_from g directory n (x ∷ xs) (y ∷ ys) asks all = grind (arith, named_later, back_from g directory (suc n) xs ys asks.1 all.1)
 
 -- ---- what is done
 
@@ -78,8 +74,7 @@ unfolding Adds
 adds-bring s marks c piece w = lives_ask w.lives (bring s marks c piece w).lives (on-bring s marks c piece w)
 
 over_asks : (b : Bool) (c : ℕ) (x : Life) → is_present c x ≡ b → Asks x (over c x)
-over_asks true c x e = subst (Asks x) (sym (cond_true (is_present c x) (ended_in Over x) x e)) (asks_same x (ended_in Over x) refl refl)
-over_asks false c x e = subst (Asks x) (sym (cond_false (is_present c x) (ended_in Over x) x e)) (asks_same x x refl refl)
+over_asks b c x e = grind (arith, asks_same)
 
 pub adds-end : (c : ℕ) (w : World) → Adds w (end c w)
 unfolding Adds end

@@ -1,5 +1,5 @@
 -- What is done to a present life keeps what is true of its place and of its session's target.
-use Rattle.std.proofs.Common.{◌≡◌, ℕ, Bool, Some, sym, ap, ◌∙◌, subst}
+use Rattle.std.proofs.Common.{◌≡◌, ℕ, Bool, Some, sym, subst, arith}
 use Rattle.iscsi_pdu.specs.declared.answer.Answer.{Answer}
 use Rattle.iscsi_login.specs.declared.session_params.SessionParams.{SessionParams}
 use Rattle.iscsi_session.specs.Requests.{Past}
@@ -8,7 +8,7 @@ use Rattle.iscsi_world.specs.World.{World, is_present, present, changed_first, p
 use Rattle.iscsi_world.proofs.Lives.{present_is}
 use Rattle.iscsi_world.proofs.Keeping.{open_life}
 use Rattle.iscsi_world.proofs.IsolatedLives.{AllFrom, Selection, HasTarget, Fits, number_of, first_fits}
-use Rattle.iscsi_world.proofs.IsolatedWorlds.{Agree, session_of_past}
+use Rattle.iscsi_world.proofs.IsolatedWorlds.{Agree}
 
 -- f of the present life of a connection fits where it does
 pub Keeps : Selection → (Life → Life) → ℕ → World → Type 0
@@ -27,10 +27,7 @@ keeps_ended g c w = λ life at k fit. record { placed = λ e. fit.placed (open_l
 pub keeps_same : (g : Selection) (f : Life → Life) (c : ℕ) (w : World)
     → ((life : Life) → ((f life).phase ≡ life.phase) × ((f life).connection ≡ life.connection)) → Keeps g f c w
 unfolding Keeps
-keeps_same g f c w same = λ life at k fit. record {
-  placed = rw ((same life).0, (same life).1) fit.placed;
-  session = rw (same life).0 fit.session;
-}
+keeps_same g f c w same = grind arith
 
 some_params : (g : Selection) (b : Bool) (p q : SessionParams) → HasTarget g b p.target → Some p ≡ Some q → HasTarget g b q.target
 some_params g b p q own e = let same : p ≡ q = cc in subst (λ (r : SessionParams). HasTarget g b r.target) same own
@@ -47,7 +44,4 @@ keeps_begun g session answer c w v agree own = λ life at k fit. record {
 pub keeps_worked : (g : Selection) (c : ℕ) (past then_ : Past) (w : World) → past_of (present c w) ≡ Some past → then_.params ≡ past.params
     → Keeps g (with_past then_) c w
 unfolding Keeps
-keeps_worked g c past then_ w is same = λ life at k fit. record {
-  placed = λ e. fit.placed (open_life c w life at);
-  session = λ p e. fit.session p (session_of_past (Some life) past (sym (ap past_of at) ∙ is) ∙ ap Some (sym same) ∙ e);
-}
+keeps_worked g c past then_ w is same = grind arith

@@ -1,7 +1,6 @@
 -- The lives of a list that are kept: what is done to a life that is kept is done to it there, and what is done to another leaves no trace.
-use Rattle.std.proofs.Common.{◌≡◌, ℕ, suc, ◌+◌, List, [], ◌∷◌, ◌++◌, length, map, Bool, true, false, eqb, Option, Some, None, refl, subst, arith}
+use Rattle.std.proofs.Common.{◌≡◌, ℕ, suc, ◌+◌, List, [], ◌∷◌, ◌++◌, length, map, Bool, true, false, cond, eqb, Option, Some, None, refl, subst, arith}
 use Rattle.std.specs.Prelude.{find, slice_get, ⊤}
-use Rattle.std.proofs.lemmas.Bool.Decides.{eqb_tells}
 use Rattle.iscsi_login.specs.declared.session_params.SessionParams.{SessionParams}
 use Rattle.iscsi_world.specs.History.{is_among}
 use Rattle.iscsi_world.specs.Life.{Life, is_over, session_in}
@@ -43,33 +42,22 @@ pub record Fits (g : Selection) (k : ℕ) (x : Life) : Type 0 where
 
 -- a present life is kept where its connection's last is
 pub number_of : (g : Selection) (c k : ℕ) (x : Life) → is_present c x ≡ true → Fits g k x → g.keeps k ≡ g.keeps_on c
-number_of g c k x e fit = grind (arith, fit.placed, eqb_tells)
+number_of g c k x e fit = grind arith
 
 -- ---- a connection whose present life is kept, or not
 
-pub find_in : (g : Selection) (c n : ℕ) (lives : List Life) → AllFrom (Fits g) n lives → g.keeps_on c ≡ true
-    → find (is_present c) (kept_from g.keeps n lives) ≡ find (is_present c) lives
+pub find_kept : (g : Selection) (c n : ℕ) (lives : List Life) → AllFrom (Fits g) n lives
+    → find (is_present c) (kept_from g.keeps n lives) ≡ cond (g.keeps_on c) (find (is_present c) lives) None
 unfolding AllFrom
-find_in g c n [] fits on = refl
-find_in g c n (x ∷ lives) fits on = grind (arith, find_in g c (suc n) lives fits.1 on, number_of g c n x)
+find_kept g c n [] fits = grind arith
+find_kept g c n (x ∷ lives) fits = grind (arith, find_kept g c (suc n) lives fits.1, number_of g c n x)
 
-pub find_out : (g : Selection) (c n : ℕ) (lives : List Life) → AllFrom (Fits g) n lives → g.keeps_on c ≡ false
-    → find (is_present c) (kept_from g.keeps n lives) ≡ None
+pub changed_kept : (g : Selection) (f : Life → Life) (c n : ℕ) (lives : List Life) → AllFrom (Fits g) n lives
+    → kept_from g.keeps n (changed_first (is_present c) f lives)
+    ≡ cond (g.keeps_on c) (changed_first (is_present c) f (kept_from g.keeps n lives)) (kept_from g.keeps n lives)
 unfolding AllFrom
-find_out g c n [] fits on = refl
-find_out g c n (x ∷ lives) fits on = grind (arith, find_out g c (suc n) lives fits.1 on, number_of g c n x)
-
-pub changed_in : (g : Selection) (f : Life → Life) (c n : ℕ) (lives : List Life) → AllFrom (Fits g) n lives → g.keeps_on c ≡ true
-    → kept_from g.keeps n (changed_first (is_present c) f lives) ≡ changed_first (is_present c) f (kept_from g.keeps n lives)
-unfolding AllFrom
-changed_in g f c n [] fits on = refl
-changed_in g f c n (x ∷ lives) fits on = grind (arith, changed_in g f c (suc n) lives fits.1 on, number_of g c n x)
-
-pub changed_out : (g : Selection) (f : Life → Life) (c n : ℕ) (lives : List Life) → AllFrom (Fits g) n lives → g.keeps_on c ≡ false
-    → kept_from g.keeps n (changed_first (is_present c) f lives) ≡ kept_from g.keeps n lives
-unfolding AllFrom
-changed_out g f c n [] fits on = refl
-changed_out g f c n (x ∷ lives) fits on = grind (arith, changed_out g f c (suc n) lives fits.1 on, number_of g c n x)
+changed_kept g f c n [] fits = grind arith
+changed_kept g f c n (x ∷ lives) fits = grind (arith, changed_kept g f c (suc n) lives fits.1, number_of g c n x)
 
 pub over_out : (g : Selection) (c n : ℕ) (lives : List Life) → AllFrom (Fits g) n lives → g.keeps_on c ≡ false
     → kept_from g.keeps n (map (over c) lives) ≡ kept_from g.keeps n lives

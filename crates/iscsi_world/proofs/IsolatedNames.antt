@@ -1,16 +1,15 @@
 -- A life names one of the targets, or none.
-use Rattle.std.proofs.Common.{◌≡◌, ℕ, ◌+◌, ◌<◌, List, [], ◌∷◌, length, Bool, true, false, cond, Option, Some, None, sym, ap, ◌∙◌}
+use Rattle.std.proofs.Common.{◌≡◌, ℕ, ◌+◌, ◌<◌, List, [], ◌∷◌, length, Bool, cond, Option, Some, None, arith}
 use Rattle.std.specs.Prelude.{bytes_eq}
 use Rattle.std.specs.List.{fold}
-use Rattle.std.specs.Option.{option_or}
 use Rattle.std.proofs.lemmas.List.Quantifiers.{position-Some}
 use Rattle.iscsi_pdu.specs.Frames.{Frame}
 use Rattle.iscsi_text.specs.Pairs.{Pair}
 use Rattle.iscsi_login.specs.Directory.{KnownTargets}
 use Rattle.iscsi_login.specs.LoginState.{LoginState, new_login}
 use Rattle.iscsi_login.specs.Session.{target_named}
-use Rattle.iscsi_login.specs.Rules.{reads_text, is_due, pairs_with, is_normal, target_asked, asked_for, asked_by}
-use Rattle.iscsi_login.specs.Login.{heard, kept_with, brought, advanced, remembered}
+use Rattle.iscsi_login.specs.Rules.{is_normal, target_asked, asked_for}
+use Rattle.iscsi_login.specs.Login.{advanced, remembered}
 use Rattle.iscsi_login.specs.declared.requested_session.RequestedSession.{RequestedSession}
 use Rattle.iscsi_world.specs.Life.{Life}
 use Rattle.iscsi_world.specs.Isolation.{named_in}
@@ -25,38 +24,15 @@ unfolding target_named
 named_below names name t e = (position-Some (λ other. bytes_eq other name) names t [] e).0
 
 normal_below : (b : Bool) (names : List (List ℕ)) (name : List ℕ) (t : ℕ) → cond b (target_named names name) None ≡ Some t → t < length names
-normal_below true names name t e = named_below names name t e
-normal_below false names name t e = absurd cc
+normal_below b names name t e = grind (arith, named_below)
 
 asked_below : (directory : KnownTargets) (header : List ℕ) (pairs : List Pair) → Below (length directory.names) (Some (asked_for directory header pairs))
 unfolding Below asked_for target_asked
 asked_below directory header pairs = λ t e. normal_below (is_normal pairs) directory.names _ t e
 
-first_below : (o : Option RequestedSession) (directory : KnownTargets) (header : List ℕ) (pairs : List Pair) → Below (length directory.names) o
-    → Below (length directory.names) (option_or o (asked_by o directory header pairs))
-first_below None directory header pairs below = asked_below directory header pairs
-first_below (Some session) directory header pairs below = below
-
-brought_below : (reads due : Bool) (count : ℕ) (heard_ login kept_ : LoginState) → Below count heard_.session → Below count login.session
-    → Below count kept_.session → Below count (cond reads heard_ (cond due login kept_)).session
-brought_below true due count heard_ login kept_ a b c = a
-brought_below false true count heard_ login kept_ a b c = b
-brought_below false false count heard_ login kept_ a b c = c
-
-below_as : (count : ℕ) (o p : Option RequestedSession) → p ≡ o → Below count o → Below count p
-unfolding Below
-below_as count o p e below = λ t at. below t (ap target_of (sym e) ∙ at)
-
 advanced_below : (directory : KnownTargets) (login : LoginState) (request : Frame) → Below (length directory.names) login.session
     → Below (length directory.names) (advanced directory login request).session
-advanced_below directory login request below =
-    let pairs = pairs_with login request in
-    let heard_ = heard directory login request.header pairs in
-    below_as (length directory.names) (brought directory login request).session (advanced directory login request).session
-    (advanced_session directory login request)
-    (brought_below (reads_text login request) (is_due login) (length directory.names) heard_ login (kept_with login request)
-    (below_as (length directory.names) (option_or login.session (asked_by login.session directory request.header pairs)) heard_.session
-    (heard_session directory login request.header pairs) (first_below login.session directory request.header pairs below)) below below)
+advanced_below directory login request below = grind (arith, advanced_session, heard_session, asked_below)
 
 all_below : (directory : KnownTargets) (login : LoginState) (requests : List Frame) → Below (length directory.names) login.session
     → Below (length directory.names) (fold (advanced directory) login requests).session

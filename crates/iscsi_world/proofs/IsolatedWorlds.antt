@@ -1,6 +1,6 @@
 -- Two Worlds, of which the second has of the first the lives that are kept, and the same units of a target.
-use Rattle.std.proofs.Common.{◌≡◌, ◌≢◌, ℕ, zero, suc, ◌-◌, ◌<◌, List, [], ◌∷◌, map, length, Bool, true, false, cond, ◌&&◌, eqb, Option, Some, None, refl, sym, ap, ◌∙◌, subst, arith}
-use Rattle.std.specs.Prelude.{slice_index_or, slice_set, position, find}
+use Rattle.std.proofs.Common.{◌≡◌, ◌≢◌, ℕ, zero, suc, ◌-◌, ◌<◌, List, [], ◌∷◌, map, length, Bool, true, false, cond, ◌&&◌, eqb, Option, Some, None, refl, sym, ap, ◌∙◌, arith}
+use Rattle.std.specs.Prelude.{slice_index_or, slice_set, find}
 use Rattle.std.proofs.lemmas.Bool.{eqb-true, eq-eqb}
 use Rattle.std.proofs.lemmas.List.{length-set, get_or-set_other}
 use Rattle.std.proofs.lemmas.List.FromFn.{get_or-map-range_with_len, length-map-range_with_len}
@@ -12,13 +12,12 @@ use Rattle.iscsi_login.specs.declared.session_params.SessionParams.{SessionParam
 use Rattle.iscsi_session.specs.Comings.{IsCalm}
 use Rattle.iscsi_session.specs.Requests.{Past}
 use Rattle.iscsi_world.specs.History.{connection_limit, connections}
-use Rattle.iscsi_world.specs.Life.{Life, Phase, FullFeature, past_in, session_in}
+use Rattle.iscsi_world.specs.Life.{Life}
 use Rattle.iscsi_world.specs.World.{World, is_present, present, session_of, past_of, live, units_at, with_units}
 use Rattle.iscsi_world.specs.Isolation.{kept_from}
-use Rattle.iscsi_world.proofs.Choices.{and_true, and_false}
-use Rattle.iscsi_world.proofs.Lists.{position_of_map}
+use Rattle.iscsi_world.proofs.Choices.{and_false}
 use Rattle.iscsi_world.proofs.Lives.{present_is}
-use Rattle.iscsi_world.proofs.IsolatedLives.{AllFrom, Selection, HasTarget, Fits, number_of, find_in, find_out, found_fits}
+use Rattle.iscsi_world.proofs.IsolatedLives.{AllFrom, Selection, HasTarget, Fits, number_of, find_kept, found_fits}
 use Rattle.std.proofs.lemmas.Grind.{common_steps}
 
 -- ---- units
@@ -47,8 +46,7 @@ with_own g None units all some own agree = agree
 with_own g (Some t) units all some own agree =
     let same : t ≡ g.target = eqb-true t g.target (sym (own t refl)) in
     record {
-      units = subst (λ (i : ℕ). slice_index_or (slice_set some i units) g.target [] ≡ slice_index_or (slice_set all i units) g.target []) (sym same)
-          (set_alike some all g.target units [] agree.count agree.units);
+      units = grind (arith, set_alike);
       count = length-set some t units ∙ agree.count ∙ sym (length-set all t units);
     }
 
@@ -71,26 +69,10 @@ pub record Agree (g : Selection) (w v : World) : Type 0 where
   pub calm : IsCalm g.target w.comings
   pub silent : v.comings ≡ []
 
--- the same lives, and these units
-pub agree_with : (g : Selection) (w v w_then v_then : World) → Agree g w v → w_then.lives ≡ w.lives → v_then.lives ≡ v.lives
-    → UnitsAgree g w_then.units v_then.units → IsCalm g.target w_then.comings → v_then.comings ≡ [] → Agree g w_then v_then
-agree_with g w v w_then v_then agree a b units calm silent = record {
-  lives = b ∙ agree.lives ∙ ap (kept_from g.keeps 0) (sym a);
-  units = units;
-  fits = subst (AllFrom (Fits g) 0) (sym a) agree.fits;
-  calm = calm;
-  silent = silent;
-}
-
--- a connection whose last life is kept
-pub present_in : (g : Selection) (c : ℕ) (w v : World) → g.keeps_on c ≡ true → Agree g w v → present c v ≡ present c w
+-- the present life of a connection whose last life is kept
+pub present_kept : (g : Selection) (c : ℕ) (w v : World) → Agree g w v → present c v ≡ cond (g.keeps_on c) (present c w) None
 unfolding present
-present_in g c w v on agree = ap (find (is_present c)) agree.lives ∙ find_in g c 0 w.lives agree.fits on
-
--- .. is not kept
-pub present_out : (g : Selection) (c : ℕ) (w v : World) → g.keeps_on c ≡ false → Agree g w v → present c v ≡ None
-unfolding present
-present_out g c w v on agree = ap (find (is_present c)) agree.lives ∙ find_out g c 0 w.lives agree.fits on
+present_kept g c w v agree = ap (find (is_present c)) agree.lives ∙ find_kept g c 0 w.lives agree.fits
 
 -- the number of a present life
 pub present_fits : (g : Selection) (c : ℕ) (w v : World) (life : Life) → Agree g w v → present c w ≡ Some life
@@ -102,23 +84,15 @@ present_fits g c w v life agree at =
 
 session_target_by : (g : Selection) (c : ℕ) (w v : World) (o : Option Life) (p : SessionParams) → Agree g w v → present c w ≡ o → session_of o ≡ Some p
     → HasTarget g (g.keeps_on c) p.target
-session_target_by g c w v None p agree at e = absurd cc
-session_target_by g c w v (Some life) p agree at e =
-    let found = present_fits g c w v life agree at in
-    subst (λ (b : Bool). HasTarget g b p.target) found.2 (found.1.session p e)
+session_target_by g c w v o p agree at e = grind (arith, present_fits)
 
 -- the target of a session
 pub session_target : (g : Selection) (c : ℕ) (w v : World) (p : SessionParams) → Agree g w v → session_of (present c w) ≡ Some p
     → HasTarget g (g.keeps_on c) p.target
 session_target g c w v p agree e = session_target_by g c w v (present c w) p agree refl e
 
-session_past : (phase : Phase) (past : Past) → past_in phase ≡ Some past → session_in phase ≡ Some past.params
-session_past (FullFeature session) past e = let same : session ≡ past = cc in ap (λ (x : Past). Some x.params) same
-session_past _ past e = absurd cc
-
 pub session_of_past : (o : Option Life) (past : Past) → past_of o ≡ Some past → session_of o ≡ Some past.params
-session_of_past None past e = absurd cc
-session_of_past (Some life) past e = session_past life.phase past e
+session_of_past o past e = grind arith
 
 pub past_target : (g : Selection) (c : ℕ) (w v : World) (past : Past) → Agree g w v → past_of (present c w) ≡ Some past
     → HasTarget g (g.keeps_on c) past.params.target
@@ -128,8 +102,7 @@ past_target g c w v past agree e = session_target g c w v past.params agree (ses
 
 -- of two targets
 pub same_targets : (o : Option ℕ) (p : Option ℕ) → is_same_target o p ≡ true → (t : ℕ) × (o ≡ Some t) × (p ≡ Some t)
-same_targets (Some t) (Some u) e = (t, refl, ap Some (sym (eqb-true t u e)))
-same_targets _ _ e = absurd cc
+same_targets o p e = grind arith
 
 pub one_target : (g : Selection) (a b : Bool) (o p : Option ℕ) → HasTarget g a o → HasTarget g b p → is_same_target o p ≡ true → a ≡ b
 unfolding HasTarget
@@ -147,13 +120,7 @@ other_is_none g nexus o (Some p) own other = by_target (is_same_target p.target 
 
 session_same : (g : Selection) (nexus : NexusName) (o : Option ℕ) (w v : World) (d : ℕ) → HasTarget g true o → Agree g w v
     → is_of nexus o (session_of (present d v)) ≡ is_of nexus o (session_of (present d w))
-session_same g nexus o w v d own agree = by_choice (g.keeps_on d) refl
-  where
-    by_choice : (b : Bool) → g.keeps_on d ≡ b → is_of nexus o (session_of (present d v)) ≡ is_of nexus o (session_of (present d w))
-    by_choice true on = ap (λ (x : Option Life). is_of nexus o (session_of x)) (present_in g d w v on agree)
-    by_choice false on = ap (λ (x : Option Life). is_of nexus o (session_of x)) (present_out g d w v on agree)
-        ∙ other_is_none g nexus o (session_of (present d w)) own (λ p e. subst (λ (b : Bool). HasTarget g b p.target) on
-        (session_target g d w v p agree e))
+session_same g nexus o w v d own agree = grind (arith, present_kept g d w v agree, other_is_none, session_target)
 
 map_at : (p : Option SessionParams → Bool) (f h : ℕ → Option SessionParams) (cs : List ℕ) (i : ℕ) → ((c : ℕ) → p (f c) ≡ p (h c))
     → p (slice_index_or (map f cs) i None) ≡ p (slice_index_or (map h cs) i None)
@@ -162,8 +129,7 @@ map_at p f h (c ∷ cs) zero same = same c
 map_at p f h (c ∷ cs) (suc i) same = map_at p f h cs i same
 
 named_by_cases : (b : Bool) (p : Option SessionParams → Bool) (x y : Option SessionParams) → p x ≡ p y → p (cond b None x) ≡ p (cond b None y)
-named_by_cases true p x y e = refl
-named_by_cases false p x y e = e
+named_by_cases b p x y e = grind arith
 
 -- the session that a TSIH names
 pub named_same : (g : Selection) (nexus : NexusName) (o : Option ℕ) (w v : World) (handle : ℕ) → HasTarget g true o → Agree g w v
@@ -178,16 +144,12 @@ named_same g nexus o w v handle own agree =
 pub older_same : (g : Selection) (session : SessionParams) (w v : World) → HasTarget g true session.target → Agree g w v
     → older session (live v) ≡ older session (live w)
 unfolding older live
-older_same g session w v own agree =
-    position_of_map (is_of session.nexus session.target) (λ c. session_of (present c v)) connections
-    ∙ (λ i. position (λ d. session_same g session.nexus session.target w v d own agree i) connections)
-    ∙ sym (position_of_map (is_of session.nexus session.target) (λ c. session_of (present c w)) connections)
+older_same g session w v own agree = grind (arith, session_same)
 
 -- a session of the same target is of a life that is kept too, or neither is
 of_target : (q : Option SessionParams) (nexus : NexusName) (o : Option ℕ) → is_of nexus o q ≡ true
     → (p : SessionParams) × (q ≡ Some p) × (is_same_target p.target o ≡ true)
-of_target None nexus o e = absurd cc
-of_target (Some p) nexus o e = (p, refl, (and_true (same_nexus p.nexus nexus) (is_same_target p.target o) e).1)
+of_target q nexus o e = grind arith
 
 pub older_on : (g : Selection) (b : Bool) (session : SessionParams) (w v : World) (d : ℕ) → HasTarget g b session.target → Agree g w v
     → older session (live w) ≡ Some d

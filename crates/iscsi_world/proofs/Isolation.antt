@@ -1,29 +1,28 @@
 -- Of every history: the kept lives and the target's units are those of the kept lives' events alone.
-use Rattle.std.proofs.Common.{◌≡◌, ◌≢◌, ℕ, suc, ◌+◌, ◌≤◌, List, [], ◌∷◌, ◌++◌, length, map, Bool, true, false, not, ◌||◌, eqb, Option, Some, None, refl, sym, ap, ◌∙◌, subst, arith, cond}
-use Rattle.std.specs.Prelude.{slice_get, nat_lt}
+use Rattle.std.proofs.Common.{◌≡◌, ◌≢◌, ℕ, suc, ◌+◌, ◌≤◌, List, [], ◌∷◌, ◌++◌, length, map, Bool, true, false, ◌||◌, eqb, Option, Some, None, refl, sym, ap, ◌∙◌, subst, arith, cond}
+use Rattle.std.specs.Prelude.{slice_get}
 use Rattle.std.specs.List.{fold}
 use Rattle.std.specs.Option.{option_and_then}
-use Rattle.std.proofs.lemmas.Bool.{eqb-true, ne_eqb}
+use Rattle.std.proofs.lemmas.Bool.{ne_eqb}
 use Rattle.std.proofs.lemmas.List.{length-map, length-append, append-nil}
 use Rattle.scsi_unit.specs.Medium.{kept_of}
 use Rattle.iscsi_session.specs.Comings.{Coming, IsCalm, is_for}
 use Rattle.iscsi_login.specs.Session.{is_same_target}
-use Rattle.iscsi_world.specs.History.{Event, Open, Bytes, Gone, Happening, History, Mark, happening, connection_limit, is_among, open_after, may_come, may_follow, well_formed, plain}
+use Rattle.iscsi_world.specs.History.{Event, Open, Bytes, Gone, Happening, History, Mark, happening, is_among, open_after, may_come, may_follow, well_formed, plain}
 use Rattle.iscsi_world.specs.Life.{Life, Over, is_over, born, ended_in, out_of}
 use Rattle.iscsi_world.specs.World.{Setting, World, is_present, present, session_of, over, end, bring, begun_event, happened, new_world, world}
 use Rattle.iscsi_world.specs.Output.{outputs, media, media_in}
 use Rattle.iscsi_world.specs.Machine.{Machine}
 use Rattle.iscsi_world.specs.Stands.{Stands}
 use Rattle.iscsi_world.specs.Isolation.{kept_from, connection_of, next_after, last_after, last_among, life_of, only_from, only, named_in, Selects, Watches, AreAlike, EventsAreLocal, names, plain_world, events_of, AreUnmarked, AreCalm, kept, TargetsAreIsolated, TargetsSeeTheirOwn, StrangersAreAlone, GivesItsOwn}
-use Rattle.iscsi_world.proofs.Choices.{cond_true, cond_false, and_true, not_true, eqb_self}
+use Rattle.iscsi_world.proofs.Choices.{cond_true, cond_false, and_true, eqb_self}
 use Rattle.iscsi_world.proofs.Keeping.{world-push}
 use Rattle.iscsi_world.proofs.IsolatedLives.{AllFrom, Selection, HasTarget, Fits, kept_append, kept_map, over_out, all_map, all_as, all_push, all_places}
 use Rattle.iscsi_world.proofs.IsolatedNames.{is_configured}
 use Rattle.iscsi_world.proofs.IsolatedAsking.{Named, AreNamed, adds-bring, same_count, named_first}
-use Rattle.iscsi_world.proofs.IsolatedWorlds.{UnitsAgree, Agree, present_in}
-use Rattle.iscsi_world.proofs.IsolatedOutside.{out_left, other_session}
-use Rattle.iscsi_world.proofs.IsolatedInside.{own_left, own_session}
-use Rattle.iscsi_world.proofs.IsolatedEvents.{in_bring, out_bring}
+use Rattle.iscsi_world.proofs.IsolatedWorlds.{UnitsAgree, Agree, present_kept}
+use Rattle.iscsi_world.proofs.IsolatedSteps.{agree-left, session_own}
+use Rattle.iscsi_world.proofs.IsolatedEvents.{agree-bring}
 use Rattle.iscsi_world.proofs.Tables.{among-gone_other}
 
 -- ---- between two events
@@ -53,18 +52,6 @@ or_right a b e = grind arith
 open_count : (next c : ℕ) (lives : List Life) → next ≡ length lives → suc next ≡ length (lives ++ born c ∷ [])
 open_count next c lives e = omega (arith, length-append lives (born c ∷ []))
 
--- the lives that are kept, and the one that begins where it is
-pushed_in : (keeps : ℕ → Bool) (next : ℕ) (x : Life) (lives : List Life) → next ≡ length lives → keeps next ≡ true
-    → kept_from keeps 0 (lives ++ x ∷ []) ≡ kept_from keeps 0 lives ++ x ∷ []
-pushed_in keeps next x lives e keep = grind (arith, kept_append)
-
-pushed_out : (keeps : ℕ → Bool) (next : ℕ) (x : Life) (lives : List Life) → next ≡ length lives → keeps next ≡ false
-    → kept_from keeps 0 (lives ++ x ∷ []) ≡ kept_from keeps 0 lives
-pushed_out keeps next x lives e keep = grind (arith, kept_append, append-nil)
-
-free_of : (opened : List ℕ) (c : ℕ) → may_come opened (Open c) ≡ true → is_among c opened ≡ false
-free_of opened c e = not_true (is_among c opened) (and_true (nat_lt c connection_limit) (not (is_among c opened)) e).1
-
 bring_count : (s : Setting) (c : ℕ) (piece : List ℕ) (w : World) → length (bring s [] c piece w).lives ≡ length w.lives
 bring_count s c piece w = same_count w (bring s [] c piece w) (adds-bring s [] c piece w)
 
@@ -80,8 +67,7 @@ after s w history = fold (happened s) w history
 
 only_first : (b : Bool) (s : Setting) (v : World) (event : Event) (events : List Event)
     → after s v (map plain (cond b (event ∷ events) events)) ≡ after s (cond b (happened s v (plain event)) v) (map plain events)
-only_first true s v event events = refl
-only_first false s v event events = refl
+only_first b s v event events = grind arith
 
 module _ (target : ℕ) (keeps : ℕ → Bool) where
   abbrev chosen : Place → Selection
@@ -100,44 +86,19 @@ module _ (target : ℕ) (keeps : ℕ → Bool) where
 
   placed_later : (p : Place) (c d k : ℕ) → is_among c p.opened ≡ false → (is_among d p.opened ≡ true) × (keeps k ≡ keeps (p.last d))
       → (is_among d (c ∷ p.opened) ≡ true) × (keeps k ≡ keeps (last_after p.next p.last (Open c) d))
-  placed_later p c d k free placed =
-      let differ : d ≢ c = λ same. (let both = ap (λ (e : ℕ). is_among e p.opened) same in absurd (cc (both, free, placed.0))) in
-      (or_right (eqb c d) (is_among d p.opened) placed.0, placed.1 ∙ ap keeps (sym (cond_false (eqb d c) p.next (p.last d) (ne_eqb d c differ))))
+  placed_later p c d k free placed = grind arith
 
   fits_later : (p : Place) (c : ℕ) → is_among c p.opened ≡ false → (k : ℕ) (x : Life) → Fits (chosen p) k x → Fits (chosen (behind p (Open c))) k x
   unfolding HasTarget
   fits_later p c free k x fit = record { placed = λ e. placed_later p c x.connection k free (fit.placed e); session = fit.session }
 
-  born_fits : (p : Place) (c k : ℕ) → k ≡ p.next → Fits (chosen (behind p (Open c))) k (born c)
-  born_fits p c k e = record {
-    placed = λ open_. (
-      ap (λ (b : Bool). b || is_among c p.opened) (eqb_self c),
-      ap keeps (e ∙ sym (cond_true (eqb c c) p.next (p.last c) (eqb_self c))),
-    );
-    session = λ session never. absurd cc;
-  }
-
   open_fits : (p : Place) (c : ℕ) (w v : World) → may_come p.opened (Open c) ≡ true → Follow p w v
       → AllFrom (Fits (chosen (behind p (Open c)))) 0 (w.lives ++ born c ∷ [])
-  open_fits p c w v may follow =
-      let here : 0 + length w.lives ≡ p.next = omega (arith, follow.count) in
-      all_push (Fits (chosen (behind p (Open c)))) 0 w.lives (born c)
-      (all_as (Fits (chosen p)) (Fits (chosen (behind p (Open c)))) 0 w.lives (fits_later p c (free_of p.opened c may)) follow.agree.fits)
-      (born_fits p c (0 + length w.lives) here)
+  open_fits p c w v may follow = grind (arith, all_push, all_as, fits_later)
 
   on_open : (b : Bool) (p : Place) (c : ℕ) (w v : World) → may_come p.opened (Open c) ≡ true → keeps p.next ≡ b → Follow p w v
       → Follow (behind p (Open c)) (opens c w) (cond b (opens c v) v)
-  on_open true p c w v may keep follow = record {
-    agree = agree_at p (behind p (Open c)) (opens c w) (opens c v) (ap (λ (l : List Life). l ++ born c ∷ []) follow.agree.lives
-        ∙ sym (pushed_in keeps p.next (born c) w.lives follow.count keep)) follow.agree.units (open_fits p c w v may follow) follow.agree.calm
-        follow.agree.silent;
-    count = open_count p.next c w.lives follow.count;
-  }
-  on_open false p c w v may keep follow = record {
-    agree = agree_at p (behind p (Open c)) (opens c w) v (follow.agree.lives ∙ sym (pushed_out keeps p.next (born c) w.lives follow.count keep))
-        follow.agree.units (open_fits p c w v may follow) follow.agree.calm follow.agree.silent;
-    count = open_count p.next c w.lives follow.count;
-  }
+  on_open b p c w v may keep follow = grind (arith, kept_append, open_fits, open_count, append-nil)
 
   keeps_new : (p : Place) (c : ℕ) (b : Bool) → keeps (last_after p.next p.last (Open c) c) ≡ b → keeps p.next ≡ b
   keeps_new p c b e = ap keeps (sym (cond_true (eqb c c) p.next (p.last c) (eqb_self c))) ∙ e
@@ -146,11 +107,9 @@ module _ (target : ℕ) (keeps : ℕ → Bool) where
 
   gone_by : (b : Bool) (p : Place) (c k : ℕ) (x : Life) → is_present c x ≡ b → Fits (chosen p) k x → Fits (chosen (behind p (Gone c))) k (over c x)
   unfolding HasTarget
-  gone_by true p c k x e fit = subst (Fits (chosen (behind p (Gone c))) k) (sym (cond_true (is_present c x) (ended_in Over x) x e))
-      (record { placed = λ open_. absurd cc; session = λ session never. absurd cc })
+  gone_by true p c k x e fit = grind arith
   gone_by false p c k x e fit =
-      let differ : is_over x.phase ≡ false → x.connection ≢ c = λ open_ same.
-      (let here : is_present c x ≡ true = rw (same, open_, eqb_self c) refl in absurd (cc (here, e))) in
+      let differ : is_over x.phase ≡ false → x.connection ≢ c = grind arith in
       subst (Fits (chosen (behind p (Gone c))) k) (sym (cond_false (is_present c x) (ended_in Over x) x e)) (record {
         placed = λ open_. (let was = fit.placed open_ in (among-gone_other x.connection c p.opened (differ open_) ∙ was.0, was.1));
         session = fit.session;
@@ -159,39 +118,17 @@ module _ (target : ℕ) (keeps : ℕ → Bool) where
   on_end : (b : Bool) (p : Place) (c : ℕ) (w v : World) → keeps (p.last c) ≡ b → Follow p w v
       → Follow (behind p (Gone c)) (end c w) (cond b (end c v) v)
   unfolding end
-  on_end b p c w v keep follow = ended b keep
-    where
-      fits : AllFrom (Fits (chosen (behind p (Gone c)))) 0 (map (over c) w.lives)
-      fits = all_map (Fits (chosen p)) (Fits (chosen (behind p (Gone c)))) (over c) 0 w.lives (λ k x fit. gone_by (is_present c x) p c k x refl fit)
-          follow.agree.fits
-
-      ended : (b : Bool) → keeps (p.last c) ≡ b → Follow (behind p (Gone c)) (end c w) (cond b (end c v) v)
-      ended true keep = record {
-        agree = agree_at p (behind p (Gone c)) (end c w) (end c v) (ap (map (over c)) follow.agree.lives ∙ sym (kept_map keeps (over c) 0 w.lives))
-            (rw (present_in (chosen p) c w v keep follow.agree)
-            (own_left (chosen p) (session_of (present c w)) w.units v.units (own_session (chosen p) c w v keep follow.agree) follow.agree.units))
-            fits follow.agree.calm follow.agree.silent;
-        count = follow.count ∙ sym (length-map w.lives (over c));
-      }
-      ended false keep = record {
-        agree = agree_at p (behind p (Gone c)) (end c w) v (follow.agree.lives ∙ sym (over_out (chosen p) c 0 w.lives follow.agree.fits keep))
-            (out_left (chosen p) (session_of (present c w)) w.units v.units (other_session (chosen p) c w v keep follow.agree) follow.agree.units)
-            fits follow.agree.calm follow.agree.silent;
-        count = follow.count ∙ sym (length-map w.lives (over c));
-      }
+  on_end b p c w v keep follow =
+      let fits = all_map (Fits (chosen p)) (Fits (chosen (behind p (Gone c)))) (over c) 0 w.lives
+      (λ k x fit. gone_by (is_present c x) p c k x refl fit) follow.agree.fits in
+      let units = agree-left (chosen p) b (session_of (present c w)) w.units v.units (session_own (chosen p) b c w v keep follow.agree) follow.agree.units in
+      grind (arith, fits, units, kept_map, over_out (chosen p), present_kept (chosen p) c w v follow.agree, length-map, agree_at)
 
   -- ---- one event
 
   begun_follow : (b : Bool) (p : Place) (comings : List Coming) (w v : World) → IsCalm target comings → Follow p w v
       → Follow p (begun_event comings w) (cond b (begun_event [] v) v)
-  begun_follow true p comings w v calm f = record {
-    agree = record { lives = f.agree.lives; units = f.agree.units; fits = f.agree.fits; calm = calm; silent = refl };
-    count = f.count;
-  }
-  begun_follow false p comings w v calm f = record {
-    agree = record { lives = f.agree.lives; units = f.agree.units; fits = f.agree.fits; calm = calm; silent = f.agree.silent };
-    count = f.count;
-  }
+  begun_follow b p comings w v calm f = grind arith
 
   module _ (s : Setting) where
     -- of a life that is kept, or of another one
@@ -199,22 +136,15 @@ module _ (target : ℕ) (keeps : ℕ → Bool) where
         → keeps (last_after p.next p.last event (connection_of event)) ≡ b → IsCalm target comings
         → AreNamed (chosen p) s.directory (happened s w (happening [] comings event)) → Follow p w v
         → Follow (behind p event) (happened s w (happening [] comings event)) (cond b (happened s v (plain event)) v)
-    follow_event true (Open c) p comings w v may keep calm named f =
-        on_open true p c (begun_event comings w) (begun_event [] v) may (keeps_new p c true keep) (begun_follow true p comings w v calm f)
-    follow_event false (Open c) p comings w v may keep calm named f =
-        on_open false p c (begun_event comings w) v may (keeps_new p c false keep) (begun_follow false p comings w v calm f)
-    follow_event true (Bytes c piece) p comings w v may keep calm named f = record {
-      agree = in_bring (chosen p) s c piece (begun_event comings w) (begun_event [] v) keep named (begun_follow true p comings w v calm f).agree;
-      count = f.count ∙ sym (bring_count s c piece (begun_event comings w));
-    }
-    follow_event false (Bytes c piece) p comings w v may keep calm named f = record {
-      agree = out_bring (chosen p) s c piece (begun_event comings w) v keep named (begun_follow false p comings w v calm f).agree;
-      count = f.count ∙ sym (bring_count s c piece (begun_event comings w));
-    }
-    follow_event true (Gone c) p comings w v may keep calm named f =
-        on_end true p c (begun_event comings w) (begun_event [] v) keep (begun_follow true p comings w v calm f)
-    follow_event false (Gone c) p comings w v may keep calm named f =
-        on_end false p c (begun_event comings w) v keep (begun_follow false p comings w v calm f)
+    follow_event b (Open c) p comings w v may keep calm named f =
+        let both = on_open b p c _ _ may (keeps_new p c b keep) (begun_follow b p comings w v calm f) in
+        grind arith
+    follow_event b (Bytes c piece) p comings w v may keep calm named f =
+        let both = agree-bring (chosen p) b s c piece (begun_event comings w) _ keep named (begun_follow b p comings w v calm f).agree in
+        grind (arith, bring_count)
+    follow_event b (Gone c) p comings w v may keep calm named f =
+        let both = on_end b p c _ _ keep (begun_follow b p comings w v calm f) in
+        grind arith
 
     -- ---- one event after the other
 
@@ -246,8 +176,7 @@ module _ (target : ℕ) (keeps : ℕ → Bool) where
 
     selected : (w : World) → Selects s.directory target keeps w.lives → AreNamed (chosen first_place) s.directory w
     unfolding Named HasTarget
-    selected w selects = all_places (Named (chosen first_place) s.directory) 0 w.lives (λ k x at t e. (let here : 0 + k ≡ k = omega arith in
-        ap keeps here ∙ selects k x t at e))
+    selected w selects = grind (arith, all_places)
 
     followed : (history : History) → may_follow [] (events_of history) ≡ true → AreUnmarked history → AreCalm target history
         → AreNamed (chosen first_place) s.directory (world s history)
@@ -290,8 +219,7 @@ top_of [] = 0
 top_of (x ∷ history) = top_in x.comings + top_of history
 
 not_for : (o : Option ℕ) (n : ℕ) → top o ≤ n → is_for o (Some n) ≡ false
-not_for None n le = refl
-not_for (Some target) n le = let below : suc target ≤ n = le in ne_eqb target n (λ same. absurd (omega (arith, below, same)))
+not_for o n le = grind arith
 
 calm_above : (comings : List Coming) (n : ℕ) → top_in comings ≤ n → IsCalm n comings
 calm_above [] n le = tt
@@ -310,13 +238,7 @@ one_by : (b : Bool) (s : Setting) (n : ℕ) (lives : List Life) (j k named : ℕ
     → eqb j k ≡ b → slice_get lives k ≡ Some life
     → named_in s.directory life ≡ None → slice_get lives j ≡ Some other → named_in s.directory other ≡ Some named
     → eqb j k ≡ eqb named n
-one_by true s n lives j k named life other le same at none there e =
-    let here : slice_get lives j ≡ slice_get lives k = ap (slice_get lives) (eqb-true j k same) in
-    let one : other ≡ life = cc in
-    let both = ap (named_in s.directory) one in absurd (cc (both, none, e))
-one_by false s n lives j k named life other le same at none there e =
-    let below = is_configured s.directory other named e in
-    same ∙ sym (ne_eqb named n (λ equal. omega arith))
+one_by b s n lives j k named life other le same at none there e = grind (arith, is_configured)
 
 pub strangers_are_alone : StrangersAreAlone
 strangers_are_alone s history k life formed unmarked at none =
@@ -358,8 +280,7 @@ module _ (s : Setting) (target : ℕ) (keeps : ℕ → Bool) (h : History) (came
   may = may_split [] (events_of h) event at.formed
 
   named_then : AreNamed (chosen target keeps first_place) s.directory then_
-  named_then = selected target keeps s then_
-      (subst (λ (w : World). Selects s.directory target keeps w.lives) (world-push s h (happening [] came event)) at.selects)
+  named_then = grind (arith, selected, world-push)
 
   stood : Follow target keeps there (world s h) (plain_world s (only keeps (events_of h)))
   stood = followed target keeps s h may.0 at.unmarked at.calm.0
@@ -376,16 +297,7 @@ module _ (s : Setting) (target : ℕ) (keeps : ℕ → Bool) (h : History) (came
 -- where the second of two Worlds is that which follows the first, they are as two that follow it
 agrees_there : (target : ℕ) (keeps others : ℕ → Bool) (p q : Place) (w u v x : World) → Follow target keeps p w v → Follow target others q u x
     → AreAlike target keeps others w u → length w.units ≡ length u.units → Follow target others q u v
-agrees_there target keeps others p q w u v x one two alike count = record {
-  agree = record {
-    lives = one.agree.lives ∙ alike.lives;
-    units = record { units = one.agree.units.units ∙ alike.units; count = one.agree.units.count ∙ count };
-    fits = two.agree.fits;
-    calm = two.agree.calm;
-    silent = one.agree.silent;
-  };
-  count = two.count;
-}
+agrees_there target keeps others p q w u v x one two alike count = grind arith
 
 pub events_are_local : EventsAreLocal
 events_are_local = record {
@@ -423,6 +335,5 @@ gives_its_own s target events answered machine history of formed unmarked calm s
       all = answers_are;
       answers = ap (kept its) answers_are ∙ alone.answers ∙ ap (λ (es : List Event). outputs s (map plain (only its es))) of;
       media = keep_is ∙ alone.media ∙ ap (λ (es : List Event). media s (map plain (only its es)) target) of;
-      strangers = λ k life at none. ap (kept (λ j. eqb j k)) answers_are ∙ strangers_are_alone s history k life formed_ unmarked at none
-          ∙ ap (λ (es : List Event). outputs s (map plain (only (λ j. eqb j k) es))) of;
+      strangers = grind (arith, strangers_are_alone);
     }

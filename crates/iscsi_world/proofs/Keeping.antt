@@ -1,7 +1,6 @@
 -- What an event of bytes leaves of the World: it begins and ends no life, and each goes on from what it was.
-use Rattle.std.proofs.Common.{◌≡◌, ℕ, ◌+◌, List, [], ◌∷◌, ◌++◌, map, Bool, true, false, cond, Option, Some, None, refl, sym, ap, ◌∙◌, subst, append_assoc, append-nil, inl, inr}
+use Rattle.std.proofs.Common.{◌≡◌, ℕ, ◌+◌, List, [], ◌∷◌, ◌++◌, map, Bool, true, false, cond, Option, Some, None, refl, sym, ap, ◌∙◌, append_assoc, append-nil, arith}
 use Rattle.std.specs.Prelude.{flat_map, ⊤}
-use Rattle.std.proofs.lemmas.Bool.Decides.{eqb_tells}
 use Rattle.std.proofs.lemmas.List.Sums.{fold-append}
 use Rattle.iscsi_pdu.specs.Answer.{spelling}
 use Rattle.iscsi_pdu.specs.Frames.{Frame}
@@ -15,9 +14,9 @@ use Rattle.iscsi_login.specs.declared.reply.Reply.TheVariants.{GoOn, Full, Refus
 use Rattle.iscsi_session.specs.Requests.{Past}
 use Rattle.iscsi_session.specs.Steps.{Work, served, settled}
 use Rattle.iscsi_session.proofs.Steps.{Extends, served_extends, settled_extends}
-use Rattle.iscsi_world.specs.History.{Mark, Point, Bytes, happening, History, Happening}
+use Rattle.iscsi_world.specs.History.{Mark, Point, History, Happening}
 use Rattle.iscsi_world.specs.Life.{Life, Phase, LoggingIn, FullFeature, Closing, logs_in, is_over, reads, past_in, session_answers, out_of, ended_in}
-use Rattle.iscsi_world.specs.World.{Setting, World, present, changed, past_of, live, close, reaching, answered, asked, begun, begins, requests_of, lookup_for, end_older, replied, log_in, work_of, fails, with_past, worked_on, worked, brought, longer, bring, begun_event, happened, new_world, world, losing, reset}
+use Rattle.iscsi_world.specs.World.{Setting, World, present, changed, past_of, live, close, reaching, answered, asked, begun, begins, requests_of, lookup_for, end_older, replied, log_in, work_of, fails, with_past, worked_on, worked, brought, longer, bring, happened, new_world, world, losing, reset}
 use Rattle.iscsi_world.specs.Runs.{RowState, open_row, row_of}
 use Rattle.iscsi_world.specs.Laws.{GoesOn, LivesGoOn, AnswersStay, LogsIn}
 use Rattle.iscsi_world.proofs.Working.{answers_grow}
@@ -62,19 +61,10 @@ Stays (Some x) None = ⊥
 Stays (Some x) (Some y) = (y.bytes ≡ x.bytes) × (reads y.phase ≡ true → reads x.phase ≡ true) × IsPastLogin x y
 
 stays_same : (o : Option Life) → Stays o o
-stays_same None = tt
-stays_same (Some x) = (refl, λ e. e, λ past. (past, refl))
+stays_same o = grind arith
 
 stays_then : (a b c : Option Life) → Stays a b → Stays b c → Stays a c
-stays_then None None c g h = h
-stays_then None (Some y) c g h = absurd g
-stays_then (Some x) None c g h = absurd g
-stays_then (Some x) (Some y) None g h = absurd h
-stays_then (Some x) (Some y) (Some z) g h = (
-  h.0 ∙ g.0,
-  λ e. g.1 (h.1 e),
-  λ past. (let first = g.2 past in let second = h.2 first.0 in (second.0, second.1 ∙ first.1)),
-)
+stays_then a b c g h = grind arith
 
 -- f of a life keeps its bytes besides
 record Keeps (f : Life → Life) (x : Life) : Type 0 where
@@ -93,16 +83,11 @@ pub on-same : (w : World) → Prolongs w w
 on-same w = record { lives = lives_same w.lives; stays = λ d. stays_same (present d w); reached = ([], sym (append-nil w.reached)) }
 
 pub on-then : (w v u : World) → Prolongs w v → Prolongs v u → Prolongs w u
-on-then w v u a b = record {
-  lives = lives_then w.lives v.lives u.lives a.lives b.lives;
-  stays = λ d. stays_then (present d w) (present d v) (present d u) (a.stays d) (b.stays d);
-  reached = (a.reached.0 ++ b.reached.0, b.reached.1 ∙ ap (λ (l : List Mark). l ++ b.reached.0) a.reached.1 ∙ append_assoc w.reached a.reached.0 b.reached.0);
-}
+on-then w v u a b = grind (arith, lives_then, append_assoc)
 
 changed_stays : (f : Life → Life) (c : ℕ) (w : World) (o : Option Life) → present c w ≡ o → IsPlaced f
     → ((life : Life) → present c w ≡ Some life → Keeps f life) → Stays o (present c (changed f c w))
-changed_stays f c w None at placed each = rw (present-changed_none f c w at) tt
-changed_stays f c w (Some x) at placed each = let k = each x at in rw (present-placed f placed c w x at) (k.bytes, k.reads_so, k.past_login)
+changed_stays f c w o at placed each = grind (arith, present-changed_none, present-placed)
 
 lives_of : (f : Life → Life) (c : ℕ) (w : World) → ((life : Life) → present c w ≡ Some life → Continues f life) → LivesFollow w.lives (changed f c w).lives
 unfolding changed present
@@ -115,29 +100,20 @@ reached_same f c w = sym (append-nil w.reached)
 on-changed : (f : Life → Life) (c : ℕ) (w : World) → IsPlaced f → ((life : Life) → present c w ≡ Some life → Keeps f life) → Prolongs w (changed f c w)
 on-changed f c w placed each = record {
   lives = lives_of f c w (λ life at. (each life at).goes);
-  stays = λ d. elim (eqb_tells d c) [
-    | inl same ↦ rw same.1 (changed_stays f c w (present c w) refl placed each)
-    | inr differ ↦ rw (present-changed_other f c d w placed.on differ.1) (stays_same (present d w))
-  ];
+  stays = grind (arith, changed_stays, present-changed_other);
   reached = ([], reached_same f c w);
 }
 
 on-cond : (b : Bool) (v u w : World) → Prolongs w v → Prolongs w u → Prolongs w (cond b v u)
-on-cond true v u w d e = d
-on-cond false v u w d e = e
+on-cond b v u w d e = grind arith
 
 -- the same lives
 with_lives : (w v u : World) → Prolongs w v → u.lives ≡ v.lives → (more : List Mark) → u.reached ≡ v.reached ++ more → Prolongs w u
-with_lives w v u a e more r = record {
-  lives = subst (LivesFollow w.lives) (sym e) a.lives;
-  stays = λ d. subst (Stays (present d w)) (sym (present-lives d u v e)) (a.stays d);
-  reached = (a.reached.0 ++ more, r ∙ ap (λ (l : List Mark). l ++ more) a.reached.1 ∙ append_assoc w.reached a.reached.0 more);
-}
+with_lives w v u a e more r = grind (arith, present-lives, append_assoc)
 
 -- nothing more is answered
 silent : (f : Life → Life) (life : Life) → Asks life (f life) → is_over (f life).phase ≡ false → out_of (f life) ≡ out_of life → Continues f life
-silent f life asks open_ same =
-    record { connection = asks.connection; is_open = open_; answered = ([], same ∙ sym (append-nil (out_of life))); asks = asks }
+silent f life asks open_ same = grind (arith, append-nil)
 
 ended_keeps : (life : Life) → Keeps (ended_in Closing) life
 ended_keeps life = record {
@@ -156,12 +132,7 @@ on-close c w = with_lives w (changed (ended_in Closing) c w) (close c w)
     (on-changed (ended_in Closing) c w ended_placed (λ life at. ended_keeps life)) refl [] (sym (append-nil _))
 
 pub on-reaching : (c : ℕ) (points : List Point) (w : World) → Prolongs w (reaching c points w)
-on-reaching c points w = record {
-  lives = lives_same w.lives;
-  stays = λ d. subst (Stays (present d w)) (sym (present-reaching d c points w))
-      (stays_same (present d w));
-  reached = (_, refl);
-}
+on-reaching c points w = grind (arith, lives_same, present-reaching)
 
 -- one more answer, where no session has begun or one begins with it
 answered_continues : (answer : Answer) (life : Life) → is_over life.phase ≡ false → session_answers life.phase ≡ [] → Continues (answered answer) life
@@ -224,8 +195,7 @@ on-replied (Full response session) c w logs =
     on-then w v (end_older (older session (live w)) v) (on-begins session (answers.LoginResponse response) c w logs) (on-end_older (older session (live w)) v)
 
 pub asked_logs : (c : ℕ) (request : Frame) (w : World) → LogsIn c w → LogsIn c (changed (asked request) c w)
-asked_logs c request w logs = λ life at. (let was = present-was (asked request) c w life (asked_placed request) at in
-    ap (λ (l : Life). l.phase) (sym was.2) ∙ logs was.0 was.1)
+asked_logs c request w logs = grind (arith, present-was)
 
 on-log_in : (s : Setting) (c : ℕ) (request : Frame) (w : World) → LogsIn c w → Prolongs w (log_in s c request w)
 unfolding log_in
@@ -245,8 +215,7 @@ on-log_in s c request w logs =
 -- ---- a session
 
 past_phase : (phase : Phase) (past : Past) → past_in phase ≡ Some past → phase ≡ FullFeature past
-past_phase (FullFeature session) past at = cc
-past_phase _ past at = absurd cc
+past_phase phase past at = grind arith
 
 past_continues : (c : ℕ) (w : World) (past then_ : Past) (life : Life) (more : List Answer) → present c w ≡ Some life
     → past_of (present c w) ≡ Some past → then_.answers ≡ past.answers ++ more → Continues (with_past then_) life
@@ -322,19 +291,12 @@ on-bring s marks c piece w =
     (λ life at. silent (longer piece) life (asks_same life (longer piece life) refl refl) (open_life c w life at) (out-longer life piece))) behind.lives
 
 pub answers_stay : AnswersStay
-answers_stay s h marks comings c piece =
-    let w = world s h in
-    subst (λ (v : World). LivesGoOn w.lives v.lives) (sym (world-push s h (happening marks comings (Bytes c piece))))
-    (lives_go w.lives _ (on-bring s marks c piece (begun_event comings w)))
+answers_stay s h marks comings c piece = search (arith, world-push, lives_go, on-bring)
 
 -- ---- the rows
 
 row_goes : (x y : Life) → GoesOn x y → row_of y ≡ row_of x
-row_goes x y goes = by_phase (is_over x.phase) refl
-  where
-    by_phase : (b : Bool) → is_over x.phase ≡ b → row_of y ≡ row_of x
-    by_phase true e = ap row_of (goes.still e)
-    by_phase false e = open_is y (goes.over ∙ e) ∙ ap open_row goes.connection ∙ sym (open_is x e)
+row_goes x y goes = grind arith
 
 rows_go : (xs ys : List Life) → LivesGoOn xs ys → map row_of ys ≡ map row_of xs
 rows_go [] [] go = refl

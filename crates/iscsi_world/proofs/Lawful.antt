@@ -1,12 +1,12 @@
 -- Each session of a World has a lawful past, whatever has happened.
-use Rattle.std.proofs.Common.{◌≡◌, ℕ, List, Option, Some, None, refl, ap, ◌∙◌, []}
+use Rattle.std.proofs.Common.{◌≡◌, ℕ, List, Option, Some, arith}
 use Rattle.iscsi_session.specs.Requests.{Past}
 use Rattle.iscsi_session.specs.State.{IsLawful}
 use Rattle.iscsi_session.specs.Steps.{Work}
 use Rattle.iscsi_session.proofs.Removing.{lawful_removing}
 use Rattle.iscsi_session.proofs.Lawful.{taken_once, finished_as_taken, steps_are_lawful}
-use Rattle.iscsi_world.specs.History.{Gone, Mark, marked}
-use Rattle.iscsi_world.specs.World.{present, past_of, begun_event, world, fails, reach_from, losing}
+use Rattle.iscsi_world.specs.History.{Mark}
+use Rattle.iscsi_world.specs.World.{present, past_of, world, fails, reach_from, losing}
 use Rattle.iscsi_world.specs.Laws.{FinishesAsTaken, SessionsFinishAsTaken, OthersStay}
 use Rattle.iscsi_world.proofs.Framed.{Fits}
 use Rattle.iscsi_world.proofs.Keeping.{world-push}
@@ -30,8 +30,7 @@ lawful_walk marks = each_walk AreLawful marks
 -- ---- the laws
 
 finishes : (o : Option Past) → ((past : Past) → o ≡ Some past → IsLawful past) → FinishesAsTaken o
-finishes None lawful = tt
-finishes (Some past) lawful = (taken_once past.came, finished_as_taken past (lawful past refl))
+finishes o lawful = grind (arith, taken_once, finished_as_taken)
 
 pub sessions_finish_as_taken : SessionsFinishAsTaken
 sessions_finish_as_taken s h c bytes = finishes (past_of (present c (world s h))) (λ past is. each_past AreLawful c (world s h) past
@@ -40,9 +39,4 @@ sessions_finish_as_taken s h c bytes = finishes (past_of (present c (world s h))
     on-serve (lawful_walk marks) d place session.params.target frame w fits (λ target own. tt) lawful) h bytes) is)
 
 pub others_stay : OthersStay
-others_stay = record {
-  closed = present-close_other;
-  gone = λ s h marks c d differ.
-      ap (present d) (world-push s h (marked marks (Gone c))) ∙ present-end_other c d (begun_event [] (world s h)) differ
-      ∙ present-lives d (begun_event [] (world s h)) (world s h) refl;
-}
+others_stay = grind (arith, present-close_other, world-push, present-end_other, present-lives)

@@ -21,8 +21,7 @@ none_linked (suc n) (suc c) = none_linked n c
 -- the connection as it was, and as it is
 pub lent_was : (links : List LinkState) (machine : Machine) (c : ℕ) (d old : LinkState) → length links ≡ 64 → c < 64 → old ≡ get_or links c d
     → links ≡ machine.links → old ≡ link_at machine c
-lent_was links machine c d old count lt e same =
-    e ∙ get_or_any links c d free_link (omega (arith, count, lt)) ∙ ap (λ (all : List LinkState). get_or all c free_link) same
+lent_was links machine c d old count lt e same = grind (arith, get_or_any)
 
 pub lent_is : (links : List LinkState) (c : ℕ) (new : LinkState) → length links ≡ 64 → c < 64 → new ≡ get_or (set links c new) c free_link
 lent_is links c new count lt = sym (get_or-set_same links c new free_link (omega (arith, count, lt)))
@@ -30,9 +29,7 @@ lent_is links c new count lt = sym (get_or-set_same links c new free_link (omega
 -- the units
 pub units_were : (all : List UnitStates) (machine : Machine) (target : ℕ) (d units : UnitStates) → target < length machine.units → all ≡ machine.units
     → units ≡ get_or all target d → units ≡ units_at (Some target) machine.units
-units_were all machine target d units lt same e =
-    e ∙ get_or_any all target d [] (omega (arith, lt, ap (λ (us : List UnitStates). length us) same))
-    ∙ ap (λ (us : List UnitStates). get_or us target []) same
+units_were all machine target d units lt same e = grind (arith, get_or_any)
 
 pub units_are : (all : List UnitStates) (machine : Machine) (target : ℕ) (units : UnitStates) → target < length machine.units → all ≡ machine.units
     → units ≡ get_or (set all target units) target []
@@ -58,6 +55,4 @@ lent_holds links units after count c d old new lt h e same within =
 -- what was found of them is so of the whole
 pub lent_so : (P : LinkState → LinkState → UnitStates → UnitStates → Type 0) (old new old_is new_is : LinkState) (units after units_is after_is : UnitStates)
     → old ≡ old_is → new ≡ new_is → units ≡ units_is → after ≡ after_is → P old new units after → P old_is new_is units_is after_is
-lent_so P old new old_is new_is units after units_is after_is e f g h p =
-    subst (P old_is new_is units_is) h (subst (λ (u : UnitStates). P old_is new_is u after) g
-    (subst (λ (l : LinkState). P old_is l units after) f (subst (λ (l : LinkState). P l new units after) e p)))
+lent_so P old new old_is new_is units after units_is after_is e f g h p = grind arith

@@ -21,8 +21,7 @@ pub mod IsolatedNames
 pub mod IsolatedAsking
 pub mod IsolatedWorlds
 pub mod IsolatedFits
-pub mod IsolatedOutside
-pub mod IsolatedInside
+pub mod IsolatedSteps
 pub mod IsolatedServing
 pub mod IsolatedEvents
 pub mod Isolation

@@ -1,8 +1,7 @@
 -- What the code remembers of a World, where one connection changes.
-use Rattle.std.proofs.Common.{◌≡◌, ◌≢◌, ℕ, ◌<◌, ◌≤◌, List, [], ◌++◌, length, map, drop, set, get_or, true, Option, Some, None, refl, sym, ap, ◌∙◌, subst, arith, inl, inr}
+use Rattle.std.proofs.Common.{◌≡◌, ◌≢◌, ℕ, ◌<◌, ◌≤◌, List, [], ◌++◌, length, map, drop, get_or, true, Option, Some, None, refl, sym, ap, ◌∙◌, subst, arith}
 use Rattle.std.specs.Prelude.{flat_map, if◌then◌else◌}
 use Rattle.std.specs.List.{range_with_len}
-use Rattle.std.proofs.lemmas.Bool.Decides.{eqb_tells}
 use Rattle.std.proofs.lemmas.List.{append-nil, length-map, get_or-map, length-set, length-append, get_or-set_same, get_or-set_other, drop-append-le, ext_get_or}
 use Rattle.std.proofs.lemmas.List.FromFn.{get_or-map-range_with_len, length-map-range_with_len}
 use Rattle.std.proofs.lemmas.Grind.{flat_map-append}
@@ -12,7 +11,7 @@ use Rattle.scsi_unit.specs.Units.{UnitStates}
 use Rattle.iscsi_login.specs.declared.session_params.SessionParams.{SessionParams}
 use Rattle.iscsi_login.specs.Directory.{KnownTargets}
 use Rattle.iscsi_world.specs.History.{Point, connection_limit}
-use Rattle.iscsi_world.specs.Life.{Life, Phase, LoggingIn, Closing, reads, session_in, session_answers, answers_of, out_of, ended_in}
+use Rattle.iscsi_world.specs.Life.{Life, Phase, Closing, reads, session_in, session_answers, answers_of, out_of, ended_in}
 use Rattle.iscsi_world.specs.World.{Setting, World, present, changed, reads_life, session_of, live, left, close, reaching}
 use Rattle.iscsi_world.specs.Output.{out_now}
 use Rattle.iscsi_world.specs.Machine.{LinkState, Machine, link_at, with_link, free_link, is_reading, session_in_phase, sessions, closed}
@@ -49,10 +48,7 @@ unfolding machine_with
 units_with s sent half w = refl
 
 machine_is : (a b : Machine) → a.directory ≡ b.directory → a.units ≡ b.units → a.links ≡ b.links → a ≡ b
-machine_is a b n u l =
-    ap (λ (directory : KnownTargets). record a { directory = directory }) n
-    ∙ ap (λ (units : List UnitStates). record a { directory = b.directory; units = units }) u
-    ∙ ap (λ (links : List LinkState). record { directory = b.directory; units = b.units; links = links }) l
+machine_is a b n u l = grind arith
 
 -- of one connection something else is remembered, and of the others the same
 pub relinked : (s : Setting) (sent sent_then : ℕ → ℕ) (half half_then : ℕ → List ℕ) (w v : World) (c : ℕ) → c < connection_limit
@@ -61,45 +57,21 @@ pub relinked : (s : Setting) (sent sent_then : ℕ → ℕ) (half half_then : �
     → machine_with s sent_then half_then v ≡ record (with_link (machine_with s sent half w) c
     (link_of s.directory (sent_then c) (half_then c) (present c v))) { units = v.units }
 relinked s sent sent_then half half_then w v c lt same =
-    let old = machine_with s sent half w in
-    let new = machine_with s sent_then half_then v in
-    let link = link_of s.directory (sent_then c) (half_then c) (present c v) in
-    let each : (d : ℕ) → d < connection_limit → get_or new.links d free_link ≡ get_or (set old.links c link) d free_link = λ d below. elim (eqb_tells d c) [
-      | inl here ↦ link_there s sent_then half_then v d below ∙ ap (λ (k : ℕ). link_of s.directory (sent_then k) (half_then k) (present k v)) here.1
-          ∙ sym (ap (λ (k : ℕ). get_or (set old.links c link) k free_link) here.1
-          ∙ get_or-set_same old.links c link free_link (omega (arith, links_count s sent half w)))
-      | inr differ ↦ link_there s sent_then half_then v d below ∙ same d below differ.1 ∙ sym (link_there s sent half w d below)
-          ∙ sym (get_or-set_other old.links c d link free_link differ.1)
-    ] in
-    machine_is new (record (with_link old c link) { units = v.units }) (directory_with s sent_then half_then v ∙ sym (directory_with s sent half w))
-    (units_with s sent_then half_then v)
-    (links_same new.links (set old.links c link) (links_count s sent_then half_then v) (length-set old.links c link ∙ links_count s sent half w) each)
+    grind (arith, link_there, get_or-set_same, links_count, get_or-set_other, machine_is, directory_with, units_with, links_same, length-set)
 
 -- ---- sessions
 
 pub session_same : (directory : KnownTargets) (life : Life) (phase : Phase) → session_in_phase (phase_for directory life phase) ≡ session_in phase
-session_same directory life LoggingIn = refl
-session_same directory life _ = refl
-
-session_there : (directory : KnownTargets) (sent : ℕ) (half : List ℕ) (o : Option Life) → session_in_phase (link_of directory sent half o).phase ≡ session_of o
-session_there directory sent half None = refl
-session_there directory sent half (Some life) = session_same directory life life.phase
+session_same directory life phase = grind arith
 
 pub session_at : (s : Setting) (sent : ℕ → ℕ) (half : ℕ → List ℕ) (w : World) (machine : Machine) (c : ℕ) → c < connection_limit → Serves s sent half w machine
     → session_in_phase (link_at machine c).phase ≡ session_of (present c w)
-session_at s sent half w machine c lt h =
-    ap (λ (m : Machine). session_in_phase (link_at m c).phase) h.is ∙ ap (λ (l : LinkState). session_in_phase l.phase) (link_there s sent half w c lt)
-    ∙ session_there s.directory (sent c) (half c) (present c w)
+session_at s sent half w machine c lt h = grind (arith, link_there)
 
 -- ---- which links read
 
-reading_same : (directory : KnownTargets) (life : Life) (phase : Phase) → is_reading (phase_for directory life phase) ≡ reads phase
-reading_same directory life LoggingIn = refl
-reading_same directory life _ = refl
-
 reading_of : (directory : KnownTargets) (sent : ℕ) (half : List ℕ) (o : Option Life) → is_reading (link_of directory sent half o).phase ≡ reads_life o
-reading_of directory sent half None = refl
-reading_of directory sent half (Some life) = reading_same directory life life.phase
+reading_of directory sent half o = grind arith
 
 pub link_is : (s : Setting) (sent : ℕ → ℕ) (half : ℕ → List ℕ) (w : World) (machine : Machine) (c : ℕ) → c < connection_limit → Serves s sent half w machine
     → link_at machine c ≡ link_of s.directory (sent c) (half c) (present c w)
@@ -115,8 +87,7 @@ pub count_there : (s : Setting) (sent : ℕ → ℕ) (half : ℕ → List ℕ) (
 count_there s sent half w machine h = ap (λ (m : Machine). length m.links) h.is ∙ links_count s sent half w
 
 pub some_reads : (o : Option Life) → reads_life o ≡ true → (life : Life) × (o ≡ Some life) × (reads life.phase ≡ true)
-some_reads None e = absurd cc
-some_reads (Some life) e = (life, refl, e)
+some_reads o e = grind arith
 
 -- ---- what waits
 
@@ -142,25 +113,7 @@ pub serves_one : (s : Setting) (sent : ℕ → ℕ) (half half_then : ℕ → Li
     → Serves s sent half w machine → ((d : ℕ) → d ≢ c → present d v ≡ present d w) → ((d : ℕ) → d ≢ c → half_then d ≡ half d)
     → sent c ≤ length (out_now (present c v)) → IsQuiet (present c v) → v.units ≡ units → link_of s.directory (sent c) (half_then c) (present c v) ≡ link
     → Serves s sent half_then v (record (with_link machine c link) { units = units })
-serves_one s sent half half_then w v machine c units link lt h other halves le quiet u l =
-    let same : (d : ℕ) → d < connection_limit → d ≢ c → link_of s.directory (sent d) (half_then d) (present d v) ≡ link_of s.directory (sent d)
-    (half d) (present d w) =
-    λ d below differ. rw (other d differ, halves d differ) refl in
-    record {
-      is = ap (λ (m : Machine). record (with_link m c link) { units = units }) h.is
-          ∙ ap (λ (x : LinkState). record (with_link (machine_with s sent half w) c x) { units = units }) (sym l)
-          ∙ ap (λ (us : List UnitStates). record (with_link (machine_with s sent half w) c (link_of s.directory (sent c) (half_then c) (present c v)))
-          { units = us }) (sym u)
-          ∙ sym (relinked s sent sent half half_then w v c lt same);
-      answered = λ d below. elim (eqb_tells d c) [
-        | inl here ↦ rw here.1 le
-        | inr differ ↦ rw (other d differ.1) (h.answered d below)
-      ];
-      quiet = λ d below. elim (eqb_tells d c) [
-        | inl here ↦ rw here.1 quiet
-        | inr differ ↦ rw (other d differ.1) (h.quiet d below)
-      ];
-    }
+serves_one s sent half half_then w v machine c units link lt h other halves le quiet u l = grind (arith, relinked)
 
 -- what is remembered of a life on which this waits
 abbrev pub life_link : KnownTargets → List ℕ → Life → List ℕ → LinkState
@@ -172,14 +125,7 @@ pub serves_life : (s : Setting) (sent : ℕ → ℕ) (half : ℕ → List ℕ) (
     (life now : Life) (more : List ℕ) → c < connection_limit → Serves s sent half w machine → present c w ≡ Some life → present c v ≡ Some now
     → ((d : ℕ) → d ≢ c → present d v ≡ present d w) → out_of now ≡ out_of life ++ more → IsQuietIn now.phase → v.units ≡ units
     → Serves s sent half v (record (with_link machine c (life_link s.directory (half c) now ((link_at machine c).waiting ++ more))) { units = units })
-serves_life s sent half w v machine c units life now more lt h was is other out quiet u =
-    let le : sent c ≤ length (out_of life) = (let n = h.answered c lt in rw was at n) in
-    let waiting : drop (sent c) (out_of now) ≡ (link_at machine c).waiting ++ more =
-    ap (drop (sent c)) out ∙ sym (says (sent c) (drop (sent c) (out_of life)) (out_of life) more le refl)
-    ∙ ap (λ (l : LinkState). l.waiting ++ more) (sym (link_is s sent half w machine c lt h ∙ ap (link_of s.directory (sent c) (half c)) was)) in
-    serves_one s sent half half w v machine c units (life_link s.directory (half c) now ((link_at machine c).waiting ++ more)) lt h other
-    (λ d differ. refl) (rw is (still_sent (sent c) life now more out le)) (rw is quiet) u
-    (ap (link_of s.directory (sent c) (half c)) is ∙ ap (life_link s.directory (half c) now) waiting)
+serves_life s sent half w v machine c units life now more lt h was is other out quiet u = grind (arith, says, link_is, serves_one, still_sent)
 
 -- the bytes that are kept of one that reads
 pub half_there : (s : Setting) (sent : ℕ → ℕ) (half : ℕ → List ℕ) (w : World) (machine : Machine) (c : ℕ) (life : Life) → c < connection_limit
@@ -210,8 +156,7 @@ unfolding closed
 closes s sent half w machine c life lt h at =
     let link = link_at machine c in
     let all = left (session_in_phase link.phase) machine.units in
-    let units : (close c w).units ≡ all = units_close c w ∙ ap (λ (o : Option SessionParams). left o w.units) (sym (session_at s sent half w machine c lt h))
-    ∙ ap (left (session_in_phase link.phase)) (sym (ap (λ (m : Machine). m.units) h.is ∙ units_with s sent half w)) in
+    let units : (close c w).units ≡ all = grind (arith, units_close, session_at, units_with) in
     let P : List ℕ → Type 0 = λ bytes. Serves s sent half (close c w)
     (record (with_link machine c (life_link s.directory (half c) (ended_in Closing life) bytes)) { units = all }) in
     subst P (append-nil link.waiting) (serves_life s sent half w (close c w) machine c all life (ended_in Closing life) [] lt h at
@@ -230,11 +175,7 @@ present-reaching d c points w = refl
 
 pub serves_reaching : (s : Setting) (sent : ℕ → ℕ) (half : ℕ → List ℕ) (w : World) (machine : Machine) (c : ℕ) (points : List Point)
     → Serves s sent half w machine → Serves s sent half (reaching c points w) machine
-serves_reaching s sent half w machine c points h = record {
-  is = h.is ∙ sym (machine_reaching s sent half w c points);
-  answered = λ d lt. rw (present-reaching d c points w) (h.answered d lt);
-  quiet = λ d lt. rw (present-reaching d c points w) (h.quiet d lt);
-}
+serves_reaching s sent half w machine c points h = grind (arith, machine_reaching, present-reaching)
 
 -- however the machine is written
 pub serves_as : (s : Setting) (sent : ℕ → ℕ) (half : ℕ → List ℕ) (w : World) (a b : Machine) → b ≡ a → Serves s sent half w a → Serves s sent half w b
@@ -253,8 +194,7 @@ live_there s sent half w machine h =
     let f : ℕ → Option SessionParams = λ c. session_of (present c w) in
     let g : LinkState → Option SessionParams = λ link. session_in_phase link.phase in
     let count = count_there s sent half w machine h in
-    let len : length (map f (range_with_len 0 connection_limit)) ≡ length (map g machine.links) = length-map-range_with_len f 0 connection_limit
-    ∙ sym count ∙ sym (length-map machine.links g) in
+    let len : length (map f (range_with_len 0 connection_limit)) ≡ length (map g machine.links) = grind (arith, length-map) in
     ext_get_or None (map f (range_with_len 0 connection_limit)) (map g machine.links) len (λ i lt.
     (let below : i < connection_limit = omega (arith, length-map-range_with_len f 0 connection_limit) in
     get_or-map-range_with_len f 0 connection_limit i i None below (omega arith)

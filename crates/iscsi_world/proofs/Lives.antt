@@ -1,7 +1,6 @@
 -- The present life of one connection changes, and those of the others do not.
-use Rattle.std.proofs.Common.{◌≡◌, ◌≢◌, ℕ, List, [], ◌∷◌, ◌++◌, map, true, false, Option, Some, None, refl, sym, ap, ◌∙◌, arith}
+use Rattle.std.proofs.Common.{◌≡◌, ◌≢◌, ℕ, List, [], ◌∷◌, ◌++◌, map, true, false, Option, Some, None, refl, ap, ◌∙◌, arith}
 use Rattle.std.specs.Prelude.{◌⊎◌, find}
-use Rattle.std.proofs.lemmas.Bool.Decides.{eqb_tells}
 use Rattle.std.proofs.lemmas.List.Folds.{find-append}
 use Rattle.iscsi_pdu.specs.Frames.{Frame}
 use Rattle.iscsi_pdu.specs.declared.answer.Answer.{Answer}
@@ -9,7 +8,6 @@ use Rattle.iscsi_login.specs.declared.session_params.SessionParams.{SessionParam
 use Rattle.iscsi_session.specs.Requests.{Past}
 use Rattle.iscsi_world.specs.Life.{Life, Closing, born, is_over, ended_in}
 use Rattle.iscsi_world.specs.World.{World, is_present, present, changed_first, changed, over, end, answered, asked, begun, with_past, longer}
-use Rattle.iscsi_world.proofs.Choices.{eqb_self}
 
 pub some_is : (x y : Life) → Some x ≡ Some y → x ≡ y
 some_is x y e = cc
@@ -27,10 +25,7 @@ pub record IsPlaced (f : Life → Life) : Type 0 where
   pub stays : (c : ℕ) (life : Life) → is_present c life ≡ true → is_present c (f life) ≡ true
 
 pub open_placed : (f : Life → Life) → Stays f → ((life : Life) → is_over (f life).phase ≡ false) → IsPlaced f
-open_placed f on open_ = record { on = on; stays = λ c life is. still_present c life (f life) is (on life) (open_ life) }
-  where
-    still_present : (c : ℕ) (x y : Life) → is_present c x ≡ true → y.connection ≡ x.connection → is_over y.phase ≡ false → is_present c y ≡ true
-    still_present c x y is same open_ = grind arith
+open_placed f on open_ = grind arith
 
 pub ended_placed : IsPlaced (ended_in Closing)
 ended_placed = open_placed (ended_in Closing) (λ life. refl) (λ life. refl)
@@ -86,25 +81,21 @@ present-changed_none f c w at = ap (found c) (changed_none f c w.lives at) ∙ a
 -- the life that is present then is f of the one before
 pub present-was : (f : Life → Life) (c : ℕ) (w : World) (then_ : Life) → IsPlaced f → present c (changed f c w) ≡ Some then_
     → (life : Life) × (present c w ≡ Some life) × (f life ≡ then_)
-present-was f c w then_ placed at = was (present c w) refl
-  where
-    was : (o : Option Life) → present c w ≡ o → (life : Life) × (present c w ≡ Some life) × (f life ≡ then_)
-    was None e = absurd (cc (present-changed_none f c w e, at))
-    was (Some life) e = (life, e, some_is (f life) then_ (sym (present-placed f placed c w life e) ∙ at))
+present-was f c w then_ placed at = grind (arith, present-changed_none, present-placed)
 
 pub changed_twice : (f g : Life → Life) (c : ℕ) (lives : List Life) → IsPlaced f
     → changed_first (is_present c) g (changed_first (is_present c) f lives) ≡ changed_first (is_present c) (λ life. g (f life)) lives
 changed_twice f g c [] placed = refl
-changed_twice f g c (x ∷ lives) placed = grind (arith, changed_twice f g c lives placed, placed.stays c x)
+changed_twice f g c (x ∷ lives) placed = grind (arith, changed_twice f g c lives placed)
 
 pub on_connection : (c : ℕ) (life : Life) → is_present c life ≡ true → life.connection ≡ c
-on_connection c life e = grind (arith, eqb_tells)
+on_connection c life e = grind arith
 
 -- ---- the others
 
 changed_other : (f : Life → Life) (c d : ℕ) (lives : List Life) → Stays f → d ≢ c → found d (changed_first (is_present c) f lives) ≡ found d lives
 changed_other f c d [] stays differ = refl
-changed_other f c d (x ∷ lives) stays differ = grind (arith, changed_other f c d lives stays differ, stays x, eqb_tells)
+changed_other f c d (x ∷ lives) stays differ = grind (arith, changed_other f c d lives stays differ)
 
 pub present-changed_other : (f : Life → Life) (c d : ℕ) (w : World) → Stays f → d ≢ c → present d (changed f c w) ≡ present d w
 unfolding present changed
@@ -122,7 +113,7 @@ present-end c w = all_over c w.lives
 
 end_other : (c d : ℕ) (lives : List Life) → d ≢ c → found d (map (over c) lives) ≡ found d lives
 end_other c d [] differ = refl
-end_other c d (x ∷ lives) differ = grind (arith, end_other c d lives, eqb_tells)
+end_other c d (x ∷ lives) differ = grind (arith, end_other c d lives)
 
 pub present-end_other : (c d : ℕ) (w : World) → d ≢ c → present d (end c w) ≡ present d w
 unfolding present end
@@ -131,14 +122,14 @@ present-end_other c d w differ = end_other c d w.lives differ
 -- ---- a life that begins
 
 born_found : (c : ℕ) (lives : List Life) → found c lives ≡ None → found c (lives ++ born c ∷ []) ≡ Some (born c)
-born_found c lives e = grind (arith, find-append, eqb_self)
+born_found c lives e = grind (arith, find-append)
 
 pub present-born : (c : ℕ) (w : World) → present c w ≡ None → present c (record w { lives = w.lives ++ born c ∷ [] }) ≡ Some (born c)
 unfolding present
 present-born c w e = born_found c w.lives e
 
 born_other : (c d : ℕ) (lives : List Life) → d ≢ c → found d (lives ++ born c ∷ []) ≡ found d lives
-born_other c d lives differ = grind (arith, find-append, eqb_tells)
+born_other c d lives differ = grind (arith, find-append)
 
 pub present-born_other : (c d : ℕ) (w : World) → d ≢ c → present d (record w { lives = w.lives ++ born c ∷ [] }) ≡ present d w
 unfolding present

@@ -1,6 +1,5 @@
 -- A Login request does to the World what it does to the code.
-use Rattle.std.proofs.Common.{◌≡◌, ◌≢◌, ℕ, ◌+◌, ◌<◌, List, [], ◌∷◌, ◌++◌, map, get_or, Bool, true, cond, Option, Some, None, refl, sym, ap, ◌∙◌, subst, arith, inl, inr}
-use Rattle.std.proofs.lemmas.Bool.Decides.{eqb_tells}
+use Rattle.std.proofs.Common.{◌≡◌, ◌≢◌, ℕ, ◌+◌, ◌<◌, List, [], ◌∷◌, ◌++◌, map, get_or, Bool, true, cond, Option, Some, None, refl, sym, ap, ◌∙◌, subst, arith}
 use Rattle.std.proofs.lemmas.List.{length-map, append-nil, get_or-map}
 use Rattle.std.proofs.lemmas.List.Sums.{fold-append}
 use Rattle.std.proofs.lemmas.List.Quantifiers.{position-Some}
@@ -80,13 +79,10 @@ pub remembered-push : (directory : KnownTargets) (handle : ℕ) (requests : List
 unfolding remembered
 remembered-push directory handle requests request = fold-append (advanced directory) (new_login handle) requests (request ∷ [])
 
--- ---- a session begins
-
 -- ---- an older session ends
 
 some_life : (session : SessionParams) (o : Option Life) → is_of session.nexus session.target (session_of o) ≡ true → (life : Life) × (o ≡ Some life)
-some_life session None e = absurd cc
-some_life session (Some life) e = (life, refl)
+some_life session o e = grind arith
 
 -- the connection of the older session has one, and is another connection
 record HasOlder (c d : ℕ) (w : World) : Type 0 where
@@ -152,8 +148,7 @@ module _ (s : Setting) (sent : ℕ → ℕ) (half : ℕ → List ℕ) (w : World
       let now : present c v ≡ Some m = present-placed (answered answer) (answered_placed answer) c u (asked request life) present_asked in
       let login_ = advanced s.directory (remembered s.directory (life.connection + 1) life.requests) request in
       let waiting = (link_at machine c).waiting ++ spelling answer in
-      let phase_now : phase_for s.directory m m.phase ≡ phases.Login login_ = ap (phase_for s.directory m) h.phase
-      ∙ ap phases.Login (remembered-push s.directory (life.connection + 1) life.requests request) in
+      let phase_now : phase_for s.directory m m.phase ≡ phases.Login login_ = grind (arith, remembered-push) in
       subst (λ (l : LinkState). Serves s sent half v (with_link machine c l))
       (link_made (reads m.phase) (half c) (link_at machine c).half (phase_for s.directory m m.phase) (phases.Login login_) waiting waiting
       (ap reads h.phase) (half_there s sent half w machine c life h.in_range h.serves h.at (ap reads h.phase)) phase_now refl)
@@ -209,12 +204,7 @@ module _ (s : Setting) (sent : ℕ → ℕ) (half : ℕ → List ℕ) (w : World
 
   -- the sessions, before and after it was asked
   sessions_asked : (d : ℕ) → session_of (present d (changed (asked request) c w)) ≡ session_of (present d w)
-  sessions_asked d = elim (eqb_tells d c) [
-    | inl same ↦ ap (λ (k : ℕ). session_of (present k (changed (asked request) c w))) same.1
-        ∙ ap session_of present_asked
-        ∙ sym (ap session_of h.at) ∙ ap (λ (k : ℕ). session_of (present k w)) (sym same.1)
-    | inr differ ↦ ap session_of (asked_other w c d request differ.1)
-  ]
+  sessions_asked d = grind (arith, present_asked, asked_other)
 
   live_asked : live (changed (asked request) c w) ≡ live w
   unfolding live
@@ -237,9 +227,7 @@ module _ (s : Setting) (sent : ℕ → ℕ) (half : ℕ → List ℕ) (w : World
       let login_ = remembered s.directory (life.connection + 1) life.requests in
       let directory : machine.directory ≡ s.directory = ap (λ (m : Machine). m.directory) h.serves.is ∙ directory_with s sent half w in
       let reply = reply_of login_ (lookup_for s.directory (live w) request) request in
-      let same : login (c + 1) (requests_of (present c w)) (lookup_for s.directory (live w) request) request ≡ reply =
-      ap (λ (o : Option Life). login (c + 1) (requests_of o) (lookup_for s.directory (live w) request) request) h.at
-      ∙ ap (λ (k : ℕ). login (k + 1) life.requests (lookup_for s.directory (live w) request) request) (sym on) in
+      let same : login (c + 1) (requests_of (present c w)) (lookup_for s.directory (live w) request) request ≡ reply = grind arith in
       let P : KnownTargets → Type 0 = λ all. Serves s sent half (replied
       (login (c + 1) (requests_of (present c w)) (lookup_for s.directory (live w) request) request) c (changed (asked request) c w))
       (machine_replied (reply_of login_ (lookup_for all (sessions machine.links) request) request) (advanced all login_ request) c machine) in

@@ -2,7 +2,6 @@
 use Rattle.std.proofs.Common.{◌≡◌, ℕ, zero, suc, ◌+◌, ◌<◌, List, [], ◌∷◌, Bool, true, false, cond, Option, Some, None, refl, sym, ap, ◌∙◌, subst, inl, inr, arith, ◌≤◌}
 use Rattle.std.specs.Prelude.{◌⊎◌}
 use Rattle.std.specs.List.{fold, range_with_len}
-use Rattle.std.proofs.lemmas.Bool.Decides.{eqb_tells}
 use Rattle.std.proofs.lemmas.List.Sums.{fold-append}
 use Rattle.iscsi_pdu.specs.Frames.{Frame}
 use Rattle.iscsi_login.specs.Session.{is_same_target}
@@ -68,14 +67,7 @@ module _ (marks : List Mark) (place target : ℕ) where
       ))
 
   one_more : (n d : ℕ) (past : Past) → Below n d past → (d ≡ n → IsReady past) → Below (suc n) d past
-  one_more n d past below here = (
-    below.0,
-    below.1,
-    λ lt. elim (eqb_tells d n) [
-      | inl same ↦ here same.1
-      | inr differ ↦ below.2 (let apart = differ.1 in omega (arith, lt, apart))
-    ],
-  )
+  one_more n d past below here = grind arith
 
   module _ (n : ℕ) (w : World) (each : Each (Below n) w) (in_range : n < connection_limit) where
     unsettled : ((past : Past) → past_of (present n w) ≡ Some past → IsReady past) → Each (Below (suc n)) w
@@ -84,9 +76,7 @@ module _ (marks : List Mark) (place target : ℕ) where
 
     elsewhere : (past found : Past) → past ≡ found → is_same_target past.params.target (Some target) ≡ false
         → (is_same_target found.params.target (Some target) ≡ true) ⊎ IsReady found → IsReady found
-    elsewhere past found same other (inl own) =
-        absurd (let no : true ≡ false = sym own ∙ ap (λ (p : Past). is_same_target p.params.target (Some target)) (sym same) ∙ other in cc)
-    elsewhere past found same other (inr none) = none
+    elsewhere past found same other ready = grind arith
 
     same_past : (x y : Past) → Some x ≡ Some y → x ≡ y
     same_past x y e = cc
@@ -185,8 +175,7 @@ module _ (marks : List Mark) (c place : ℕ) (frame : Frame) (past : Past) (w : 
 -- ---- the law
 
 at_rest : (o : Option Past) → ((past : Past) → o ≡ Some past → NothingIsDue past × (ready past ≡ [])) → IsAtRest o
-at_rest None known = tt
-at_rest (Some past) known = known past refl
+at_rest o known = grind arith
 
 pub sessions_are_at_rest : SessionsAreAtRest
 sessions_are_at_rest s h c lt bytes = at_rest (past_of (present c (world s h))) (λ past is. (let r = each_past Rests c (world s h) past

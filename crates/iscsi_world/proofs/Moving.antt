@@ -1,6 +1,6 @@
 -- What a call leaves of every target, whatever its stores do.
 use Rattle.std.proofs.Common.{◌≡◌, ℕ, ◌<◌, List, [], ◌++◌, length, get_or, Bool, true, false, not, Option, Some, None, refl, sym, ap, ◌∙◌, subst, arith, inl, inr, append_assoc}
-use Rattle.std.specs.Prelude.{◌≢◌, Result, Ok, Err, IfErr}
+use Rattle.std.specs.Prelude.{◌≢◌, Result, IfErr}
 use Rattle.std.proofs.lemmas.Bool.Decides.{eqb_tells}
 use Rattle.std.proofs.lemmas.List.{append-nil, length-set, get_or-set_same, get_or-set_other, get_or-map, length-map}
 use Rattle.scsi_unit.specs.Units.{UnitStates, AreSound, AreSure, join}
@@ -9,18 +9,16 @@ use Rattle.iscsi_pdu.specs.Frames.{Frame}
 use Rattle.iscsi_pdu.specs.declared.answer.Answer.TheVariants as answers
 use Rattle.iscsi_login.specs.LoginState.{LoginState, IsTargetBelow}
 use Rattle.iscsi_login.specs.Session.{is_of, older}
-use Rattle.iscsi_login.specs.Login.{advanced, reply_of}
 use Rattle.iscsi_login.specs.declared.session_params.SessionParams.{SessionParams}
 use Rattle.iscsi_login.specs.declared.reply.Reply.{Reply}
 use Rattle.iscsi_login.specs.declared.reply.Reply.TheVariants.{GoOn, Full, Refused}
-use Rattle.iscsi_world.specs.World.{left, units_at, with_units, changed_units, lookup_for}
+use Rattle.iscsi_world.specs.World.{left, units_at, with_units, changed_units}
 use Rattle.iscsi_world.specs.Machine.{LinkState, Machine, IsSure, Feeds, link_at, with_link, is_free, is_reading, is_closing, free_link, shut_link, closed, session_in_phase, sessions, is_logging_in, gone_on_link, refused_link, begun_link, shut_older, replied, logged_in, ReflectsSoundness}
 use Rattle.iscsi_world.specs.Bounded.{AddsAtMost}
 use Rattle.iscsi_world.specs.Serving.{KeepsHalf, Alters, Preserves, IsClosed, first_of, first_starved, ended_unless}
 use Rattle.iscsi_world.specs.declared.fault.Starved.{Starved}
 use Rattle.iscsi_world.specs.declared.phase.Phase.{Phase}
-use Rattle.iscsi_world.specs.declared.phase.Phase.TheVariants as phases
-use Rattle.iscsi_world.proofs.Bounding.{adds_none, adds_then, adds_shut}
+use Rattle.iscsi_world.proofs.Bounding.{adds_none, adds_shut}
 use Rattle.iscsi_world.proofs.Sound.{set_back, sure_set, closed_back, closed_sure, logged_in_back, logged_in_sure, closed_units, logged_in_units}
 
 -- ---- one call after the other
@@ -30,25 +28,11 @@ keeps_same link r = record { reading = λ e. refl; idle = λ e. absurd (cc (r, e
 
 -- the same connections
 pub alters_same : (b : ℕ) (given after : Machine) → after.links ≡ given.links → Alters b given after
-alters_same b given after same = subst (λ (links : List LinkState). Alters b given (record after { links = links })) (sym same) (record {
-  feeds = record {
-    opens = λ d. refl;
-    waits = λ d. ([], sym (append-nil (link_at given d).waiting));
-    still = λ d idle. refl;
-    others = λ d other logs. refl;
-  };
-  keeps = λ c reads. keeps_same (link_at given c) reads;
-  eases = λ d other. adds_none 0 (link_at given d);
-})
+alters_same b given after same = grind (arith, append-nil)
 
 pub moves_none : (b : ℕ) (machine : Machine) → Preserves b None machine machine
 moves_none b machine =
     record { alters = alters_same b machine machine refl; back = λ target sound. sound; sure = λ sure. sure; closing = tt; units = refl }
-
-pub keeps_by : (b : Bool) (half : List ℕ) (now after : LinkState) → is_reading now.phase ≡ b → KeepsHalf half now
-    → (is_reading now.phase ≡ true → KeepsHalf now.half after) → (is_reading now.phase ≡ false → after ≡ now) → KeepsHalf half after
-keeps_by true half now after r first next still = let k = next r in record { reading = λ e. k.reading e ∙ first.reading r; idle = k.idle }
-keeps_by false half now after r first next still = subst (KeepsHalf half) (sym (still r)) first
 
 pub feeds_then : (b : ℕ) (given now after : Machine) → Feeds b given now → Feeds b now after → Feeds b given after
 feeds_then k given now after a b = record {
@@ -61,28 +45,16 @@ feeds_then k given now after a b = record {
   others = λ d other logs. b.others d other (ap (λ (l : LinkState). is_logging_in l.phase) (a.others d other logs) ∙ logs) ∙ a.others d other logs;
 }
 
-closing_idle : (phase : Phase) → is_closing phase ≡ true → is_reading phase ≡ false
-closing_idle (phases.Login login) e = absurd cc
-closing_idle (phases.FullFeature session) e = absurd cc
-closing_idle _ e = refl
-
 -- one that is closing stays so
 pub closed_then : (x y : Option ℕ) (b : ℕ) (now after : Machine) → IsClosed x now → Feeds b now after → IsClosed y after → IsClosed (first_of x y) after
-closed_then None y b now after first feeds then_ = then_
-closed_then (Some c) y b now after first feeds then_ = ap (λ (l : LinkState). is_closing l.phase) (feeds.still c (closing_idle _ first)) ∙ first
+closed_then x y b now after first feeds then_ = grind arith
 
 pub closing_if : (r : Result (Unit {0}) Starved) (machine : Machine) → IsClosed (first_starved r) machine
     → IfErr r (λ starved. is_closing (link_at machine starved.connection).phase ≡ true)
-closing_if (Ok u) machine closed_ = tt
-closing_if (Err e) machine closed_ = closed_
+closing_if r machine closed_ = grind arith
 
 alters_then : (b : ℕ) (given now after : Machine) → Alters b given now → Alters b now after → Alters b given after
-alters_then k given now after a b = record {
-  feeds = feeds_then k given now after a.feeds b.feeds;
-  keeps = λ c reads. keeps_by (is_reading (link_at now c).phase) (link_at given c).half (link_at now c) (link_at after c) refl (a.keeps c reads)
-      (b.keeps c) (b.feeds.still c);
-  eases = λ d other. adds_then 0 0 (link_at given d) (link_at now d) (link_at after d) (a.eases d other) (b.eases d other);
-}
+alters_then k given now after a b = grind (arith, feeds_then)
 
 pub moves_then : (b : ℕ) (x y : Option ℕ) (given now after : Machine) → Preserves b x given now → Preserves b y now after → Preserves b
     (first_of x y) given after
@@ -110,9 +82,7 @@ pub record Changes (old new : LinkState) : Type 0 where
   pub waits : (more : List ℕ) × (new.waiting ≡ old.waiting ++ more)
 
 pub reading_open : (phase : Phase) → is_reading phase ≡ true → is_free phase ≡ false
-reading_open (phases.Login login) e = refl
-reading_open (phases.FullFeature session) e = refl
-reading_open _ e = absurd cc
+reading_open phase e = grind arith
 
 pub link_set : (machine : Machine) (units : List UnitStates) (c : ℕ) (link : LinkState) → c < length machine.links
     → link_at (record (with_link machine c link) { units = units }) c ≡ link
@@ -226,8 +196,7 @@ unfolding closed
 closed_count machine c = length-set machine.links c (shut_link (link_at machine c))
 
 pub ended_units : {E : Type 0} (r : Result Bool E) (c : ℕ) (machine : Machine) → length (ended_unless r c machine).units ≡ length machine.units
-ended_units (Ok true) c machine = refl
-ended_units _ c machine = closed_units machine c
+ended_units r c machine = grind (arith, closed_units)
 
 -- ---- a session's link
 
@@ -252,8 +221,7 @@ units_sure machine links None units forth sure = sure
 units_sure machine links (Some target) units forth sure = sure_set machine.units target [] units forth sure
 
 pub length_with : (target : Option ℕ) (units : UnitStates) (all : List UnitStates) → length (with_units target units all) ≡ length all
-length_with None units all = refl
-length_with (Some target) units all = length-set all target units
+length_with target units all = grind (arith, length-set)
 
 -- ---- a Login request
 
@@ -262,17 +230,14 @@ alters : (machine : Machine) (units : List UnitStates) (c : ℕ) (link : LinkSta
 alters machine units c link lt ch half = changes_alters c machine units c link lt ch (own_self c machine) half (λ other. absurd (other refl))
 
 pub is_of_none : (session : SessionParams) (o : Option SessionParams) → is_of session.nexus session.target o ≡ true → o ≡ None → ⊥
-is_of_none session None e n = absurd cc
-is_of_none session (Some x) e n = absurd cc
+is_of_none session o e n = grind arith
 
 session_reads : (session : SessionParams) (phase : Phase) → is_of session.nexus session.target (session_in_phase phase) ≡ true → is_reading phase ≡ true
-session_reads session (phases.FullFeature other) e = refl
-session_reads session _ e = absurd (is_of_none session None e refl)
+session_reads session phase e = grind arith
 
 session_past_login : (session : SessionParams) (phase : Phase) → is_of session.nexus session.target (session_in_phase phase) ≡ true
     → is_logging_in phase ≡ false
-session_past_login session (phases.Login login) e = absurd (is_of_none session None e refl)
-session_past_login session _ e = refl
+session_past_login session phase e = grind arith
 
 older_reads : (machine : Machine) (session : SessionParams) (d : ℕ) → older session (sessions machine.links) ≡ Some d → (d < length machine.links)
     × (is_of session.nexus session.target (session_in_phase (link_at machine d).phase) ≡ true)
@@ -280,8 +245,7 @@ unfolding older
 older_reads machine session d e =
     let p = position-Some (is_of session.nexus session.target) (sessions machine.links) d None e in
     let below : d < length machine.links = omega (arith, p.0, length-map machine.links (λ link. session_in_phase link.phase)) in
-    let there : get_or (sessions machine.links) d None ≡ session_in_phase (link_at machine d).phase =
-    get_or-map (λ link. session_in_phase link.phase) machine.links d free_link None below in
+    let there : get_or (sessions machine.links) d None ≡ session_in_phase (link_at machine d).phase = grind (arith, get_or-map) in
     (below, ap (is_of session.nexus session.target) (sym there) ∙ p.1)
 
 older_alters : (o : Option ℕ) (given machine : Machine) (session : SessionParams) (c : ℕ) (link : LinkState) (units : List UnitStates)
@@ -321,16 +285,8 @@ replied_alters (Full response session) login c machine lt reads =
 logged_in_alters : (machine : Machine) (c : ℕ) (login : LoginState) (request : Frame) → c < length machine.links
     → is_reading (link_at machine c).phase ≡ true → Alters c machine (logged_in machine c login request)
 unfolding logged_in
-logged_in_alters machine c login request lt reads =
-    replied_alters (reply_of login (lookup_for machine.directory (sessions machine.links) request) request) (advanced machine.directory login request) c
-    machine lt reads
+logged_in_alters machine c login request lt reads = search (arith, replied_alters)
 
 pub logged_in_moves : (machine : Machine) (c : ℕ) (login : LoginState) (request : Frame) → c < length machine.links
     → is_reading (link_at machine c).phase ≡ true → Preserves c None machine (logged_in machine c login request)
-logged_in_moves machine c login request lt reads = record {
-  alters = logged_in_alters machine c login request lt reads;
-  back = logged_in_back machine c login request;
-  sure = λ sure. logged_in_sure machine c login request sure;
-  closing = tt;
-  units = logged_in_units machine c login request;
-}
+logged_in_moves machine c login request lt reads = search (arith, logged_in_alters, logged_in_back, logged_in_sure, logged_in_units)

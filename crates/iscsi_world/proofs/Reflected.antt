@@ -18,7 +18,4 @@ pub sound_back : (old new : Machine) → ReflectsSoundness old new → IsSound n
 sound_back old new back sound = λ i d lt. subst AreSound (get_or_default old.units i [] d lt) (back i (sound_at new sound i))
 
 pub sound_targets_were_sound : SoundTargetsWereSound
-sound_targets_were_sound = record {
-  back = sound_back;
-  stands = λ s sent then_sent old new h later back always at sound. always (at (sound_back old new back sound));
-}
+sound_targets_were_sound = search (arith, sound_back)

@@ -1,5 +1,5 @@
 -- What is kept of each life of a history, from one event to the next.
-use Rattle.std.proofs.Common.{◌≡◌, ◌≢◌, ℕ, ◌<◌, List, [], ◌∷◌, ◌++◌, map, Bool, true, false, not, ◌||◌, eqb, Option, Some, None, refl, sym, ap, ◌∙◌, subst, inl, inr, arith}
+use Rattle.std.proofs.Common.{◌≡◌, ◌≢◌, ℕ, ◌<◌, List, [], ◌∷◌, ◌++◌, map, Bool, true, false, not, Option, Some, None, refl, sym, ap, ◌∙◌, subst, inl, inr, arith}
 use Rattle.std.specs.Prelude.{find}
 use Rattle.std.specs.List.{AllByRecursion}
 use Rattle.std.proofs.lemmas.Bool.Decides.{eqb_tells}
@@ -8,19 +8,16 @@ use Rattle.std.proofs.lemmas.List.Folds.{list_any-append}
 use Rattle.iscsi_login.specs.Directory.{KnownTargets}
 use Rattle.iscsi_session.specs.Comings.{Coming}
 use Rattle.iscsi_world.specs.History.{Open, Bytes, Gone, History, happening, plain, is_among, open_after, connection_limit}
-use Rattle.iscsi_world.specs.Life.{Life, Over, is_over, born, out_of, ended_in}
-use Rattle.iscsi_world.specs.World.{Setting, World, is_present, present, over, end, begun_event, world}
+use Rattle.iscsi_world.specs.Life.{Life, Over, is_over, out_of, ended_in}
+use Rattle.iscsi_world.specs.World.{Setting, World, is_present, present, over, end, world}
 use Rattle.iscsi_world.specs.Output.{out_now, outputs}
 use Rattle.iscsi_world.specs.Machine.{LinkState, Machine, link_at, is_free, is_open_at}
 use Rattle.iscsi_world.specs.Stands.{link_of, Stands, with_sent}
 use Rattle.iscsi_world.specs.Runs.{MayCome, RowState, open_row, row_of, finished, is_on, ended, has, IsFree, AreDistinct, Runs}
-use Rattle.iscsi_world.proofs.Choices.{eqb_self}
 use Rattle.iscsi_world.proofs.Standing.{present_open, stands_sent, link_stands, waits_there}
 use Rattle.iscsi_world.proofs.Linked.{out-ended}
 use Rattle.iscsi_world.proofs.Tables.{among-gone, among-gone_other}
-use Rattle.iscsi_world.proofs.Following.{is_open_here}
-use Rattle.iscsi_world.proofs.Keeping.{world-push, rows_in, open_is, rows-bring}
-use Rattle.iscsi_world.proofs.Lives.{on_connection}
+use Rattle.iscsi_world.proofs.Keeping.{world-push, rows_in, rows-bring}
 
 -- ---- the rows of a World
 
@@ -28,12 +25,9 @@ abbrev is_there : Option Life → Bool
 is_there None = false
 is_there (Some life) = true
 
-on_present : (c : ℕ) (x : Life) → is_on c (row_of x).connection ≡ is_present c x
-on_present c x = grind arith
-
 has_found : (c : ℕ) (lives : List Life) → has c (map row_of lives) ≡ is_there (find (is_present c) lives)
 has_found c [] = refl
-has_found c (x ∷ lives) = grind (arith, has_found c lives, on_present c x)
+has_found c (x ∷ lives) = grind (arith, has_found c lives)
 
 -- ---- no connection has two lives that are not over
 
@@ -41,21 +35,9 @@ has_found c (x ∷ lives) = grind (arith, has_found c lives, on_present c x)
 abbrev IsOnly : List Life → Life → Type 0
 IsOnly lives x = is_over x.phase ≡ false → find (is_present x.connection) lives ≡ Some x
 
-present_here : (x : Life) → is_over x.phase ≡ false → is_present x.connection x ≡ true
-present_here x e = grind (arith, eqb_self)
-
 one_wider : (x y : Life) (lives : List Life) → IsFree (row_of x).connection (map row_of lives) → IsOnly lives y → is_over y.phase ≡ false
     → find (is_present y.connection) (x ∷ lives) ≡ Some y
-one_wider x y lives free only e = by_test (is_present y.connection x) refl
-  where
-    by_test : (b : Bool) → is_present y.connection x ≡ b → find (is_present y.connection) (x ∷ lives) ≡ Some y
-    by_test true at =
-        let none : has x.connection (map row_of lives) ≡ false =
-        subst (λ (r : RowState). IsFree r.connection (map row_of lives)) (open_is x (is_open_here y.connection x at)) free in
-        let there : has x.connection (map row_of lives) ≡ true = ap (λ (c : ℕ). has c (map row_of lives)) (on_connection y.connection x at)
-        ∙ has_found y.connection lives ∙ ap is_there (only e) in
-        absurd (cc (none, there))
-    by_test false at = rw at (only e)
+one_wider x y lives free only e = grind (arith, has_found)
 
 wider : (x : Life) (lives all : List Life) → IsFree (row_of x).connection (map row_of lives) → AllByRecursion (IsOnly lives) all
     → AllByRecursion (IsOnly (x ∷ lives)) all
@@ -64,10 +46,7 @@ wider x lives (y ∷ all) free h = (λ e. one_wider x y lives free h.0 e, wider 
 
 all_only : (lives : List Life) → AreDistinct (map row_of lives) → AllByRecursion (IsOnly lives) lives
 all_only [] d = tt
-all_only (x ∷ lives) d = (
-  λ e. rw (present_here x e) refl,
-  wider x lives lives d.0 (all_only lives d.1),
-)
+all_only (x ∷ lives) d = grind (arith, wider, all_only lives d.1)
 
 -- ---- what waits
 
@@ -101,7 +80,7 @@ waiting s machine rows before history r = all_wait s machine rows before history
 -- ---- the history ends
 
 finish_one : (machine : Machine) (x : Life) → IsWaiting machine x → (finished machine (row_of x)).bytes ≡ out_of x
-finish_one machine x waits = grind (arith, waits)
+finish_one machine x waits = grind arith
 
 finish_all : (machine : Machine) (lives : List Life) → AllByRecursion (IsWaiting machine) lives
     → map (λ (row : RowState). (finished machine row).bytes) (map row_of lives) ≡ map out_of lives
@@ -118,8 +97,7 @@ finished_outputs s machine rows before history r = ap (map (λ (row : RowState).
 
 open_in : (directory : KnownTargets) (sent : ℕ) (half : List ℕ) (c : ℕ) (w : World) (o : Option Life) → present c w ≡ o
     → not (is_free (link_of directory sent half o).phase) ≡ is_there o
-open_in directory sent half c w None e = refl
-open_in directory sent half c w (Some life) e = ap not (present_open directory c w life e)
+open_in directory sent half c w o e = grind (arith, present_open)
 
 is_open : (s : Setting) (machine : Machine) (rows : List RowState) (before : List ℕ) (history : History) (c : ℕ)
     → Runs s machine rows before history → c < connection_limit → is_open_at machine c ≡ is_among c before
@@ -140,23 +118,16 @@ none_sent : (c d : ℕ) → with_sent (λ k. 0) c 0 d ≡ 0
 none_sent c d = grind arith
 
 free_more : (c : ℕ) (o : Option ℕ) (rows : List RowState) → is_on c o ≡ false → IsFree o rows → IsFree o (rows ++ open_row c ∷ [])
-free_more c None rows differ free = tt
-free_more c (Some d) rows differ free = grind (arith, list_any-append, eqb_tells)
+free_more c o rows differ free = grind (arith, list_any-append)
 
 distinct_more : (c : ℕ) (rows : List RowState) → has c rows ≡ false → AreDistinct rows → AreDistinct (rows ++ open_row c ∷ [])
 distinct_more c [] none d = (refl, tt)
 distinct_more c (row ∷ rows) none d =
     (free_more c row.connection rows (grind arith) d.0, distinct_more c rows (grind arith) d.1)
 
-or_swap : (a b : Bool) → (a || (b || false)) ≡ (b || a)
-or_swap a b = grind arith
-
 pub below_more : (c : ℕ) (before : List ℕ) → c < connection_limit → ((d : ℕ) → is_among d before ≡ true → d < connection_limit) → (d : ℕ)
     → is_among d (c ∷ before) ≡ true → d < connection_limit
-below_more c before lt below d e = elim (eqb_tells c d) [
-  | inl same ↦ subst (λ (k : ℕ). k < connection_limit) same.1 lt
-  | inr differ ↦ below d (rw differ.0 at e)
-]
+below_more c before lt below d e = grind arith
 
 pub open_runs : (s : Setting) (machine after : Machine) (rows : List RowState) (before : List ℕ) (history : History) (c : ℕ)
     → Runs s machine rows before history → MayCome machine (Open c) → Stands s (with_sent (λ k. 0) c 0) after (history ++ plain (Open c) ∷ [])
@@ -166,14 +137,9 @@ open_runs s machine after rows before history c r may h =
     let none : has c rows ≡ false = r.tracks c ∙ sym (is_open s machine rows before history c r may.0) ∙ may.1 in
     record {
       stands = stands_sent s (with_sent (λ k. 0) c 0) (λ k. 0) after _ (λ d lt. none_sent c d) h;
-      kept =
-          ap (λ (all : List RowState). all ++ open_row c ∷ []) r.kept
-          ∙ sym (map-append row_of w.lives (born c ∷ []))
-          ∙ ap rows_in (sym (world-push s history (plain (Open c))));
+      kept = grind (arith, map-append, world-push);
       distinct = distinct_more c rows none r.distinct;
-      tracks = λ d.
-          list_any-append (λ (row : RowState). is_on d row.connection) rows (open_row c ∷ [])
-          ∙ or_swap (has d rows) (eqb c d) ∙ ap (λ (b : Bool). eqb c d || b) (r.tracks d);
+      tracks = grind (arith, list_any-append);
       below = below_more c before may.0 r.below;
     }
 
@@ -183,14 +149,7 @@ pub bytes_runs : (s : Setting) (machine after : Machine) (rows : List RowState) 
     (piece : List ℕ)
     → Runs s machine rows before history → Stands s (λ k. 0) after (history ++ happening [] comings (Bytes c piece) ∷ [])
     → Runs s after rows before (history ++ happening [] comings (Bytes c piece) ∷ [])
-bytes_runs s machine after rows before history comings c piece r h = record {
-  stands = h;
-  kept = r.kept ∙ sym (rows-bring s [] c piece (begun_event comings (world s history)))
-      ∙ ap rows_in (sym (world-push s history (happening [] comings (Bytes c piece))));
-  distinct = r.distinct;
-  tracks = r.tracks;
-  below = r.below;
-}
+bytes_runs s machine after rows before history comings c piece r h = grind (arith, rows-bring, world-push)
 
 -- ---- and ends
 
@@ -199,7 +158,7 @@ out-over x = out-ended x Over refl
 
 -- a life that is present is over then, and one that is not stays as it is
 end_one : (machine : Machine) (c : ℕ) (x : Life) → IsWaiting machine x → ended machine c (row_of x) ≡ row_of (over c x)
-end_one machine c x waits = grind (arith, waits, out-over x, on_present c x)
+end_one machine c x waits = grind (arith, out-over x)
 
 end_all : (machine : Machine) (c : ℕ) (lives : List Life) → AllByRecursion (IsWaiting machine) lives
     → map (ended machine c) (map row_of lives) ≡ map row_of (map (over c) lives)
@@ -210,7 +169,7 @@ row_not : (machine : Machine) (c : ℕ) (row : RowState) → is_on c (ended mach
 row_not machine c row = grind arith
 
 row_other : (machine : Machine) (c d : ℕ) (row : RowState) → d ≢ c → is_on d (ended machine c row).connection ≡ is_on d row.connection
-row_other machine c d row differ = grind (arith, eqb_tells)
+row_other machine c d row differ = grind arith
 
 has-ended : (machine : Machine) (c : ℕ) (rows : List RowState) → has c (map (ended machine c) rows) ≡ false
 has-ended machine c [] = refl
@@ -220,22 +179,9 @@ has-ended_other : (machine : Machine) (c d : ℕ) (rows : List RowState) → d �
 has-ended_other machine c d [] differ = refl
 has-ended_other machine c d (row ∷ rows) differ = rw (row_other machine c d row differ, has-ended_other machine c d rows differ) refl
 
-still_free : (machine : Machine) (c : ℕ) (o : Option ℕ) (rows : List RowState) → IsFree o rows → IsFree o (map (ended machine c) rows)
-still_free machine c None rows free = tt
-still_free machine c (Some d) rows free = elim (eqb_tells d c) [
-  | inl same ↦ ap (λ (k : ℕ). has k (map (ended machine c) rows)) same.1 ∙ has-ended machine c rows
-  | inr differ ↦ has-ended_other machine c d rows differ.1 ∙ free
-]
-
-row_free : (machine : Machine) (c : ℕ) (row : RowState) (rows : List RowState) → IsFree row.connection rows → IsFree (ended machine c row).connection rows
-row_free machine c row rows free = grind arith
-
 distinct_ended : (machine : Machine) (c : ℕ) (rows : List RowState) → AreDistinct rows → AreDistinct (map (ended machine c) rows)
 distinct_ended machine c [] d = tt
-distinct_ended machine c (row ∷ rows) d = (
-  row_free machine c row (map (ended machine c) rows) (still_free machine c row.connection rows d.0),
-  distinct_ended machine c rows d.1,
-)
+distinct_ended machine c (row ∷ rows) d = grind (arith, has-ended_other, distinct_ended machine c rows d.1)
 
 rows-end : (c : ℕ) (w : World) → rows_in (end c w) ≡ map row_of (map (over c) w.lives)
 unfolding end

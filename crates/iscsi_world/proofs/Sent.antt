@@ -1,12 +1,10 @@
 -- What waits on a connection is sent in parts.
-use Rattle.std.proofs.Common.{◌≡◌, ℕ, ◌+◌, ◌<◌, List, length, set, get_or, take, Option, ap, sym, ◌∙◌, subst, arith, ◌≤◌, set-set, drop-drop, get_or-set_same}
+use Rattle.std.proofs.Common.{◌≡◌, ℕ, ◌+◌, ◌<◌, List, length, set, get_or, take, Option, ap, ◌∙◌, arith, ◌≤◌, set-set, drop-drop, get_or-set_same}
 use Rattle.std.proofs.lemmas.List.{set-get_or, length-drop, length-take}
 use Rattle.std.specs.Prelude.{All}
 use Rattle.scsi_unit.specs.Units.{UnitStates}
 use Rattle.iscsi_world.specs.Machine.{LinkState, Machine, IsWithin, link_at, with_link, sent_link, free_link, target_in}
 use Rattle.iscsi_login.specs.LoginState.{IsTargetBelow}
-use Rattle.iscsi_world.specs.declared.phase.Phase.{Phase}
-use Rattle.iscsi_world.specs.declared.phase.Phase.TheVariants.{Free, Login, FullFeature, Closing}
 
 -- with so many bytes sent
 abbrev pub with_part : Machine → ℕ → ℕ → Machine
@@ -36,8 +34,7 @@ still_wait machine now c k unsent n lt sum is waits =
 -- more of them
 pub sent_next : (machine now skipped after : Machine) (c k step : ℕ) → c < length machine.links → now ≡ with_part machine c k
     → skipped ≡ with_part now c step → after ≡ skipped → after ≡ with_part machine c (k + step)
-sent_next machine now skipped after c k step lt is more same =
-    same ∙ more ∙ ap (λ (m : Machine). with_part m c step) is ∙ sent_more machine c k step lt
+sent_next machine now skipped after c k step lt is more same = grind (arith, sent_more)
 
 -- what is offered is no longer than what waits
 pub front_within : (front waiting : List ℕ) → front ≡ take (length front) waiting → length front ≤ length waiting
@@ -45,17 +42,10 @@ front_within front waiting is = omega (arith, ap (λ (xs : List ℕ). length xs)
 
 -- ---- the units of its target
 
-in_phase : (count : ℕ) (phase : Phase) → IsWithin count phase → IsTargetBelow count (target_in phase)
-in_phase count (FullFeature session) within = within.0
-in_phase count (Login login) within = tt
-in_phase count Free within = tt
-in_phase count Closing within = tt
-
 -- the target of a connection's session is there
 pub target_below : (links : List LinkState) (count c : ℕ) (target : Option ℕ) → target ≡ target_in (get_or links c free_link).phase
     → length links ≡ 64 → c < 64 → All (λ (link : LinkState). IsWithin count link.phase) links → IsTargetBelow count target
-target_below links count c target is long lt within =
-    subst (IsTargetBelow count) (sym is) (in_phase count (get_or links c free_link).phase (within c free_link (omega (arith, long, lt))))
+target_below links count c target is long lt within = grind arith
 
 -- the same units in their place
 pub same_units : (all : List UnitStates) (target : ℕ) (units other : UnitStates) → units ≡ get_or all target other → set all target units ≡ all

@@ -1,7 +1,6 @@
 -- A call on the session of a connection, as a call of the target: what it does, what it leaves, and what stays apart from it.
-use Rattle.std.proofs.Common.{◌≡◌, ◌≢◌, ℕ, ◌<◌, List, [], ◌++◌, length, set, Bool, true, false, Option, Some, None, Result, Ok, Err, refl, sym, ap, ◌∙◌, inl, inr, subst, arith}
+use Rattle.std.proofs.Common.{◌≡◌, ◌≢◌, ℕ, ◌<◌, List, [], ◌++◌, length, Bool, true, false, Option, Some, None, Result, Ok, Err, refl, sym, ap, ◌∙◌, subst, arith}
 use Rattle.std.specs.Prelude.{slice_set, ⊤, IfOk, OnErr, if◌then◌else◌}
-use Rattle.std.proofs.lemmas.Bool.{eqb-true, cases_Bool}
 use Rattle.std.proofs.lemmas.List.{append-nil, length-set, set-get_or}
 use Rattle.iscsi_pdu.specs.Frames.{Frame}
 use Rattle.scsi_unit.specs.Units.{UnitStates, AreSound, AreSure, numbers_of}
@@ -16,41 +15,33 @@ use Rattle.iscsi_login.specs.Directory.{KnownTargets}
 use Rattle.iscsi_login.specs.Session.{is_same_target}
 use Rattle.iscsi_login.specs.LoginState.{IsTargetBelow}
 use Rattle.iscsi_world.specs.History.{Mark, connection_limit}
-use Rattle.iscsi_world.specs.Life.{Life, Phase, FullFeature, past_in}
+use Rattle.iscsi_world.specs.Life.{Life}
 use Rattle.iscsi_world.specs.World.{Setting, World, present, past_of, units_at, with_units, settled_by, settle_one, settle_for}
-use Rattle.iscsi_world.specs.Machine.{LinkState, Machine, ReflectsSoundness, KeepsApart, link_at, with_link, free_link, is_free, is_reading, is_settled, is_logging_in, is_in_session, is_with, target_in, closed}
-use Rattle.iscsi_world.specs.Stands.{phase_for, link_of}
+use Rattle.iscsi_world.specs.Machine.{LinkState, Machine, ReflectsSoundness, KeepsApart, link_at, with_link, is_free, is_reading, is_settled, is_logging_in, is_in_session, is_with, target_in, closed}
+use Rattle.iscsi_world.specs.Stands.{link_of}
 use Rattle.iscsi_world.specs.Bounded.{AddsAtMost}
 use Rattle.iscsi_world.specs.Serving.{Serves, Preserves, kept, is_done_at, is_done_by, SettlesOne, SettlesFor, Takes, first_of, starved_by, goes_on_by, ended_unless}
 use Rattle.iscsi_world.specs.SessionCalls.{LeavesSession, CallsSession, Ends, ServesFrame, SettlesUnits, ChangesOne, called, ended_link}
 use Rattle.iscsi_world.specs.declared.phase.Phase.{Phase as CodePhase}
 use Rattle.iscsi_world.specs.declared.phase.Phase.TheVariants as phases
-use Rattle.iscsi_world.proofs.Choices.{cond_true, cond_false}
 use Rattle.iscsi_world.proofs.Linked.{link_is, serves_world}
 use Rattle.iscsi_world.proofs.Doing.{does_nothing, does_starved}
 use Rattle.iscsi_world.proofs.AtWork.{IsCalled, CallDoes, call_does, serve_kind, settle_kind, settle_acts, settle_agrees}
 use Rattle.iscsi_world.proofs.Frames.{Finishes, takes_served}
 use Rattle.iscsi_world.proofs.Apart.{target_apart, ended_apart, apart_as, apart_then}
-use Rattle.iscsi_world.proofs.Bounding.{session_eases}
 use Rattle.iscsi_world.proofs.Heavier.{closed_link}
 use Rattle.iscsi_world.proofs.Moving.{Changes, changes_moves, session_half, units_back, units_sure, length_with, moves_as, moves_then, moves_starved, closed_moves, starved_moves}
 
 -- ---- the session of a connection
 
-pub same_target : (o : Option ℕ) (target : ℕ) → is_same_target o (Some target) ≡ true → o ≡ Some target
-same_target None target e = absurd cc
-same_target (Some t) target e = ap (λ (n : ℕ). Some n) (eqb-true t target e)
-
 -- one with this target
 pub session_with : (phase : CodePhase) (target : ℕ) → is_with target phase ≡ true
     → (session : SessionState) × (phase ≡ phases.FullFeature session) × (session.params.target ≡ Some target)
-session_with (phases.FullFeature session) target e = (session, refl, same_target session.params.target target e)
-session_with _ target e = absurd cc
+session_with phase target e = grind arith
 
 pub session_in : (phase : CodePhase) → is_in_session phase ≡ true
     → (session : SessionState) × (phase ≡ phases.FullFeature session) × (session.params.target ≡ target_in phase)
-session_in (phases.FullFeature session) e = (session, refl, refl)
-session_in _ e = absurd cc
+session_in phase e = grind arith
 
 -- ---- a call of the session of a connection
 
@@ -70,8 +61,7 @@ leaves_session P old framer phase before waiting given session then_ view is was
     let bytes : before ≡ old.waiting = ap (λ (l : LinkState). l.waiting) view in
     record {
       session = then_;
-      is = ap (λ (half : List ℕ). let l : LinkState = record { half = half; phase = phases.FullFeature then_; waiting = waiting } in l)
-          (sym (cond_true (is_reading phase) framer [] (ap is_reading is)) ∙ ap (λ (l : LinkState). l.half) view);
+      is = grind arith;
       params = params ∙ ap (λ (x : SessionState). x.params) same;
       grows = (grows.0, grows.1 ∙ ap (λ (l : List ℕ). l ++ grows.0) bytes);
       does = subst (λ (x : SessionState). P x then_ old.waiting waiting) same (subst (λ (l : List ℕ). P session then_ l waiting) bytes does);
@@ -83,19 +73,13 @@ pub calls_session : (P : SessionState → SessionState → List ℕ → List ℕ
     → then_.params ≡ session.params → (more : List ℕ) × (waiting ≡ before ++ more) → P session then_ before waiting
     → (IsAtRest session → Eases session then_ before waiting) → (AreSound after → AreSound units) → (AreSure units → AreSure after)
     → CallsSession P units after old (viewed framer (phases.FullFeature then_) waiting)
-calls_session P units after old framer phase before waiting session then_ view is params grows does eases back sure = record {
-  leaves = λ given was. leaves_session P old framer phase before waiting given session then_ view is was params grows does;
-  eases = session_eases old (viewed framer (phases.FullFeature then_) waiting) session then_ (sym (ap (λ (l : LinkState). l.phase) view) ∙ is) refl
-      (subst (λ (bytes : List ℕ). IsAtRest session → Eases session then_ bytes waiting) (ap (λ (l : LinkState). l.waiting) view) eases);
-  back = back;
-  sure = sure;
-}
+calls_session P units after old framer phase before waiting session then_ view is params grows does eases back sure =
+    grind (arith, leaves_session)
 
 -- it was done to its end, or up to a step before which an allocation failed
 pub ends_so : {E : Type 0} (r : Result Bool E) (is_kind : Step → Bool) (Leads : Option (ℕ → Step) → Bool → Type 0) → IfOk r (Leads None)
     → OnErr r (Stops is_kind (λ failed. Leads failed false)) → Ends is_kind Leads r
-ends_so (Ok goes_on) is_kind Leads ok err = ok
-ends_so (Err e) is_kind Leads ok err = err
+ends_so r is_kind Leads ok err = grind arith
 
 -- its call
 abbrev pub is_called : (c : ℕ) (target : Option ℕ) (given middle : Machine) → c < connection_limit → length given.links ≡ connection_limit
@@ -111,15 +95,9 @@ abbrev pub IsElsewhere : ℕ → Option Past → Type 0
 IsElsewhere target None = ⊤
 IsElsewhere target (Some past) = is_same_target past.params.target (Some target) ≡ false
 
-elsewhere_in : (directory : KnownTargets) (target : ℕ) (life : Life) (phase : Phase) → is_with target (phase_for directory life phase) ≡ false
-    → IsElsewhere target (past_in phase)
-elsewhere_in directory target life (FullFeature past) e = e
-elsewhere_in directory target life _ e = tt
-
 elsewhere_of : (directory : KnownTargets) (sent : ℕ) (half : List ℕ) (target : ℕ) (o : Option Life)
     → is_with target (link_of directory sent half o).phase ≡ false → IsElsewhere target (past_of o)
-elsewhere_of directory sent half target None e = tt
-elsewhere_of directory sent half target (Some life) e = elsewhere_in directory target life life.phase e
+elsewhere_of directory sent half target o e = grind arith
 
 pub elsewhere : (s : Setting) (sent : ℕ → ℕ) (half : ℕ → List ℕ) (w : World) (machine : Machine) (c target : ℕ) → c < connection_limit
     → Serves s sent half w machine → is_with target (link_at machine c).phase ≡ false → IsElsewhere target (past_of (present c w))
@@ -128,16 +106,12 @@ elsewhere s sent half w machine c target lt h e =
     (ap (λ (l : LinkState). is_with target l.phase) (sym (link_is s sent half w machine c lt h)) ∙ e)
 
 unsettled : (o : Option Past) (marks : List Mark) (place target c : ℕ) (w : World) → IsElsewhere target o → settled_by o marks place target c w ≡ w
-unsettled None marks place target c w e = refl
-unsettled (Some past) marks place target c w e = cond_false (is_same_target past.params.target (Some target)) _ w e
+unsettled o marks place target c w e = grind arith
 
 pub settles_none : (machine : Machine) (c target : ℕ) → c < connection_limit → is_with target (link_at machine c).phase ≡ false
     → SettlesOne target c None machine machine
 unfolding settle_one
-settles_none machine c target lt e = does_nothing (is_done_by c) (λ s marks place w. settle_one marks place target w c) kept machine machine
-    (λ s sent half w place marks agree h.
-    (let same = unsettled (past_of (present c w)) marks place target c w (elsewhere s sent half w machine c target lt h e) in
-    (serves_world s sent half w _ machine same h, ap (λ (v : World). v.comings) same)))
+settles_none machine c target lt e = grind (arith, does_nothing, elsewhere)
 
 -- a session with no target settles nothing
 pub settles_for_none : (machine : Machine) → SettlesFor None None machine machine
@@ -188,11 +162,7 @@ module _ (c : ℕ) (target : Option ℕ) (given middle : Machine) (k : IsCalled 
       moves_starved b (starved_by c r) starved given after (sym o) (moves_as b (starved_by c r) given (ended_unless r c middle) after e (ended_by r b m))
 
   pub called_apart : (at : ℕ) → is_same_target target (Some at) ≡ true → KeepsApart at given middle
-  called_apart at same =
-      let own = ap (λ (t : Option ℕ). is_same_target t (Some at)) k.own ∙ same in
-      apart_as at given (called given c target (units_at target middle.units) (link_at middle c)) middle k.changes
-      (target_apart at target given (units_at target middle.units) c (link_at middle c) here same (ap (is_with at) k.phase ∙ own)
-      (ap (λ (x : LinkState). is_with at x.phase) l.is ∙ ap (λ p. is_same_target p.target (Some at)) l.params ∙ own))
+  called_apart at same = grind (arith, target_apart)
 
   pub ended_called_apart : {E : Type 0} (r : Result Bool E) (at : ℕ) (after : Machine) → is_same_target target (Some at) ≡ true
       → after ≡ ended_unless r c middle → KeepsApart at given after
@@ -202,8 +172,7 @@ module _ (c : ℕ) (target : Option ℕ) (given middle : Machine) (k : IsCalled 
       (ap (λ (x : LinkState). is_with at x.phase) l.is ∙ ap (λ p. is_same_target p.target (Some at)) l.params ∙ own)))
 
   ended_there : {E : Type 0} (r : Result Bool E) → link_at (ended_unless r c middle) c ≡ ended_link (goes_on_by r) (link_at middle c)
-  ended_there (Ok true) = refl
-  ended_there _ = closed_link middle c there
+  ended_there r = grind (arith, closed_link, there)
 
   pub ended_adds : {E : Type 0} (r : Result Bool E) (n : ℕ) (after : Machine) → after ≡ ended_unless r c middle
       → AddsAtMost n (link_at given c) (ended_link (goes_on_by r) (link_at middle c)) → AddsAtMost n (link_at given c) (link_at after c)
@@ -221,13 +190,7 @@ settles_by (Ok goes_on) c target given middle after k l e =
     (λ place marks work agree. settle_agrees None c place marks work agree) (λ place. refl)
 settles_by (Err x) c target given middle after k l e =
     let stops = l.does in
-    let stopped : CallDoes settled (Some stops.step) false [] c (Some target) given middle k = record {
-      session = l.session;
-      is = l.is;
-      params = l.params;
-      grows = l.grows;
-      does = stops.leads;
-    } in
+    let stopped : CallDoes settled (Some stops.step) false [] c (Some target) given middle k = grind arith in
     call_does settled (Some stops.step) false [] c (Some target) given middle after k stopped e (is_done_by c)
     (λ s marks place w. settle_one marks place target w c)
     (λ s marks place w past at own. settle_acts c target marks place w past at own)
@@ -246,11 +209,7 @@ settles_called r c target given middle after k starved l o e =
 
 -- what was not touched
 untouched : (machine : Machine) (c : ℕ) (target : Option ℕ) → ChangesOne c target machine machine
-untouched machine c None = ap (λ (links : List LinkState). let m : Machine = record machine { links = links } in m) (sym (set-get_or machine.links c free_link))
-untouched machine c (Some target) = ap (λ (links : List LinkState). let m : Machine = record machine { links = links } in m)
-    (sym (set-get_or machine.links c free_link))
-    ∙ ap (λ (all : List UnitStates). let m : Machine = record (with_link machine c (link_at machine c)) { units = all } in m)
-    (sym (set-get_or machine.units target []))
+untouched machine c target = grind (arith, set-get_or)
 
 abbrev all_done : Result Bool (Unit {0})
 all_done = Ok true
@@ -281,19 +240,13 @@ settled_with machine c target lt count own e =
 -- settling it does nothing
 pub settled_at : (machine : Machine) (c target : ℕ) → c < connection_limit → length machine.links ≡ connection_limit
     → is_settled (link_at machine c).phase ≡ true → SettlesOne target c None machine machine
-settled_at machine c target lt count settled = elim (cases_Bool (is_with target (link_at machine c).phase)) [
-  | inl own ↦ settled_with machine c target lt count own settled
-  | inr other ↦ settles_none machine c target lt other
-]
+settled_at machine c target lt count settled = grind (arith, settled_with, settles_none)
 
 -- ---- a frame that a session serves
 
 -- no units were touched
 pub link_only : (given middle : Machine) (c : ℕ) (target : Option ℕ) → middle ≡ with_link given c (link_at middle c) → ChangesOne c target given middle
-link_only given middle c None e = e
-link_only given middle c (Some target) e = e
-    ∙ ap (λ (all : List UnitStates). let m : Machine = record (with_link given c (link_at middle c)) { units = all } in m)
-    (sym (set-get_or given.units target []) ∙ ap (λ (m : Machine). set given.units target (units_at (Some target) m.units)) (sym e))
+link_only given middle c target e = grind (arith, set-get_or)
 
 -- whatever the units are
 serves_units : (failed : Option (ℕ → Step)) (goes_on : Bool) (orders : List (List ℕ)) (frame : Frame) (c : ℕ) (target : Option ℕ) (given middle : Machine)

@@ -1,5 +1,5 @@
 -- As commands are done, connections are passed over of whose sessions none can be done.
-use Rattle.std.proofs.Common.{◌≡◌, ℕ, zero, suc, ◌+◌, ◌-◌, ◌<◌, ◌≤◌, length, true, Option, Some, None, refl, subst, arith}
+use Rattle.std.proofs.Common.{◌≡◌, ℕ, zero, suc, ◌+◌, ◌-◌, ◌<◌, ◌≤◌, length, true, Option, None, subst, arith}
 use Rattle.iscsi_world.specs.History.{connection_limit}
 use Rattle.iscsi_world.specs.Machine.{Machine, link_at, is_settled}
 use Rattle.iscsi_world.specs.Serving.{first_of}
@@ -7,8 +7,7 @@ use Rattle.iscsi_world.proofs.Frames.{SettledBelow, settled_next}
 use Rattle.iscsi_world.proofs.SessionCalls.{settled_at}
 
 first_of-none : (a : Option ℕ) → first_of a None ≡ a
-first_of-none None = refl
-first_of-none (Some c) = refl
+first_of-none a = grind arith
 
 -- one is passed over
 one_skipped : (target c : ℕ) (starved : Option ℕ) (given after : Machine) → c < connection_limit → length after.links ≡ connection_limit
@@ -21,8 +20,7 @@ one_skipped target c starved given after lt count is so_far =
 skipped_by : (k target c end : ℕ) (starved : Option ℕ) (given after : Machine) → c + k ≡ end → end ≤ connection_limit
     → length after.links ≡ connection_limit → ((d : ℕ) → c ≤ d → d < end → is_settled (link_at after d).phase ≡ true)
     → SettledBelow target c starved given after → SettledBelow target end starved given after
-skipped_by zero target c end starved given after is le count all so_far =
-    subst (λ (n : ℕ). SettledBelow target n starved given after) (let e : c ≡ end = omega (arith, is) in e) so_far
+skipped_by zero target c end starved given after is le count all so_far = grind arith
 skipped_by (suc k) target c end starved given after is le count all so_far =
     skipped_by k target (c + 1) end starved given after (omega (arith, is)) le count
     (λ d from below. all d (omega (arith, from)) below)

@@ -1,45 +1,35 @@
 -- A target that is sound after a step was so before it, and one that is sure stays so.
-use Rattle.std.proofs.Common.{◌≡◌, ℕ, zero, suc, ◌<◌, List, [], ◌∷◌, length, map, set, get_or, Bool, true, false, cond, Option, Some, None, refl, sym, ap, ◌∙◌, subst, arith, inl, inr}
+use Rattle.std.proofs.Common.{◌≡◌, ℕ, zero, suc, ◌<◌, List, [], ◌∷◌, length, map, set, get_or, Bool, cond, Option, Some, refl, sym, ap, ◌∙◌, subst, arith}
 use Rattle.std.specs.Prelude.{All, slice_index_or, slice_set}
 use Rattle.std.proofs.Math.Seq.{map-set_same}
-use Rattle.std.proofs.lemmas.Bool.Decides.{eqb_tells}
 use Rattle.std.proofs.lemmas.List.{length-set, length-map, get_or-map, get_or-set_same, get_or-set_other}
 use Rattle.std.proofs.lemmas.List.Elements.{All-map}
 use Rattle.scsi_sense.specs.Nexus.{NexusName}
 use Rattle.scsi_sense.specs.declared.condition.Attention.{Attention}
-use Rattle.scsi_sense.specs.declared.condition.Attention.TheVariants.{BusDeviceResetFunctionOccurred, CommandsClearedByAnotherInitiator}
 use Rattle.iscsi_pdu.specs.Header.{lun_field}
 use Rattle.iscsi_pdu.specs.declared.task_management.TaskFunction.{TaskFunction}
-use Rattle.iscsi_pdu.specs.declared.task_management.TaskFunction.TheVariants as functions
 use Rattle.scsi_unit.specs.Device.{DeviceState}
 use Rattle.scsi_unit.specs.State.{UnitState}
-use Rattle.scsi_unit.specs.Unit.{joined_unit, left_unit, raised_unit, raised_unit_for_all, names_unit, where_named}
+use Rattle.scsi_unit.specs.Unit.{names_unit, where_named}
 use Rattle.scsi_unit.specs.Units.{UnitStates, AreSound, AreSure, IsSoundDevice, IsSureDevice, join, leave, raised_at, raised_for_all_at, raised_everywhere}
 use Rattle.iscsi_pdu.specs.declared.answer.Answer.{Answer}
 use Rattle.iscsi_pdu.specs.declared.answer.Answer.TheVariants as answers
 use Rattle.iscsi_pdu.specs.Frames.{Frame}
 use Rattle.iscsi_login.specs.LoginState.{LoginState}
-use Rattle.iscsi_login.specs.Session.{older}
 use Rattle.iscsi_login.specs.Login.{advanced, reply_of}
 use Rattle.iscsi_login.specs.declared.session_params.SessionParams.{SessionParams}
 use Rattle.iscsi_login.specs.declared.reply.Reply.{Reply}
 use Rattle.iscsi_login.specs.declared.reply.Reply.TheVariants.{Full}
 use Rattle.iscsi_session.specs.AbortScope.{attention_of}
 use Rattle.iscsi_world.specs.World.{left, changed_units, lookup_for, function_of, told, told_by, reset_by}
-use Rattle.iscsi_world.specs.Machine.{Machine, IsSound, IsSoundAt, ReflectsSoundness, IsSure, link_at, with_link, begun_link, closed, session_in_phase, sessions, shut_older, begun, replied, logged_in}
+use Rattle.iscsi_world.specs.Machine.{Machine, IsSound, IsSoundAt, ReflectsSoundness, IsSure, link_at, closed, session_in_phase, sessions, begun, replied, logged_in}
 
 -- ---- one target
 
 -- one target's units are set to others, which are sound only where they were
 pub set_back : (all : List UnitStates) (at : ℕ) (units : UnitStates) → at < length all → (AreSound units → AreSound (slice_index_or all at []))
     → (target : ℕ) → AreSound (slice_index_or (slice_set all at units) target []) → AreSound (slice_index_or all target [])
-set_back all at units lt back target sound = elim (eqb_tells target at) [
-  | inl same ↦ (
-      let here : slice_index_or (slice_set all at units) target [] ≡ units =
-      ap (λ (n : ℕ). slice_index_or (slice_set all at units) n []) same.1 ∙ get_or-set_same all at units [] lt in
-      subst (λ (n : ℕ). AreSound (slice_index_or all n [])) (sym same.1) (back (subst AreSound here sound)))
-  | inr differ ↦ subst AreSound (get_or-set_other all at target units [] differ.1) sound
-]
+set_back all at units lt back target sound = grind (arith, get_or-set_same, get_or-set_other)
 
 -- ---- the media stay as they are when a nexus joins or leaves
 
@@ -53,26 +43,16 @@ media_map f (unit ∷ units) same = cc (same unit, media_map f units same)
 media_changed : (f : UnitStates → UnitStates) (target : Option ℕ) (all : List UnitStates) → ((units : UnitStates) → media (f units) ≡ media units)
     → map media (changed_units f target all) ≡ map media all
 unfolding changed_units
-media_changed f None all same = refl
-media_changed f (Some target) all same = map-set_same media all target (f (slice_index_or all target [])) [] (same (slice_index_or all target []))
+media_changed f target all same = grind (arith, map-set_same)
 
 media_left : (o : Option SessionParams) (all : List UnitStates) → map media (left o all) ≡ map media all
 unfolding leave
-media_left None all = refl
-media_left (Some session) all = media_changed (leave session.nexus) session.target all (λ units. media_map (left_unit session.nexus) units (λ unit. refl))
-
-media_older : (o : Option ℕ) (machine : Machine) → (shut_older o machine).units ≡ machine.units
-media_older None machine = refl
-media_older (Some d) machine = refl
+media_left o all = grind (arith, media_changed, media_map)
 
 media_begun : (session : SessionParams) (answer : Answer) (c : ℕ) (machine : Machine)
     → map media (begun session answer c machine).units ≡ map media machine.units
 unfolding join
-media_begun session answer c machine =
-    let link = begun_link session answer (link_at machine c) in
-    let now : Machine = record (with_link machine c link) { units = changed_units (join session.nexus) session.target machine.units } in
-    ap (map media) (media_older (older session (sessions machine.links)) now)
-    ∙ media_changed (join session.nexus) session.target machine.units (λ units. media_map (joined_unit session.nexus) units (λ unit. refl))
+media_begun session answer c machine = grind (arith, media_changed, media_map)
 
 media_replied : (reply : Reply) (login : LoginState) (c : ℕ) (machine : Machine) → map media (replied reply login c machine).units ≡ map media machine.units
 media_replied (Full response session) login c machine = media_begun session (answers.LoginResponse response) c machine
@@ -101,8 +81,7 @@ logged_in_units machine c login request = as_many (logged_in machine c login req
 -- ---- and when it is told of an attention
 
 media_named : (b : Bool) (f : UnitState → UnitState) (unit : UnitState) → (f unit).device ≡ unit.device → (cond b (f unit) unit).device ≡ unit.device
-media_named true f unit same = same
-media_named false f unit same = refl
+media_named b f unit same = grind arith
 
 media_where : (lun : List ℕ) (f : UnitState → UnitState) (units : UnitStates) → ((unit : UnitState) → (f unit).device ≡ unit.device)
     → media (map (where_named lun f) units) ≡ media units
@@ -110,14 +89,11 @@ media_where lun f units same = media_map (where_named lun f) units (λ unit. med
 
 media_told : (o : Option Attention) (lun : List ℕ) (nexus : NexusName) (units : UnitStates) → media (told o lun nexus units) ≡ media units
 unfolding raised_at
-media_told (Some CommandsClearedByAnotherInitiator) lun nexus units = media_where lun (raised_unit nexus CommandsClearedByAnotherInitiator) units (λ unit. refl)
-media_told _ lun nexus units = refl
+media_told o lun nexus units = grind (arith, media_where)
 
 media_reset : (kind : TaskFunction) (lun : List ℕ) (units : UnitStates) → media (reset_by kind lun units) ≡ media units
 unfolding raised_for_all_at raised_everywhere
-media_reset functions.LogicalUnitReset lun units = media_where lun (raised_unit_for_all BusDeviceResetFunctionOccurred) units (λ unit. refl)
-media_reset functions.TargetWarmReset lun units = media_map (raised_unit_for_all BusDeviceResetFunctionOccurred) units (λ unit. refl)
-media_reset _ lun units = refl
+media_reset kind lun units = grind (arith, media_map)
 
 -- ---- so what holds of each medium stays
 
@@ -191,13 +167,7 @@ logged_in_sure machine c login request sure =
 
 pub sure_set : (all : List UnitStates) (at : ℕ) (d units : UnitStates) → (AreSure (get_or all at d) → AreSure units) → All AreSure all
     → All AreSure (set all at units)
-sure_set all at d units forth sure k e lt = elim (eqb_tells k at) [
-  | inl same ↦ (
-      let below : at < length all = omega (arith, same.1, length-set all at units) in
-      let here : get_or (set all at units) k e ≡ units = ap (λ (n : ℕ). get_or (set all at units) n e) same.1 ∙ get_or-set_same all at units e below in
-      subst AreSure (sym here) (forth (sure at d below)))
-  | inr differ ↦ subst AreSure (sym (get_or-set_other all at k units e differ.1)) (sure k e (omega (arith, length-set all at units)))
-]
+sure_set all at d units forth sure k e lt = grind (arith, length-set, get_or-set_same, get_or-set_other)
 
 pub sound_of_sure : (machine : Machine) → IsSure machine → IsSound machine
 sound_of_sure machine sure = λ i d lt j e below. (sure i d lt j e below).sound

@@ -1,24 +1,24 @@
 -- What comes on one connection lets the others go on.
-use Rattle.std.proofs.Common.{◌≡◌, ◌≢◌, ℕ, zero, suc, ◌+◌, List, [], ◌∷◌, ◌++◌, map, length, Bool, true, false, cond, not, eqb, Option, Some, None, refl, sym, ap, ◌∙◌, subst, inl, inr}
+use Rattle.std.proofs.Common.{◌≡◌, ◌≢◌, ℕ, zero, suc, ◌+◌, List, [], ◌∷◌, ◌++◌, map, length, Bool, true, false, not, eqb, Option, Some, None, refl, sym, ap, ◌∙◌, subst, inl, inr, arith}
 use Rattle.std.specs.Prelude.{◌⊎◌, find}
 use Rattle.std.proofs.lemmas.Bool.Decides.{eqb_tells}
 use Rattle.iscsi_pdu.specs.Frames.{Frame}
 use Rattle.iscsi_pdu.specs.declared.answer.Answer.TheVariants as answers
 use Rattle.iscsi_pdu.specs.declared.login_response.LoginResponse.{LoginResponse}
-use Rattle.iscsi_login.specs.Session.{Live, older}
+use Rattle.iscsi_login.specs.Session.{older}
 use Rattle.iscsi_login.specs.Login.{login}
 use Rattle.iscsi_login.specs.declared.session_params.SessionParams.{SessionParams}
 use Rattle.iscsi_login.specs.declared.reply.Reply.{Reply}
 use Rattle.iscsi_login.specs.declared.reply.Reply.TheVariants.{GoOn, Full, Refused}
 use Rattle.iscsi_session.specs.Requests.{Past, queue}
-use Rattle.iscsi_session.specs.Steps.{Step, Doing, Work, reaches, first_steps, one_by_one, ready, finish, served, settled}
+use Rattle.iscsi_session.specs.Steps.{Step, Doing, Work, first_steps, one_by_one, ready, finish, served, settled}
 use Rattle.iscsi_session.specs.Comings.{Coming}
 use Rattle.iscsi_session.proofs.Runs.{step_done}
-use Rattle.iscsi_world.specs.History.{Bytes, Before, Point, Mark, happening, connections}
+use Rattle.iscsi_world.specs.History.{Point, Mark, connections}
 use Rattle.iscsi_world.specs.Life.{Life, LoggingIn, Closing, logs_in, session_in, ended_in}
-use Rattle.iscsi_world.specs.World.{Setting, World, is_present, present, changed, reads_life, session_of, past_of, live, close, reaching, is_marked, answered, asked, begun, begins, end_older, requests_of, lookup_for, replied, log_in, fails, work_of, with_past, worked_on, worked, losing, reset, serve, brought, longer, bring, begun_event, world}
+use Rattle.iscsi_world.specs.World.{Setting, World, is_present, present, changed, reads_life, session_of, past_of, live, close, reaching, is_marked, answered, asked, begun, begins, end_older, requests_of, lookup_for, replied, log_in, fails, work_of, with_past, worked_on, worked, losing, reset, serve, brought, longer, bring, begun_event}
 use Rattle.iscsi_world.specs.Laws.{LogsIn, Reinstates, are_elsewhere, OthersGoOn}
-use Rattle.iscsi_world.proofs.Choices.{cond_true, eqb_self}
+use Rattle.iscsi_world.proofs.Choices.{eqb_self}
 use Rattle.iscsi_world.proofs.Lives.{some_is, present-changed_other, present-lives, IsPlaced, answered_placed, asked_placed, begun_placed, worked_placed, longer_placed, present-placed, present-changed_none}
 use Rattle.iscsi_world.proofs.Linked.{present-close, present-close_other, present-reaching}
 use Rattle.iscsi_world.proofs.Working.{present_worked_other}
@@ -34,9 +34,7 @@ use Rattle.iscsi_pdu.specs.declared.answer.Answer.{Answer}
 first_goes : (fails : Step → Bool) (step : Step) (does : ℕ → Work → Work) (requests : List ℕ) (work : Work) → fails step ≡ false
     → ((k : ℕ) (w : Work) → w.goes_on ≡ true → (does k w).goes_on ≡ true) → work.goes_on ≡ true
     → (first_steps fails step does requests work).goes_on ≡ true
-first_goes fails step does [] work free goes on = on
-first_goes fails step does (k ∷ others) work free goes on =
-    ap (λ (w : Work). w.goes_on) (step_done fails step (does k) work on free) ∙ goes k (reaches step work) on
+first_goes fails step does requests work free goes on = grind (arith, step_done)
 
 all_go : (fails : Step → Bool) (step : ℕ → Step) (line : Past → List ℕ) (does : ℕ → Work → Work) (turn most : ℕ) (work : Work)
     → ((s : Step) → fails s ≡ false) → ((k : ℕ) (w : Work) → w.goes_on ≡ true → (does k w).goes_on ≡ true) → work.goes_on ≡ true
@@ -55,11 +53,7 @@ settled_goes fails place work free on = all_go fails (Doing place) ready finish 
 
 worked_other : (e d : ℕ) (work : Work) (w : World) → d ≢ e → present d (worked e work w) ≡ present d w
 unfolding worked
-worked_other e d work w differ = by_going work.goes_on
-  where
-    by_going : (b : Bool) → present d (cond b (worked_on e work w) (close e (worked_on e work w))) ≡ present d w
-    by_going true = present_worked_other w e d work differ
-    by_going false = present-close_other e d (worked_on e work w) differ ∙ present_worked_other w e d work differ
+worked_other e d work w differ = grind (arith, present_worked_other, present-close_other)
 
 reads_worked : (o : Option Life) (d : ℕ) (past : Past) (work : Work) (w : World) → present d w ≡ o → past_of o ≡ Some past
     → reads_life (present d (worked_on d work w)) ≡ true
@@ -71,9 +65,7 @@ reads_worked (Some life) d past work w at has =
 settled_reads : (d : ℕ) (past : Past) (work : Work) (w : World) → past_of (present d w) ≡ Some past → work.goes_on ≡ true
     → reads_life (present d (worked d work w)) ≡ true
 unfolding worked
-settled_reads d past work w has on =
-    ap (λ (v : World). reads_life (present d v)) (cond_true work.goes_on (worked_on d work w) (close d (worked_on d work w)) on)
-    ∙ reads_worked (present d w) d past work w refl has
+settled_reads d past work w has on = grind (arith, reads_worked)
 
 -- it goes on being read
 abbrev Spares : ℕ → World → World → Type 0
@@ -89,13 +81,7 @@ spares d marks free = record {
   same = λ w r. r;
   then_ = λ w v u first second r. second (first r);
   serves = λ c past frame place w at differ r. ap reads_life (worked_other c d (served (fails marks c) place frame (work_of past w)) w differ) ∙ r;
-  settles = λ c target past place w at same own r.
-      (let work = settled (fails marks c) place (work_of past w) in elim (eqb_tells d c) [
-        | inl here ↦ ap (λ (k : ℕ). reads_life (present k (worked c work w))) here.1 ∙ settled_reads c past work w at
-            (settled_goes (fails marks c) place (work_of past w)
-            (λ step. no_mark c marks (Before step) (ap (λ (k : ℕ). are_elsewhere k marks) (sym here.1) ∙ free)) refl)
-        | inr differ ↦ ap reads_life (worked_other c d work w differ.1) ∙ r
-      ]);
+  settles = grind (arith, settled_reads, settled_goes, no_mark, worked_other);
   loses = λ e target past header w at same own r.
       (let work = losing header (work_of past w) in elim (eqb_tells d e) [
         | inl here ↦ ap (λ (k : ℕ). reads_life (present k (worked_on e work w))) here.1 ∙ reads_worked (present e w) e past work w refl at
@@ -124,32 +110,15 @@ module _ (s : Setting) (c d : ℕ) (w : World) (differ : d ≢ c) where
   -- a later World, with as many Login requests on the connection at work
   led_on : (v u : World) → requests_of (present c u) ≡ requests_of (present c v) → Spares d v u
       → (reads_life (present d v) ≡ true) ⊎ Reinstates s c d w v → (reads_life (present d u) ≡ true) ⊎ Reinstates s c d w u
-  led_on v u same forth (inl r) = inl (forth r)
-  led_on v u same forth (inr r) = inr (record {
-    logs_in = r.logs_in;
-    earlier = r.earlier;
-    request = r.request;
-    response = r.response;
-    session = r.session;
-    requests = same ∙ r.requests;
-    begins = r.begins;
-    older = r.older;
-  })
+  led_on v u same forth spared = grind arith
 
   past_kept : (x : Life) (o : Option Life) → Stays (Some x) o → logs_in x.phase ≡ false
       → (requests_of o ≡ x.requests) × ((y : Life) → o ≡ Some y → y.phase ≡ LoggingIn → ⊥)
-  past_kept x None stays past = absurd stays
-  past_kept x (Some y) stays past =
-      let both = stays.2 past in (both.1, λ z at is. (let same : y ≡ z = cc in absurd (cc (both.0, ap (λ (l : Life). logs_in l.phase) same, ap logs_in is))))
+  past_kept x o stays past = grind arith
 
   -- after the login
   behind : (v u : World) (x : Life) → Prolongs v u → present c v ≡ Some x → logs_in x.phase ≡ false → Spares d v u → Spared s c d w v → Spared s c d w u
-  behind v u x goes at past forth spared =
-      let kept = past_kept x (present c u) (subst (λ (o : Option Life). Stays o (present c u)) at (goes.stays c)) past in
-      record {
-        fresh = λ life there is. absurd (kept.1 life there is);
-        on = led_on v u (kept.0 ∙ sym (ap requests_of at)) forth spared.on;
-      }
+  behind v u x goes at past forth spared = grind arith
 
   closes : (v : World) → Spared s c d w v → Spared s c d w (close c v)
   closes v spared = closes_by (present c v) refl
@@ -170,13 +139,7 @@ module _ (s : Setting) (c d : ℕ) (w : World) (differ : d ≢ c) where
           }
 
   reaches_ : (points : List Point) (v : World) → Spared s c d w v → Spared s c d w (reaching c points v)
-  reaches_ points v spared =
-      let same : (e : ℕ) → present e (reaching c points v) ≡ present e v = λ e. present-reaching e c points v in
-      record {
-        fresh = λ life there is. (let f = spared.fresh life (sym (same c) ∙ there) is in
-            (live-lives (reaching c points v) v refl ∙ f.0, f.1, ap reads_life (same d) ∙ f.2));
-        on = led_on v (reaching c points v) (ap requests_of (same c)) (λ r. ap reads_life (same d) ∙ r) spared.on;
-      }
+  reaches_ points v spared = grind (arith, present-reaching, live-lives)
 
   -- ---- a Login request
 
@@ -229,19 +192,7 @@ module _ (s : Setting) (c d : ℕ) (w : World) (differ : d ≢ c) where
       ended : (o : Option ℕ) (y : World) → reads_life (present d y) ≡ true → requests_of (present c (end_older o y)) ≡ x.requests ++ request ∷ []
           → older session (live w) ≡ o → (reads_life (present d (end_older o y)) ≡ true) ⊎ Reinstates s c d w (end_older o y)
       ended None y r requests e = inl r
-      ended (Some k) y r requests e = elim (eqb_tells d k) [
-        | inl same ↦ inr (record {
-          logs_in = a.before;
-          earlier = x.requests;
-          request = request;
-          response = response;
-          session = session;
-          requests = requests;
-          begins = begins_;
-          older = e ∙ ap (λ (n : ℕ). Some n) (sym same.1);
-        })
-        | inr other ↦ inl (ap reads_life (present-changed_other (ended_in Closing) k d y (λ l. refl) other.1) ∙ r)
-      ]
+      ended (Some k) y r requests e = grind (arith, present-changed_other)
 
   answered_logs : (v : World) (x : Life) (request : Frame) (answer : Answer) → Asking_ v x
       → Spared s c d w (changed (answered answer) c (changed (asked request) c v))
@@ -261,9 +212,7 @@ module _ (s : Setting) (c d : ℕ) (w : World) (differ : d ≢ c) where
       let f = spared.fresh x at is in
       let a : Asking_ v x = record { at = at; is = is; live_ = f.0; before = f.1; reads_ = f.2 } in
       let reply = login (c + 1) x.requests (lookup_for s.directory (live w) request) request in
-      let same : login (c + 1) (requests_of (present c v)) (lookup_for s.directory (live v) request) request ≡ reply =
-      ap (λ (o : Option Life). login (c + 1) (requests_of o) (lookup_for s.directory (live v) request) request) at
-      ∙ ap (λ (l : Live). login (c + 1) x.requests (lookup_for s.directory l request) request) f.0 in
+      let same : login (c + 1) (requests_of (present c v)) (lookup_for s.directory (live v) request) request ≡ reply = grind arith in
       subst (λ (given : Reply). Spared s c d w (replied given c (changed (asked request) c v))) (sym same) (replied_ v x request reply a refl)
 
   -- ---- all that comes
@@ -284,10 +233,7 @@ module _ (s : Setting) (c d : ℕ) (w : World) (differ : d ≢ c) where
   longer_by : (o : Option Life) (piece : List ℕ) (v : World) → present c v ≡ o → live v ≡ live w
       → ((life : Life) → present c v ≡ Some life → life.phase ≡ LoggingIn → LogsIn c w) → reads_life (present d v) ≡ true
       → Spared s c d w (changed (longer piece) c v)
-  longer_by None piece v at same logs r = record {
-    fresh = λ life there is. absurd (cc (there, present-changed_none (longer piece) c v at));
-    on = inl (ap reads_life (present-changed_other (longer piece) c d v (λ l. refl) differ) ∙ r);
-  }
+  longer_by None piece v at same logs r = grind (arith, present-changed_none, present-changed_other)
   longer_by (Some x) piece v at same logs r =
       let still = ap reads_life (present-changed_other (longer piece) c d v (λ l. refl) differ) ∙ r in
       record {
@@ -310,7 +256,4 @@ module _ (s : Setting) (c d : ℕ) (w : World) (differ : d ≢ c) where
       (ap reads_life (present-begun comings d w) ∙ r))
 
 pub others_go_on : OthersGoOn
-others_go_on s h marks comings c d piece differ free r =
-    let w = world s h in
-    subst (λ (v : World). (reads_life (present d v) ≡ true) ⊎ Reinstates s c d w v) (sym (world-push s h (happening marks comings (Bytes c piece))))
-    (brings s c d w differ marks comings piece free r).on
+others_go_on s h marks comings c d piece differ free r = grind (arith, world-push, brings)

@@ -1,19 +1,16 @@
 -- Between two events: the beginning, and the events that open and end a connection.
-use Rattle.std.proofs.Common.{◌≡◌, ◌≢◌, ℕ, zero, suc, ◌+◌, ◌<◌, ◌≤◌, List, [], ◌∷◌, ◌++◌, length, map, drop, set, replicate, Bool, true, false, not, eqb, Option, Some, None, refl, sym, ap, ◌∙◌, subst, arith, inl, inr}
+use Rattle.std.proofs.Common.{◌≡◌, ◌≢◌, ℕ, zero, suc, ◌+◌, ◌<◌, ◌≤◌, List, [], ◌∷◌, ◌++◌, length, map, drop, set, replicate, Bool, true, false, not, eqb, Option, Some, None, refl, sym, ap, ◌∙◌, subst, arith, inl}
 use Rattle.std.specs.List.{range_with_len}
-use Rattle.std.proofs.lemmas.Bool.Decides.{eqb_tells}
 use Rattle.std.proofs.lemmas.Bool.{ne_eqb}
 use Rattle.std.proofs.lemmas.List.{set-set, length-drop, drop-drop, set-get_or}
-use Rattle.std.proofs.Math.Seq.{drop-nil}
 use Rattle.iscsi_pdu.specs.Frames.{is_long}
 use Rattle.iscsi_pdu.proofs.Frames.{no_frame, rest_none}
 use Rattle.iscsi_login.specs.Login.{remembered}
-use Rattle.iscsi_login.specs.declared.session_params.SessionParams.{SessionParams}
 use Rattle.scsi_unit.specs.Units.{UnitStates}
 use Rattle.iscsi_login.specs.Directory.{KnownTargets}
 use Rattle.iscsi_session.specs.Comings.{Coming}
 use Rattle.iscsi_world.specs.History.{Open, Gone, Happening, History, plain, connection_limit}
-use Rattle.iscsi_world.specs.Life.{Life, Phase, Over, born, is_over, out_of}
+use Rattle.iscsi_world.specs.Life.{Life, Phase, born, is_over, out_of}
 use Rattle.iscsi_world.specs.World.{Setting, World, present, session_of, left, end, begun_event, happened, new_world, world}
 use Rattle.iscsi_world.specs.Output.{out_now}
 use Rattle.iscsi_world.specs.Machine.{LinkState, Machine, link_at, with_link, closed, is_free, is_open_at, free_link, opened_link, shut_link, sent_link, session_in_phase, new_machine}
@@ -22,7 +19,7 @@ use Rattle.iscsi_world.specs.Serving.{Serves, with_half}
 use Rattle.iscsi_world.proofs.Choices.{eqb_self, cond_true, cond_false, and_true, not_true}
 use Rattle.iscsi_world.proofs.Lives.{present-born, present-born_other, present-end, present-end_other, present-lives, present_is}
 use Rattle.iscsi_world.proofs.Keeping.{world-push}
-use Rattle.iscsi_world.proofs.Linked.{link_there, units_with, relinked, session_at, link_is, count_there}
+use Rattle.iscsi_world.proofs.Linked.{link_there, units_with, relinked, session_at, link_is}
 
 -- ---- one more event
 
@@ -37,9 +34,7 @@ present-fresh c w = present-lives c (fresh w) w refl
 
 pub stands_as : (s : Setting) (sent : ℕ → ℕ) (machine : Machine) (history : History) (h : Happening) (v : World)
     → happened s (world s history) h ≡ v → StandsAt s sent v machine → Stands s sent machine (history ++ h ∷ [])
-stands_as s sent machine history h v e at =
-    let P : World → Type 0 = λ w. StandsAt s sent w machine in
-    subst P (sym (world-push s history h ∙ e)) at
+stands_as s sent machine history h v e at = grind (arith, world-push)
 
 -- the machine, however it is written
 pub stands_machine : (s : Setting) (sent : ℕ → ℕ) (history : History) (a b : Machine) → a ≡ b → Stands s sent a history → Stands s sent b history
@@ -67,8 +62,7 @@ pub link_stands : (s : Setting) (sent : ℕ → ℕ) (w : World) (machine : Mach
 link_stands s sent w machine c lt h = link_is s sent h.half w machine c lt (serving s sent w machine h)
 
 waiting_of : (directory : KnownTargets) (sent : ℕ) (half : List ℕ) (o : Option Life) → (link_of directory sent half o).waiting ≡ drop sent (out_now o)
-waiting_of directory sent half None = sym (drop-nil sent)
-waiting_of directory sent half (Some life) = refl
+waiting_of directory sent half o = grind arith
 
 -- what waits is what was answered without what was sent
 pub waits_there : (s : Setting) (sent : ℕ → ℕ) (w : World) (machine : Machine) (c : ℕ) → c < connection_limit → StandsAt s sent w machine
@@ -76,14 +70,10 @@ pub waits_there : (s : Setting) (sent : ℕ → ℕ) (w : World) (machine : Mach
 waits_there s sent w machine c lt h = ap (λ (l : LinkState). l.waiting) (link_stands s sent w machine c lt h)
     ∙ waiting_of s.directory (sent c) (h.half c) (present c w)
 
-pub count_stands : (s : Setting) (sent : ℕ → ℕ) (w : World) (machine : Machine) → StandsAt s sent w machine → length machine.links ≡ connection_limit
-count_stands s sent w machine h = count_there s sent h.half w machine (serving s sent w machine h)
-
 -- ---- which connections are open
 
 over_is_free : (directory : KnownTargets) (life : Life) (phase : Phase) → is_over phase ≡ false → is_free (phase_for directory life phase) ≡ false
-over_is_free directory life Over e = absurd cc
-over_is_free directory life _ e = refl
+over_is_free directory life phase e = grind arith
 
 pub present_open : (directory : KnownTargets) (c : ℕ) (w : World) (life : Life) → present c w ≡ Some life → is_free
     (phase_for directory life life.phase) ≡ false
@@ -92,13 +82,11 @@ present_open directory c w life e = over_is_free directory life life.phase (not_
 
 open_in : (directory : KnownTargets) (sent : ℕ) (half : List ℕ) (o : Option Life) → is_free (link_of directory sent half o).phase ≡ false → (life : Life)
     × (o ≡ Some life)
-open_in directory sent half None e = absurd cc
-open_in directory sent half (Some life) e = (life, refl)
+open_in directory sent half o e = grind arith
 
 free_in : (directory : KnownTargets) (sent : ℕ) (half : List ℕ) (c : ℕ) (w : World) (o : Option Life) → present c w ≡ o
     → is_free (link_of directory sent half o).phase ≡ true → o ≡ None
-free_in directory sent half c w None e f = refl
-free_in directory sent half c w (Some life) e f = let open_ = present_open directory c w life e in absurd (cc (open_, f))
+free_in directory sent half c w o e f = grind (arith, present_open)
 
 free_from : (b : Bool) → not b ≡ false → b ≡ true
 free_from b e = grind arith
@@ -125,12 +113,6 @@ sent_there sent c n d differ = cond_false (eqb d c) n (sent d) (ne_eqb d c diffe
 
 -- ---- the bytes that are kept
 
-pub half_here : (c : ℕ) (bytes : List ℕ) (half : ℕ → List ℕ) → with_half c bytes half c ≡ bytes
-half_here c bytes half = cond_true (eqb c c) bytes (half c) (eqb_self c)
-
-pub half_other : (c d : ℕ) (bytes : List ℕ) (half : ℕ → List ℕ) → d ≢ c → with_half c bytes half d ≡ half d
-half_other c d bytes half differ = cond_false (eqb d c) bytes (half d) (ne_eqb d c differ)
-
 -- one connection changes, how much of its answers was sent, and what it keeps
 pub stands_one : (s : Setting) (sent : ℕ → ℕ) (w v : World) (machine : Machine) (c n : ℕ) (units : List UnitStates) (link : LinkState)
     (bytes : List ℕ) → c < connection_limit → StandsAt s sent w machine → v.units ≡ units
@@ -140,11 +122,8 @@ pub stands_one : (s : Setting) (sent : ℕ → ℕ) (w v : World) (machine : Mac
 stands_one s sent w v machine c n units link bytes lt h u other l le quiet short kept =
     let half = with_half c bytes h.half in
     let same : (d : ℕ) → d < connection_limit → d ≢ c → link_of s.directory (with_sent sent c n d) (half d) (present d v)
-    ≡ link_of s.directory (sent d) (h.half d) (present d w) =
-    λ d below differ. rw (other d differ, sent_there sent c n d differ, half_other c d bytes h.half differ) refl in
-    let here : link_of s.directory (with_sent sent c n c) (half c) (present c v) ≡ link =
-    ap (λ (k : ℕ). link_of s.directory k (half c) (present c v)) (sent_here sent c n)
-    ∙ ap (λ (b : List ℕ). link_of s.directory n b (present c v)) (half_here c bytes h.half) ∙ l in
+    ≡ link_of s.directory (sent d) (h.half d) (present d w) = grind arith in
+    let here : link_of s.directory (with_sent sent c n c) (half c) (present c v) ≡ link = grind arith in
     record {
       half = half;
       is = ap (λ (m : Machine). let x : Machine = record (with_link m c link) { units = units } in x) h.is
@@ -152,37 +131,16 @@ stands_one s sent w v machine c n units link bytes lt h u other l le quiet short
           ∙ ap (λ (us : List UnitStates). let m : Machine = record (with_link (machine_with s sent h.half w) c
           (link_of s.directory (with_sent sent c n c) (half c) (present c v))) { units = us } in m) (sym u)
           ∙ sym (relinked s sent (with_sent sent c n) h.half half w v c lt same);
-      kept = λ d below. elim (eqb_tells d c) [
-        | inl e ↦ rw (e.1, half_here c bytes h.half) kept
-        | inr differ ↦ rw (other d differ.1, half_other c d bytes h.half differ.1) (h.kept d below)
-      ];
-      answered = λ d below. elim (eqb_tells d c) [
-        | inl e ↦ rw (e.1, sent_here sent c n) le
-        | inr differ ↦ rw (other d differ.1, sent_there sent c n d differ.1) (h.answered d below)
-      ];
-      quiet = λ d below. elim (eqb_tells d c) [
-        | inl e ↦ rw e.1 quiet
-        | inr differ ↦ rw (other d differ.1) (h.quiet d below)
-      ];
-      short = λ d below. elim (eqb_tells d c) [
-        | inl e ↦ rw e.1 short
-        | inr differ ↦ rw (other d differ.1) (h.short d below)
-      ];
+      kept = grind arith;
+      answered = grind arith;
+      quiet = grind arith;
+      short = grind arith;
     }
 
 -- only how many bytes were sent on each connection counts, however it is written
 pub stands_sent : (s : Setting) (sent other : ℕ → ℕ) (machine : Machine) (history : History) → ((c : ℕ) → c < connection_limit → sent c ≡ other c)
     → Stands s sent machine history → Stands s other machine history
-stands_sent s sent other machine history same h =
-    let w = world s history in
-    record {
-      half = h.half;
-      is = h.is ∙ machine_same s other sent h.half h.half w w refl (λ d below. rw (same d below) refl);
-      kept = h.kept;
-      answered = λ c lt. (let e = same c lt in rw (← e) (h.answered c lt));
-      quiet = h.quiet;
-      short = h.short;
-    }
+stands_sent s sent other machine history same h = grind (arith, machine_same)
 
 -- ---- the beginning
 
@@ -196,8 +154,7 @@ new_links (suc n) link a = ap (λ (l : List LinkState). link ∷ l) (new_links n
 
 new_is : (s : Setting) → new_machine s.directory s.units ≡ machine_with s (λ c. 0) (λ c. []) (new_world s)
 unfolding machine_with present
-new_is s = ap (λ (links : List LinkState). let m : Machine = record { directory = s.directory; units = s.units; links = links } in m)
-    (sym (new_links connection_limit free_link 0))
+new_is s = grind arith
 
 pub new_stands : (s : Setting) → Stands s (λ c. 0) (new_machine s.directory s.units) []
 unfolding world
@@ -248,12 +205,8 @@ gone_stands s sent machine history c lt h =
     let v = end c (fresh w) in
     let none : present c v ≡ None = present-end c (fresh w) in
     let same = ap (λ (m : Machine). m.units) h.is ∙ units_with s sent h.half w in
-    let units : v.units ≡ left (session_in_phase (link_at machine c).phase) machine.units =
-    units_end c (fresh w) ∙ ap (λ (o : Option Life). left (session_of o) w.units) (present-fresh c w)
-    ∙ ap (λ (o : Option SessionParams). left o w.units) (sym (session_at s sent h.half w machine c lt (serving s sent w machine h)))
-    ∙ ap (left (session_in_phase (link_at machine c).phase)) (sym same) in
-    let twice : set (set machine.links c (shut_link (link_at machine c))) c free_link ≡ set machine.links c free_link =
-    set-set machine.links c (shut_link (link_at machine c)) free_link in
+    let units : v.units ≡ left (session_in_phase (link_at machine c).phase) machine.units = grind (arith, units_end, present-fresh, session_at) in
+    let twice : set (set machine.links c (shut_link (link_at machine c))) c free_link ≡ set machine.links c free_link = grind (arith, set-set) in
     stands_as s (with_sent sent c 0) (with_link (closed machine c) c free_link) history (plain (Gone c)) v refl
     (rw twice (stands_one s sent w v machine c 0 (left (session_in_phase (link_at machine c).phase) machine.units) free_link [] lt h units
     (λ d differ. present-end_other c d (fresh w) differ ∙ present-fresh d w) (rw none refl) (omega arith) (rw none tt) (rw none tt) (rw none tt)))
@@ -262,9 +215,7 @@ gone_stands s sent machine history c lt h =
 
 sent_of : (directory : KnownTargets) (sent n : ℕ) (half : List ℕ) (o : Option Life) → n ≤ length (link_of directory sent half o).waiting
     → link_of directory (sent + n) half o ≡ sent_link (link_of directory sent half o) n
-sent_of directory sent n half None le = ap (λ (l : List ℕ). let x : LinkState = record free_link { waiting = l } in x) (sym (drop-nil n))
-sent_of directory sent n half (Some life) le = ap (λ (l : List ℕ). let x : LinkState = record (link_of directory sent half (Some life)) { waiting = l } in
-    x) (sym (drop-drop n sent (out_of life)))
+sent_of directory sent n half o le = grind (arith, drop-drop)
 
 pub sent_stands : (s : Setting) (sent : ℕ → ℕ) (machine : Machine) (history : History) (c n : ℕ) → c < connection_limit
     → n ≤ length (link_at machine c).waiting → Stands s sent machine history
@@ -274,8 +225,7 @@ sent_stands s sent machine history c n lt le h =
     let link = link_stands s sent w machine c lt h in
     let units : w.units ≡ machine.units = sym (ap (λ (m : Machine). m.units) h.is ∙ units_with s sent h.half w) in
     let waits = waits_there s sent w machine c lt h in
-    let count : sent c + n ≤ length (out_now (present c w)) = (let was = h.answered c lt in
-    let len = length-drop (sent c) (out_now (present c w)) in let same = ap length waits in omega arith) in
+    let count : sent c + n ≤ length (out_now (present c w)) = grind (arith, length-drop) in
     stands_one s sent w w machine c (sent c + n) machine.units (sent_link (link_at machine c) n) (h.half c) lt h units (λ d differ. refl)
     (sent_of s.directory (sent c) n (h.half c) (present c w) (subst (λ (l : LinkState). n ≤ length l.waiting) link le)
     ∙ ap (λ (l : LinkState). sent_link l n) (sym link))

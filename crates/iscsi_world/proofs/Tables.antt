@@ -1,7 +1,6 @@
 -- Which connections are open, as a list of them and as a test at each number.
-use Rattle.std.proofs.Common.{◌≡◌, ◌≢◌, ℕ, zero, suc, replicate, ◌<◌, List, [], ◌∷◌, length, set, get_or, Bool, false, not, eqb, refl, sym, ◌∙◌, inl, inr, arith}
+use Rattle.std.proofs.Common.{◌≡◌, ◌≢◌, ℕ, zero, suc, replicate, ◌<◌, List, [], ◌∷◌, length, set, get_or, Bool, false, not, eqb, refl, arith}
 use Rattle.std.specs.Prelude.{filter}
-use Rattle.std.proofs.lemmas.Bool.Decides.{eqb_tells}
 use Rattle.std.proofs.lemmas.List.{get_or-set_same, get_or-set_other}
 use Rattle.iscsi_world.specs.History.{is_among}
 use Rattle.iscsi_world.specs.Runs.{IsTable}
@@ -14,14 +13,11 @@ among-gone c (k ∷ before) = grind (arith, among-gone c before)
 
 pub among-gone_other : (d c : ℕ) (before : List ℕ) → d ≢ c → is_among d (filter (λ k. not (eqb k c)) before) ≡ is_among d before
 among-gone_other d c [] differ = refl
-among-gone_other d c (k ∷ before) differ = grind (arith, among-gone_other d c before differ, eqb_tells)
+among-gone_other d c (k ∷ before) differ = grind (arith, among-gone_other d c before differ)
 
 pub gone_table : (table : List Bool) (before : List ℕ) (c : ℕ) → IsTable table before → c < length table
     → IsTable (set table c false) (filter (λ k. not (eqb k c)) before)
-gone_table table before c h lt = λ d. elim (eqb_tells d c) [
-  | inl same ↦ rw same.1 (get_or-set_same table c false false lt ∙ sym (among-gone c before))
-  | inr differ ↦ get_or-set_other table c d false false differ.1 ∙ h d ∙ sym (among-gone_other d c before differ.1)
-]
+gone_table table before c h lt = grind (arith, get_or-set_same, among-gone, get_or-set_other, among-gone_other)
 
 -- ---- no connection is open
 

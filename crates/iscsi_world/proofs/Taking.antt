@@ -1,35 +1,30 @@
 -- The whole frames of a piece are taken, one after the other.
-use Rattle.std.proofs.Common.{◌≡◌, ℕ, ◌+◌, ◌<◌, ◌≤◌, List, [], ◌∷◌, ◌++◌, length, map, drop, Bool, true, false, not, ◌&&◌, eqb, Option, Some, None, refl, sym, ap, ◌∙◌, subst, arith, inl, inr, append_assoc}
-use Rattle.std.specs.Prelude.{All, nat_lt, slice_index_or}
+use Rattle.std.proofs.Common.{◌≡◌, ℕ, ◌+◌, ◌<◌, ◌≤◌, List, [], ◌∷◌, ◌++◌, length, drop, Bool, true, false, Option, Some, None, refl, sym, ap, ◌∙◌, subst, arith, append_assoc}
+use Rattle.std.specs.Prelude.{All, slice_index_or}
 use Rattle.scsi_unit.specs.Units.{UnitStates, AreSound, AreSure}
 use Rattle.std.specs.List.{fold, enumerate_from}
-use Rattle.std.proofs.lemmas.Bool.Decides.{eqb_tells, nat_tests}
 use Rattle.std.proofs.lemmas.List.{append-nil, length-append, set-get_or, get_or-set_same}
 use Rattle.iscsi_pdu.specs.Frames.{Frame, frames, rest, is_long, has_frame, first_frame, frame_length}
 use Rattle.iscsi_pdu.proofs.Frames.{no_frame, frames_none, rest_none, frames_step, rest_step, drop_shorter}
 use Rattle.iscsi_pdu.proofs.Cuts.{long_is_no_frame}
-use Rattle.iscsi_login.specs.Directory.{KnownTargets}
-use Rattle.iscsi_world.specs.History.{Point, Arriving, Before, AtEnd, Mark, Arrival, Whole, TooLong, arrivals, is_within, connection_limit}
-use Rattle.iscsi_world.specs.Life.{Life, reads}
+use Rattle.iscsi_world.specs.History.{Arriving, Mark, Arrival, Whole, TooLong, arrivals, connection_limit}
 use Rattle.iscsi_world.specs.World.{Setting, World, present, reads_life, close, reaching, arrive}
 use Rattle.iscsi_world.specs.Machine.{LinkState, Machine, Feeds, link_at, with_link, is_reading, closed, free_link, shut_link, GivesFrame}
 use Rattle.iscsi_world.specs.Bounded.{AddsAtMost}
-use Rattle.iscsi_world.specs.Stands.{link_of}
-use Rattle.iscsi_world.specs.Serving.{Serves, ActsAs, is_of_frame, has_place, place_of, is_among, first_of, with_half, KeepsHalf, Preserves, TakesFrame, Leaves, TakesOne, TakesSome, TakesAll}
-use Rattle.iscsi_world.proofs.Arrivals.{long_end, fold-places}
-use Rattle.iscsi_world.proofs.Choices.{cond_true, cond_false}
+use Rattle.iscsi_world.specs.Serving.{Serves, ActsAs, is_of_frame, is_among, first_of, with_half, KeepsHalf, Preserves, TakesFrame, Leaves, TakesOne, TakesSome, TakesAll}
+use Rattle.iscsi_world.proofs.Arrivals.{fold-places}
 use Rattle.iscsi_world.proofs.Linked.{link_is, reads_there, some_reads, serves_one, serves_as, serves_world, serves_reaching, closes, present-close, present-reaching, units_with}
-use Rattle.iscsi_world.proofs.Standing.{nothing_long, machine_same, half_here, half_other}
+use Rattle.iscsi_world.proofs.Standing.{nothing_long, machine_same}
 use Rattle.iscsi_world.proofs.Marks.{Apart, Wider, all_wider}
 use Rattle.iscsi_world.proofs.Walks.{any_arrival, any_arrivals, on-arrive, on-arrivals}
 use Rattle.iscsi_world.proofs.Keeping.{goes}
 use Rattle.iscsi_world.proofs.Doing.{Act, Halves, does_nothing, does_from, does_then}
 use Rattle.iscsi_world.proofs.Comings.{comings_close}
 use Rattle.iscsi_world.proofs.Frames.{idle, arrived, starves}
-use Rattle.iscsi_world.proofs.Apart.{part_none, part_closed, part_halved, part_as, part_then}
-use Rattle.iscsi_world.proofs.Bounding.{adds_none, adds_then, adds_more}
+use Rattle.iscsi_world.proofs.Apart.{part_closed, part_halved, part_as, part_then}
+use Rattle.iscsi_world.proofs.Bounding.{adds_then}
 use Rattle.iscsi_world.proofs.Heavier.{closed_loads, halved_adds, header_whole}
-use Rattle.iscsi_world.proofs.Moving.{keeps_same, keeps_by, link_other, Changes, reading_open, own_self, feeds_then, closed_then, changes_feeds, closed_moves, starved_moves, moves_as, moves_none}
+use Rattle.iscsi_world.proofs.Moving.{keeps_same, link_other, Changes, own_self, feeds_then, closed_then, changes_feeds, closed_moves, starved_moves, moves_as, moves_none}
 
 -- ---- the bytes that are kept
 
@@ -37,61 +32,29 @@ use Rattle.iscsi_world.proofs.Moving.{keeps_same, keeps_by, link_other, Changes,
 pub rehalved : (s : Setting) (sent : ℕ → ℕ) (half : ℕ → List ℕ) (w : World) (machine : Machine) (c : ℕ) (bytes : List ℕ) → c < connection_limit
     → is_reading (link_at machine c).phase ≡ true → Serves s sent half w machine
     → Serves s sent (with_half c bytes half) w (with_link machine c (record (link_at machine c) { half = bytes }))
-rehalved s sent half w machine c bytes lt r h =
-    let there = some_reads (present c w) (sym (reads_there s sent half w machine c lt h) ∙ r) in
-    let link = link_is s sent half w machine c lt h ∙ ap (link_of s.directory (sent c) (half c)) there.1 in
-    let now : link_of s.directory (sent c) (with_half c bytes half c) (Some there.0) ≡ record
-    (link_of s.directory (sent c) (half c) (Some there.0)) { half = bytes } =
-    ap (λ (b : List ℕ). link_of s.directory (sent c) b (Some there.0)) (half_here c bytes half)
-    ∙ ap (λ (b : List ℕ). let l : LinkState = record (link_of s.directory (sent c) (half c) (Some there.0)) { half = b } in l)
-    (cond_true (reads there.0.phase) bytes [] there.2) in
-    serves_one s sent half (with_half c bytes half) w w machine c machine.units (record (link_at machine c) { half = bytes }) lt h
-    (λ d differ. refl) (λ d differ. half_other c d bytes half differ)
-    (h.answered c lt) (h.quiet c lt) (sym (ap (λ (m : Machine). m.units) h.is ∙ units_with s sent half w))
-    (ap (link_of s.directory (sent c) (with_half c bytes half c)) there.1 ∙ now
-    ∙ ap (λ (l : LinkState). let x : LinkState = record l { half = bytes } in x) (sym link))
-
-idle_link : (directory : KnownTargets) (sent : ℕ) (a b : List ℕ) (o : Option Life) → reads_life o ≡ false
-    → link_of directory sent a o ≡ link_of directory sent b o
-idle_link directory sent a b None e = refl
-idle_link directory sent a b (Some life) e =
-    ap (λ (half : List ℕ). let l : LinkState = record (link_of directory sent a (Some life)) { half = half } in l) (cond_false (reads life.phase) a [] e
-    ∙ sym (cond_false (reads life.phase) b [] e))
+rehalved s sent half w machine c bytes lt r h = grind (arith, link_is, serves_one, units_with)
 
 -- of one that does not read, none
 pub halves_idle : (s : Setting) (sent : ℕ → ℕ) (half : ℕ → List ℕ) (w : World) (machine : Machine) (c : ℕ) (bytes : List ℕ)
     → reads_life (present c w) ≡ false → Serves s sent half w machine → Serves s sent (with_half c bytes half) w machine
-halves_idle s sent half w machine c bytes e h = record {
-  is = h.is ∙ sym (machine_same s sent sent half (with_half c bytes half) w w refl (λ d below. elim (eqb_tells d c) [
-    | inl here ↦ rw here.1 (idle_link s.directory (sent c) (with_half c bytes half c) (half c) (present c w) e)
-    | inr differ ↦ ap (λ (b : List ℕ). link_of s.directory (sent d) b (present d w)) (half_other c d bytes half differ.1)
-  ]));
-  answered = h.answered;
-  quiet = h.quiet;
-}
+halves_idle s sent half w machine c bytes e h = grind (arith, machine_same)
 
 -- ---- the first that is whole
 
 pub none_whole : (half : List ℕ) → has_frame half ≡ false → is_long half ≡ false → arrivals half ≡ []
 unfolding arrivals
-none_whole half none short = ap (λ (l : List Frame). map Whole l ++ long_end (is_long (rest half))) (frames_none half none)
-    ∙ ap long_end (ap is_long (rest_none half none) ∙ short)
+none_whole half none short = grind (arith, frames_none, rest_none)
 
 pub some_whole : (half more : List ℕ) (frame : Frame) → frames half ≡ frame ∷ frames more → rest more ≡ rest half → arrivals half ≡ Whole frame ∷ arrivals more
 unfolding arrivals
-some_whole half more frame first behind =
-    ap (λ (l : List Frame). map Whole l ++ long_end (is_long (rest half))) first
-    ∙ ap (λ (r : List ℕ). Whole frame ∷ (map Whole (frames more) ++ long_end (is_long r))) (sym behind)
+some_whole half more frame first behind = grind arith
 
 pub no_bytes : arrivals [] ≡ []
 no_bytes = none_whole [] no_frame nothing_long
 
 pub long_whole : (half : List ℕ) → is_long half ≡ true → arrivals half ≡ TooLong ∷ arrivals []
 unfolding arrivals
-long_whole half long =
-    let none = long_is_no_frame half long in
-    ap (λ (l : List Frame). map Whole l ++ long_end (is_long (rest half))) (frames_none half none) ∙ ap long_end (ap is_long (rest_none half none) ∙ long)
-    ∙ ap (λ (l : List Arrival). TooLong ∷ l) (sym no_bytes)
+long_whole half long = grind (arith, long_is_no_frame, frames_none, rest_none, no_bytes)
 
 long_some : (half : List ℕ) → is_long half ≡ true → 0 < length half
 long_some [] long = absurd (cc (long, nothing_long))
@@ -100,17 +63,11 @@ long_some (b ∷ half) long = omega arith
 -- ---- it is taken
 
 pub halving : (link : LinkState) (more : List ℕ) → is_reading link.phase ≡ true → Changes link (record link { half = more })
-halving link more r = record {
-  reads = r;
-  free = reading_open link.phase r;
-  waits = ([], sym (append-nil link.waiting));
-}
+halving link more r = grind (arith, append-nil)
 
 closed_keeps : (machine : Machine) (c : ℕ) (more : List ℕ) → c < length machine.links → KeepsHalf more (link_at (closed machine c) c)
 unfolding closed
-closed_keeps machine c more lt =
-    let here = get_or-set_same machine.links c (shut_link (link_at machine c)) free_link lt in
-    subst (KeepsHalf more) (sym here) (record { reading = λ e. absurd cc; idle = λ e. refl })
+closed_keeps machine c more lt = grind (arith, get_or-set_same)
 
 closed_idle : (machine : Machine) (c : ℕ) → c < length machine.links → is_reading (link_at (closed machine c) c).phase ≡ false
 unfolding closed
@@ -118,8 +75,7 @@ closed_idle machine c lt = ap (λ (l : LinkState). is_reading l.phase) (get_or-s
 
 halved_link : (old given : Machine) (c : ℕ) (half : List ℕ) → c < connection_limit → length old.links ≡ connection_limit
     → given ≡ with_link old c (record (link_at old c) { half = half }) → link_at given c ≡ record (link_at old c) { half = half }
-halved_link old given c half lt count is = ap (λ (m : Machine). link_at m c) is
-    ∙ get_or-set_same old.links c (record (link_at old c) { half = half }) free_link (omega (arith, lt, count))
+halved_link old given c half lt count is = grind (arith, get_or-set_same)
 
 pub halved_reads : (old given : Machine) (c : ℕ) (half : List ℕ) → c < connection_limit → length old.links ≡ connection_limit
     → given ≡ with_link old c (record (link_at old c) { half = half }) → is_reading (link_at old c).phase ≡ true
@@ -262,19 +218,8 @@ begins machine c lt r = record {
   front = refl;
   behind = λ e. refl;
   kept = keeps_same (link_at machine c) r;
-  takes = does_nothing (is_among 0) (λ s marks place w. fold (arrive s marks c) w (enumerate_from place [])) (with_half c (link_at machine c).half)
-      machine machine
-      (λ s sent half w place marks agree h. (own_half s sent half w machine c lt r h, refl));
-  leaves = record {
-    back = λ target sound. sound;
-    sure = λ sure. sure;
-    feeds = (moves_none c machine).alters.feeds;
-    closing = tt;
-    part = part_none c machine;
-    eases = (moves_none c machine).alters.eases;
-    loads = adds_none 0 (link_at machine c);
-    keeps = λ d other reads_. keeps_same (link_at machine d) reads_;
-  };
+  takes = grind (arith, does_nothing, own_half);
+  leaves = grind (arith, moves_none);
 }
 
 -- ---- one more
@@ -295,60 +240,22 @@ shifted n kind act halves starved given after d = record {
 -- only the bytes themselves count
 pub serves_halves : (s : Setting) (sent : ℕ → ℕ) (a b : ℕ → List ℕ) (w : World) (machine : Machine) → ((d : ℕ) → a d ≡ b d)
     → Serves s sent a w machine → Serves s sent b w machine
-serves_halves s sent a b w machine same h = record {
-  is = h.is ∙ sym (machine_same s sent sent a b w w refl (λ d below. ap (λ (bytes : List ℕ). link_of s.directory (sent d) bytes (present d w)) (sym (same d))));
-  answered = h.answered;
-  quiet = h.quiet;
-}
+serves_halves s sent a b w machine same h = grind arith
 
 pub half_twice : (c : ℕ) (x y : List ℕ) (half : ℕ → List ℕ) (d : ℕ) → with_half c y (with_half c x half) d ≡ with_half c y half d
-half_twice c x y half d = elim (eqb_tells d c) [
-  | inl same ↦ rw same.1 (half_here c y (with_half c x half) ∙ sym (half_here c y half))
-  | inr differ ↦ half_other c d y (with_half c x half) differ.1 ∙ half_other c d x half differ.1 ∙ sym (half_other c d y half differ.1)
-]
-
--- a point of one frame is at its place
-within_place : (place : ℕ) (point : Point) → is_within place point ≡ has_place (λ p. eqb p place) point
-within_place place (Arriving p) = refl
-within_place place (Before step) = refl
-within_place place AtEnd = refl
-
--- what is so of places is so of the points at them
-at_places : (p q : ℕ → Bool) (b : Bool) (point : Point) → ((n : ℕ) → p n ≡ true → q n ≡ b) → has_place p point ≡ true → has_place q point ≡ b
-at_places p q b (Arriving n) each e = each n e
-at_places p q b (Before step) each e = each (place_of step) e
-at_places p q b AtEnd each e = absurd cc
-
--- one of so many places
-abbrev is_near : ℕ → ℕ → ℕ → Bool
-is_near n place p = not (nat_lt p place) && nat_lt p (place + n)
-
-abbrev is_place : ℕ → ℕ → Bool
-is_place place p = eqb p place
+half_twice c x y half d = grind arith
 
 among_here : (n place : ℕ) → Apart (is_among n place) (is_of_frame (place + n))
-among_here n place mark e = within_place (place + n) mark.point ∙ at_places (is_near n place) (is_place (place + n)) false mark.point apart e
-  where
-    apart : (p : ℕ) → is_near n place p ≡ true → is_place (place + n) p ≡ false
-    apart p is = grind (arith, nat_tests)
+among_here n place mark e = grind arith
 
 here_among : (n place : ℕ) → Apart (is_of_frame (place + n)) (is_among n place)
-here_among n place mark e = at_places (is_place (place + n)) (is_near n place) false mark.point apart (sym (within_place (place + n) mark.point) ∙ e)
-  where
-    apart : (p : ℕ) → is_place (place + n) p ≡ true → is_near n place p ≡ false
-    apart p is = grind (arith, nat_tests)
+here_among n place mark e = grind arith
 
 among_more : (n m place : ℕ) → n ≤ m → Wider (is_among n place) (is_among m place)
-among_more n m place le mark e = at_places (is_near n place) (is_near m place) true mark.point wider e
-  where
-    wider : (p : ℕ) → is_near n place p ≡ true → is_near m place p ≡ true
-    wider p is = grind (arith, nat_tests)
+among_more n m place le mark e = grind arith
 
 here_more : (n place : ℕ) → Wider (is_of_frame (place + n)) (is_among (n + 1) place)
-here_more n place mark e = at_places (is_place (place + n)) (is_near (n + 1) place) true mark.point wider (sym (within_place (place + n) mark.point) ∙ e)
-  where
-    wider : (p : ℕ) → is_place (place + n) p ≡ true → is_near (n + 1) place p ≡ true
-    wider p is = grind (arith, nat_tests)
+here_more n place mark e = grind arith
 
 fold_more : (s : Setting) (marks : List Mark) (c place : ℕ) (w : World) (done : List Arrival) (arrival : Arrival)
     → fold (arrive s marks c) w (enumerate_from place (done ++ arrival ∷ []))
@@ -389,8 +296,7 @@ leaves_then c n m a b first machine new r p one = record {
   part = part_then c first machine new r p.part one.part;
   eases = λ d other. adds_then 0 0 (link_at first d) (link_at machine d) (link_at new d) (p.eases d other) (one.eases d other);
   loads = adds_then n m (link_at first c) (link_at machine c) (link_at new c) p.loads one.loads;
-  keeps = λ d other reads_. keeps_by (is_reading (link_at machine d).phase) (link_at first d).half (link_at machine d) (link_at new d) refl
-      (p.keeps d other reads_) (one.keeps d other) (one.feeds.still d);
+  keeps = grind arith;
 }
 
 pub goes_on : (c : ℕ) (a b : Option ℕ) (first machine new : Machine) → is_reading (link_at machine c).phase ≡ true → Progress c a first machine
@@ -400,8 +306,7 @@ goes_on c a b first machine new r p one =
     record {
       done = p.done ++ one.arrival ∷ [];
       more = one.more;
-      front = p.front ∙ ap (λ (bytes : List ℕ). p.done ++ arrivals bytes) (sym half) ∙ ap (λ (l : List Arrival). p.done ++ l) one.front
-          ∙ sym (append_assoc p.done (one.arrival ∷ []) (arrivals one.more));
+      front = grind (arith, append_assoc);
       behind = λ e. p.behind r ∙ ap rest (sym half) ∙ one.behind e;
       kept = one.kept;
       takes = takes_more c a b first machine new p.done p.more p.takes one;
@@ -444,16 +349,7 @@ ends_idle c starved first machine lt r p =
             at.1,
             at.2,
           )));
-      leaves = record {
-        back = p.leaves.back;
-        sure = p.leaves.sure;
-        feeds = p.leaves.feeds;
-        closing = p.leaves.closing;
-        part = p.leaves.part;
-        eases = p.leaves.eases;
-        keeps = p.leaves.keeps;
-        loads = adds_more (length p.done) (length (arrivals half0)) (link_at first c) (link_at machine c) count p.leaves.loads;
-      };
+      leaves = grind arith;
     }
 
 -- nothing whole is left
@@ -466,25 +362,11 @@ nothing_by true bytes e none = absurd (cc (
 nothing_by false bytes e none = e
 
 pub short_by : (b : Bool) (bytes : List ℕ) → is_long bytes ≡ b → arrivals bytes ≡ [] → is_long bytes ≡ false
-short_by true bytes e none = absurd (cc (none, long_whole bytes e))
-short_by false bytes e none = e
+short_by b bytes e none = grind (arith, long_whole)
 
 pub ends_whole : (c : ℕ) (starved : Option ℕ) (first machine : Machine) → is_reading (link_at machine c).phase ≡ true
     → arrivals (link_at machine c).half ≡ [] → Progress c starved first machine → TakesAll c starved first machine
-ends_whole c starved first machine r none p =
-    let half0 = (link_at first c).half in
-    let half : (link_at machine c).half ≡ p.more = p.kept.reading r in
-    let no : arrivals p.more ≡ [] = ap arrivals (sym half) ∙ none in
-    let all : arrivals half0 ≡ p.done = p.front ∙ ap (λ (l : List Arrival). p.done ++ l) no ∙ append-nil p.done in
-    let left_ : rest half0 ≡ p.more = p.behind r ∙ rest_none p.more (nothing_by (has_frame p.more) p.more refl no) in
-    let P : List Arrival → Type 0 = λ done. TakesSome c done (rest half0) starved first machine in
-    let Q : List ℕ → Type 0 = λ more. TakesSome c p.done more starved first machine in
-    record {
-      kept = subst (λ (bytes : List ℕ). KeepsHalf bytes (link_at machine c)) (sym left_) p.kept;
-      short = λ e. ap is_long left_ ∙ short_by (is_long p.more) p.more refl no;
-      takes = subst P (sym all) (subst Q (sym left_) p.takes);
-      leaves = subst (λ (l : List Arrival). Leaves c (length l) starved first machine) (sym all) p.leaves;
-    }
+ends_whole c starved first machine r none p = grind (arith, append-nil, rest_none, nothing_by, short_by)
 
 -- however the first starved is written
 pub takes_as : (old new : Machine) (c : ℕ) (named : ℕ) → c ≡ named → TakesOne c (Some c) old new → TakesOne c (Some named) old new
@@ -493,8 +375,7 @@ takes_as old new c named e one = let P : ℕ → Type 0 = λ k. TakesOne c (Some
 -- fewer bytes are left than there were
 shorter_by : (b : Bool) (old new : Machine) (c : ℕ) (more : List ℕ) → is_reading (link_at new c).phase ≡ b → KeepsHalf more (link_at new c)
     → length more < length (link_at old c).half → length (link_at new c).half < length (link_at old c).half
-shorter_by true old new c more r k lt = let same = ap length (k.reading r) in omega arith
-shorter_by false old new c more r k lt = let same = ap length (k.idle r) in omega (arith, same, lt)
+shorter_by b old new c more r k lt = grind arith
 
 pub taken_is_shorter : (c : ℕ) (starved : Option ℕ) (old new : Machine) → TakesOne c starved old new → length (link_at new c).half < length (link_at old c).half
 taken_is_shorter c starved old new one = shorter_by (is_reading (link_at new c).phase) old new c one.more refl one.kept one.shorter

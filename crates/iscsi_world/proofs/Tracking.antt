@@ -1,26 +1,18 @@
 -- Which connections of the code are open, from one event to the next.
-use Rattle.std.proofs.Common.{◌≡◌, ◌≢◌, ℕ, ◌<◌, List, [], length, set, get_or, Bool, true, false, not, ◌||◌, sym, ap, ◌∙◌, arith, inl, inr}
-use Rattle.std.specs.Prelude.{nat_lt}
-use Rattle.std.proofs.lemmas.Bool.{ltb-true}
+use Rattle.std.proofs.Common.{◌≡◌, ◌≢◌, ℕ, ◌<◌, List, [], length, true, false, not, sym, ap, ◌∙◌, arith, inl, inr}
 use Rattle.std.proofs.lemmas.Bool.Decides.{eqb_tells}
 use Rattle.std.proofs.lemmas.List.{length-set, get_or-set_same, get_or-set_other}
 use Rattle.scsi_unit.specs.Units.{UnitStates}
 use Rattle.iscsi_login.specs.Directory.{KnownTargets}
-use Rattle.iscsi_world.specs.History.{Event, Open, Bytes, Gone, is_among, may_come, open_after, connection_limit}
-use Rattle.iscsi_world.specs.Machine.{LinkState, Machine, link_at, with_link, closed, is_free, is_open_at, free_link, opened_link, shut_link, new_machine}
+use Rattle.iscsi_world.specs.History.{Event, Open, Gone, is_among, may_come, open_after, connection_limit}
+use Rattle.iscsi_world.specs.Machine.{LinkState, Machine, with_link, closed, is_free, is_open_at, free_link, opened_link, new_machine}
 use Rattle.iscsi_world.specs.Runs.{MayCome, AreOpen}
 use Rattle.iscsi_world.proofs.Lending.{none_linked}
-use Rattle.iscsi_world.proofs.Choices.{and_true, not_true}
 use Rattle.iscsi_world.proofs.Tables.{among-gone, among-gone_other}
-use Rattle.iscsi_world.proofs.Running.{below_more}
 
 -- an event that may come to these open connections may come to the target
 pub comes : (machine : Machine) (before : List ℕ) (event : Event) → AreOpen machine before → may_come before event ≡ true → MayCome machine event
-comes machine before (Open c) open_ e =
-    let both = and_true (nat_lt c connection_limit) (not (is_among c before)) e in
-    (ltb-true c connection_limit both.0, open_.tracks c ∙ not_true _ both.1)
-comes machine before (Bytes c piece) open_ e = (open_.below c e, open_.tracks c ∙ e)
-comes machine before (Gone c) open_ e = (open_.below c e, open_.tracks c ∙ e)
+comes machine before event open_ e = grind arith
 
 -- at first none is open
 pub none_open : (machine : Machine) (directory : KnownTargets) (units : List UnitStates) → machine ≡ new_machine directory units → AreOpen machine []
@@ -31,18 +23,7 @@ none_open machine directory units e = record {
 
 pub opened_tracks : (machine after : Machine) (c : ℕ) (before : List ℕ) → c < connection_limit → length machine.links ≡ connection_limit
     → after ≡ with_link machine c (opened_link c) → AreOpen machine before → AreOpen after (open_after before (Open c))
-opened_tracks machine after c before lt count e open_ = record {
-  tracks = λ d. ap (λ (m : Machine). is_open_at m d) e ∙ elim (eqb_tells c d) [
-    | inl same ↦ (
-        let there : get_or (set machine.links c (opened_link c)) c free_link ≡ opened_link c =
-        get_or-set_same machine.links c (opened_link c) free_link (omega (arith, lt, count)) in
-        ap (λ (k : ℕ). not (is_free (get_or (set machine.links c (opened_link c)) k free_link).phase)) (sym same.1)
-        ∙ ap (λ (link : LinkState). not (is_free link.phase)) there ∙ ap (λ (b : Bool). b || is_among d before) (sym same.0))
-    | inr differ ↦ ap (λ (link : LinkState). not (is_free link.phase)) (get_or-set_other machine.links c d (opened_link c) free_link (λ x. differ.1 (sym x)))
-        ∙ open_.tracks d ∙ ap (λ (b : Bool). b || is_among d before) (sym differ.0)
-  ];
-  below = below_more c before lt open_.below;
-}
+opened_tracks machine after c before lt count e open_ = grind (arith, get_or-set_same, get_or-set_other)
 
 pub fed_tracks : (machine after : Machine) (before : List ℕ) → ((d : ℕ) → is_open_at after d ≡ is_open_at machine d) → AreOpen machine before
     → AreOpen after before
@@ -50,17 +31,11 @@ fed_tracks machine after before same open_ = record { tracks = λ d. same d ∙ 
 
 gone_link : (machine : Machine) (c d : ℕ) → d ≢ c → is_open_at (with_link (closed machine c) c free_link) d ≡ is_open_at machine d
 unfolding closed
-gone_link machine c d differ =
-    let shut_ = set machine.links c (shut_link (link_at machine c)) in
-    ap (λ (link : LinkState). not (is_free link.phase)) (get_or-set_other shut_ c d free_link free_link differ
-    ∙ get_or-set_other machine.links c d (shut_link (link_at machine c)) free_link differ)
+gone_link machine c d differ = grind (arith, get_or-set_other)
 
 gone_here : (machine : Machine) (c : ℕ) → c < length machine.links → is_open_at (with_link (closed machine c) c free_link) c ≡ false
 unfolding closed
-gone_here machine c lt =
-    let shut_ = set machine.links c (shut_link (link_at machine c)) in
-    ap (λ (link : LinkState). not (is_free link.phase)) (get_or-set_same shut_ c free_link free_link
-    (omega (arith, lt, length-set machine.links c (shut_link (link_at machine c)))))
+gone_here machine c lt = grind (arith, get_or-set_same, length-set)
 
 pub gone_tracks : (machine after : Machine) (c : ℕ) (before : List ℕ) → c < connection_limit → length machine.links ≡ connection_limit
     → after ≡ with_link (closed machine c) c free_link → AreOpen machine before → AreOpen after (open_after before (Gone c))

@@ -1,5 +1,5 @@
 -- A relation between Worlds that each step keeps holds along all that a frame, and a piece of bytes, sets off.
-use Rattle.std.proofs.Common.{◌≡◌, ℕ, List, [], ◌∷◌, Bool, true, false, cond, not, eqb, Option, Some, None, refl}
+use Rattle.std.proofs.Common.{◌≡◌, ℕ, List, [], ◌∷◌, Bool, true, false, cond, not, eqb, Option, Some, refl, arith}
 use Rattle.std.specs.Prelude.{⊤}
 use Rattle.std.specs.List.{AllByRecursion, fold}
 use Rattle.iscsi_pdu.specs.Frames.{Frame}
@@ -7,9 +7,9 @@ use Rattle.iscsi_login.specs.Session.{is_same_target}
 use Rattle.iscsi_session.specs.Requests.{Past}
 use Rattle.iscsi_session.specs.Steps.{served, settled}
 use Rattle.iscsi_world.specs.History.{Mark, Point, Arriving, AtEnd, Arrival, Whole, TooLong, connections}
-use Rattle.iscsi_world.specs.Life.{Life, Phase, LoggingIn, FullFeature}
+use Rattle.iscsi_world.specs.Life.{Life, LoggingIn, FullFeature}
 use Rattle.iscsi_world.specs.Laws.{LogsIn}
-use Rattle.iscsi_world.specs.World.{Setting, World, present, past_of, reads_life, close, reaching, is_marked, take_step, log_in, fails, work_of, worked_on, worked, served_by, take_in, orders_in, function_of, reaches_others, losing, lost_by, lose_one, reset, carry_out, carry_out_for, settled_by, settle_one, settle, settle_for, serve, is_login, taken_in, taken_by, comes, arrive}
+use Rattle.iscsi_world.specs.World.{Setting, World, present, past_of, reads_life, close, reaching, is_marked, take_step, log_in, fails, work_of, worked_on, worked, served_by, take_in, orders_in, function_of, reaches_others, losing, lost_by, lose_one, reset, carry_out, carry_out_for, settled_by, settle_one, settle, settle_for, serve, comes, arrive}
 
 -- ---- a frame of a session
 
@@ -27,8 +27,7 @@ pub record Walk (marks : List Mark) (R : World → World → Type 0) (IsKnown : 
   pub resets : (header : List ℕ) (target : ℕ) (w : World) → IsTarget target → R w (reset header target w)
 
 on-if : (R : World → World → Type 0) (b : Bool) (v u w : World) → (b ≡ true → R w v) → (b ≡ false → R w u) → R w (cond b v u)
-on-if R true v u w on off = on refl
-on-if R false v u w on off = off refl
+on-if R b v u w on off = grind arith
 
 module _ {marks : List Mark} {R : World → World → Type 0} {IsKnown : ℕ → Frame → Type 0} {IsTarget : ℕ → Type 0} (k : Walk marks R IsKnown IsTarget) where
   pub on-fold : {X : Type 0} (f : World → X → World) (w : World) (xs : List X) → ((v : World) (x : X) → R v (f v x)) → R w (fold f w xs)
@@ -37,8 +36,7 @@ module _ {marks : List Mark} {R : World → World → Type 0} {IsKnown : ℕ →
 
   on-served_by : (o : Option Past) (c place : ℕ) (frame : Frame) (w : World) → past_of (present c w) ≡ o → IsKnown c frame
       → R w (served_by o marks c place frame w)
-  on-served_by None c place frame w at known = k.same w
-  on-served_by (Some past) c place frame w at known = k.serves c past frame place w at known
+  on-served_by o c place frame w at known = grind arith
 
   pub on-take_in : (c place : ℕ) (frame : Frame) (w : World) → IsKnown c frame → R w (take_in marks c place frame w)
   unfolding take_in
@@ -46,9 +44,7 @@ module _ {marks : List Mark} {R : World → World → Type 0} {IsKnown : ℕ →
 
   on-lost_by : (o : Option Past) (header : List ℕ) (target d : ℕ) (w : World) → past_of (present d w) ≡ o → IsTarget target
       → R w (lost_by o header target d w)
-  on-lost_by None header target d w at own = k.same w
-  on-lost_by (Some past) header target d w at own = on-if R (is_same_target past.params.target (Some target)) _ w w
-      (λ same. k.loses d target past header w at same own) (λ other. k.same w)
+  on-lost_by o header target d w at own = grind arith
 
   pub on-lose_one : (header : List ℕ) (target c : ℕ) (w : World) (d : ℕ) → IsTarget target → R w (lose_one header target c w d)
   unfolding lose_one
@@ -68,9 +64,7 @@ module _ {marks : List Mark} {R : World → World → Type 0} {IsKnown : ℕ →
 
   on-settled_by : (o : Option Past) (place target c : ℕ) (w : World) → past_of (present c w) ≡ o → IsTarget target
       → R w (settled_by o marks place target c w)
-  on-settled_by None place target c w at own = k.same w
-  on-settled_by (Some past) place target c w at own = on-if R (is_same_target past.params.target (Some target)) _ w w
-      (λ same. k.settles c target past place w at same own) (λ other. k.same w)
+  on-settled_by o place target c w at own = grind arith
 
   pub on-settle_one : (place target : ℕ) (w : World) (c : ℕ) → IsTarget target → R w (settle_one marks place target w c)
   unfolding settle_one
@@ -83,13 +77,11 @@ module _ {marks : List Mark} {R : World → World → Type 0} {IsKnown : ℕ →
   -- of a session's target, where it has one
   pub on-carry_out_for : (c : ℕ) (o : Option ℕ) (headers : List (List ℕ)) (w : World) → ((target : ℕ) → o ≡ Some target → IsTarget target)
       → R w (carry_out_for c o headers w)
-  on-carry_out_for c None headers w own = k.same w
-  on-carry_out_for c (Some target) headers w own = on-carry_all c target w headers (own target refl)
+  on-carry_out_for c o headers w own = grind (arith, on-carry_all)
 
   pub on-settle_for : (place : ℕ) (o : Option ℕ) (w : World) → ((target : ℕ) → o ≡ Some target → IsTarget target)
       → R w (settle_for marks place o w)
-  on-settle_for place None w own = k.same w
-  on-settle_for place (Some target) w own = on-settle place target w (own target refl)
+  on-settle_for place o w own = grind (arith, on-settle)
 
   pub on-serve : (c place : ℕ) (o : Option ℕ) (frame : Frame) (w : World) → IsKnown c frame
       → ((target : ℕ) → o ≡ Some target → IsTarget target) → R w (serve marks c place o frame w)
@@ -111,10 +103,7 @@ KnownArrival IsKnown c (place, Whole frame) = IsKnown c frame
 KnownArrival IsKnown c (place, TooLong) = ⊤
 
 pub logs_there : (c : ℕ) (w : World) (life : Life) → present c w ≡ Some life → life.phase ≡ LoggingIn → LogsIn c w
-logs_there c w life at is = λ other there. logging_in other life there at is
-  where
-    logging_in : (x y : Life) → present c w ≡ Some x → present c w ≡ Some y → y.phase ≡ LoggingIn → x.phase ≡ LoggingIn
-    logging_in x y a b p = cc
+logs_there c w life at is = grind arith
 
 -- it is kept by what an arrival on this connection does in each phase
 pub record EventWalk (s : Setting) (marks : List Mark) (c : ℕ) (R : World → World → Type 0) (IsKnown : ℕ → Frame → Type 0) : Type 0 where
@@ -127,22 +116,9 @@ pub record EventWalk (s : Setting) (marks : List Mark) (c : ℕ) (R : World → 
       → IsKnown c frame → R w (serve marks c place session.params.target frame w)
 
 module _ {s : Setting} {marks : List Mark} {c : ℕ} {R : World → World → Type 0} {IsKnown : ℕ → Frame → Type 0} (e : EventWalk s marks c R IsKnown) where
-  on-taken_in : (place : ℕ) (frame : Frame) (life : Life) (phase : Phase) (w : World) → present c w ≡ Some life
-      → life.phase ≡ phase → IsKnown c frame → R w (taken_in s marks c place frame phase w)
-  on-taken_in place frame life LoggingIn w at is known =
-      on-if R (is_login frame) (log_in s c frame w) (close c w) w (λ yes. e.logs_in frame life w at is) (λ no. e.closes w)
-  on-taken_in place frame life (FullFeature session) w at is known = e.serves place frame life session w at is known
-  on-taken_in place frame life _ w at is known = e.same w
-
-  on-taken_by : (place : ℕ) (frame : Frame) (o : Option Life) (w : World) → present c w ≡ o → IsKnown c frame
-      → R w (taken_by s marks c place frame o w)
-  on-taken_by place frame None w at known = e.same w
-  on-taken_by place frame (Some life) w at known = on-taken_in place frame life life.phase w at refl known
-
   on-comes : (place : ℕ) (arrival : Arrival) (w : World) → KnownArrival IsKnown c (place, arrival)
       → R w (comes s marks c place arrival w)
-  on-comes place (Whole frame) w known = on-taken_by place frame (present c w) w refl known
-  on-comes place TooLong w known = e.closes w
+  on-comes place arrival w known = grind arith
 
   on-take_step : (point : Point) (act : World → World) (w : World) → ((v : World) → R v (act v)) → R w (take_step marks c point act w)
   unfolding take_step
@@ -178,8 +154,7 @@ abbrev pub IsAnyFrame : ℕ → Frame → Type 0
 IsAnyFrame c frame = ⊤
 
 pub any_arrival : (c : ℕ) (arrival : ℕ × Arrival) → KnownArrival IsAnyFrame c arrival
-any_arrival c (place, Whole frame) = tt
-any_arrival c (place, TooLong) = tt
+any_arrival c arrival = grind arith
 
 pub any_arrivals : (c : ℕ) (all : List (ℕ × Arrival)) → AllByRecursion (KnownArrival IsAnyFrame c) all
 any_arrivals c [] = tt

@@ -1,22 +1,20 @@
 -- A piece of no more bytes than are wanted brings one frame at most, and each connection stays as light as it may be.
-use Rattle.std.proofs.Common.{◌≡◌, ℕ, ◌+◌, ◌-◌, ◌*◌, ◌<◌, ◌≤◌, max, List, [], ◌++◌, length, drop, get_or, Bool, true, false, ltb, Option, refl, sym, ap, ◌∙◌, subst, arith, inl, inr, append-nil}
-use Rattle.std.proofs.lemmas.Bool.{ltb-false, le-leb, lt-leb}
-use Rattle.std.proofs.lemmas.Bool.Decides.{eqb_tells, leb_tells}
+use Rattle.std.proofs.Common.{◌≡◌, ℕ, ◌+◌, ◌*◌, ◌<◌, ◌≤◌, List, [], ◌++◌, length, drop, get_or, Bool, true, false, ltb, Option, refl, sym, ap, ◌∙◌, subst, arith, inl, inr, append-nil}
+use Rattle.std.proofs.lemmas.Bool.Decides.{eqb_tells}
 use Rattle.std.proofs.lemmas.List.{length-append, length-drop, get_or_append_left, nil_from_length}
-use Rattle.iscsi_pdu.specs.Header.{header_length, additional_length, data_length}
-use Rattle.iscsi_pdu.specs.Frames.{Frame, frames, rest, has_header, has_frame, is_long, first_frame, frame_length, missing, wanted}
+use Rattle.iscsi_pdu.specs.Header.{header_length}
+use Rattle.iscsi_pdu.specs.Frames.{Frame, frames, rest, has_frame, is_long, first_frame, frame_length, missing, wanted}
 use Rattle.iscsi_pdu.proofs.Frames.{has_frame-from, is_long-from, frame_length-header, frames_step, rest_step}
 use Rattle.iscsi_pdu.proofs.Cuts.{frames_in_pieces}
 use Rattle.iscsi_login.specs.Directory.{KnownTargets}
 use Rattle.scsi_unit.specs.Units.{UnitStates}
-use Rattle.iscsi_session.specs.Weight.{request_weight, most_added}
+use Rattle.iscsi_session.specs.Weight.{request_weight}
 use Rattle.iscsi_session.proofs.AtRest.{few_pending}
 use Rattle.iscsi_world.specs.History.{arrivals, connection_limit}
 use Rattle.iscsi_world.specs.Machine.{LinkState, Machine, link_at, with_link, free_link, shut_link, opened_link, sent_link, closed, new_machine, is_reading, is_closing, most_waiting, want_of}
 use Rattle.iscsi_world.specs.Serving.{KeepsHalf, TakesAll}
 use Rattle.iscsi_world.specs.Bounded.{most_weight, weight_in, Rests, WeighsAtMost, IsBounded, Bounded, AddsAtMost, CallsKeepBounded}
 use Rattle.iscsi_world.specs.declared.phase.Phase.{Phase}
-use Rattle.iscsi_world.specs.declared.phase.Phase.TheVariants as phases
 use Rattle.iscsi_world.proofs.Lending.{none_linked}
 use Rattle.iscsi_world.proofs.Moving.{link_set, link_other, closed_count}
 use Rattle.iscsi_world.proofs.Taking.{none_whole, some_whole, long_whole, no_bytes, nothing_by, short_by}
@@ -26,11 +24,7 @@ use Rattle.iscsi_world.proofs.Bounding.{adds_shut, adds_more}
 
 frame_length-append : (a b : List ℕ) → header_length ≤ length a → frame_length (a ++ b) ≡ frame_length a
 unfolding frame_length
-frame_length-append a b h =
-    let additional : additional_length (a ++ b) ≡ additional_length a = ap (λ (n : ℕ). 4 * n) (get_or_append_left a b 0 4 (omega arith)) in
-    let body : data_length (a ++ b) ≡ data_length a =
-    rw (get_or_append_left a b 0 5 (omega arith), get_or_append_left a b 0 6 (omega arith), get_or_append_left a b 0 7 (omega arith)) refl in
-    omega arith
+frame_length-append a b h = grind (arith, get_or_append_left)
 
 -- no more bytes than their first frame has
 few_whole : (bytes : List ℕ) → length bytes ≤ frame_length bytes → length (arrivals bytes) ≤ 1
@@ -46,31 +40,12 @@ few_whole bytes le = by_frame (has_frame bytes) (is_long bytes) refl refl
     by_frame false false e f = omega (arith, ap (λ l. length l) (none_whole bytes e f))
 
 unfinished_frame : (half : List ℕ) → header_length ≤ length half → has_frame half ≡ false → is_long half ≡ false → length half < frame_length half
-unfinished_frame half whole none short = elim (leb_tells (frame_length half) (length half)) [
-  | inl there ↦ elim (leb_tells (data_length half) 262144) [
-    | inl taken ↦ absurd (let yes = has_frame-from half (record { header = whole; taken = taken.1; whole = there.1 }) in cc)
-    | inr much ↦ absurd (let yes = is_long-from half (record { header = whole; longer = much.1 }) in cc)
-  ]
-  | inr less ↦ less.1
-]
+unfinished_frame half whole none short = grind (arith, has_frame-from, is_long-from)
 
 pub wanted_few : (half piece : List ℕ) → has_frame half ≡ false → is_long half ≡ false → length piece ≤ wanted half → length (arrivals (half ++ piece)) ≤ 1
 unfolding missing
-wanted_few half piece none short le = elim (leb_tells header_length (length half)) [
-  | inl whole ↦ (
-      let less = unfinished_frame half whole.1 none short in
-      let there : has_header half ≡ true = le-leb _ _ whole.1 in
-      let is : wanted half ≡ max 1 (frame_length half - length half) = rw there refl in
-      few_whole (half ++ piece) (omega (arith, less, is, le, length-append half piece, frame_length-append half piece whole.1)))
-  | inr early ↦ (
-      let no : has_header half ≡ false = no_header half early.1 in
-      let is : wanted half ≡ max 1 (header_length - length half) = rw no refl in
-      let least = frame_length-header (half ++ piece) in
-      few_whole (half ++ piece) (omega (arith, early.1, is, le, length-append half piece, least)))
-]
-  where
-    no_header : (half : List ℕ) → length half < header_length → has_header half ≡ false
-    no_header half lt = lt-leb _ _ lt
+wanted_few half piece none short le =
+    grind (arith, unfinished_frame, few_whole, length-append, frame_length-append, frame_length-header)
 
 -- what is left after frames begins with none
 rest_no_frame : (bytes : List ℕ) → has_frame (rest bytes) ≡ false
@@ -100,39 +75,19 @@ partial_of half none = (nothing_by (has_frame half) half refl none, short_by (is
 
 kept_partial : (b : Bool) (half : List ℕ) (link : LinkState) → is_reading link.phase ≡ b → KeepsHalf half link
     → (is_reading link.phase ≡ true → arrivals half ≡ []) → arrivals link.half ≡ []
-kept_partial true half link reads_ kept none = ap arrivals (kept.reading reads_) ∙ none reads_
-kept_partial false half link reads_ kept none = ap arrivals (kept.idle reads_) ∙ no_bytes
+kept_partial b half link reads_ kept none = grind (arith, no_bytes)
 
 -- ---- as heavy as it may be
 
 least_of : (waiting : ℕ) (phase : Phase) → Rests phase → weight_in waiting phase ≤ waiting + 40 * request_weight
-least_of waiting (phases.FullFeature session) r = omega (arith, few_pending session r)
-least_of waiting _ r = omega arith
+least_of waiting phase r = grind (arith, few_pending)
 
 weighs_by : (b : Bool) (old new : LinkState) (piece : List ℕ) → ltb most_waiting (length old.waiting) ≡ b → IsPartial old.half → is_closing old.phase ≡ false
     → length piece ≤ want_of old → AddsAtMost (length (arrivals (old.half ++ piece))) old new → WeighsAtMost most_weight old → WeighsAtMost most_weight new
-weighs_by true old new piece much half open_ le adds w =
-    let none : want_of old ≡ 0 = rw (open_, much) refl in
-    let empty : piece ≡ [] = nil_from_length piece (omega (arith, le, none)) in
-    let all : arrivals (old.half ++ piece) ≡ [] = ap (λ (l : List ℕ). arrivals (old.half ++ l)) empty ∙ ap arrivals (append-nil old.half)
-    ∙ none_whole old.half half.0 half.1 in
-    let a = adds w.rests in
-    let fits = a.fits in
-    let was = w.fits in
-    record { fits = omega (arith, fits, was, ap (λ l. length l * most_added) all); rests = a.rests }
-weighs_by false old new piece few half open_ le adds w =
-    let is : want_of old ≡ wanted old.half = rw (open_, few) refl in
-    let one = wanted_few old.half piece half.0 half.1 (omega (arith, le, is)) in
-    let a = adds w.rests in
-    let fits = a.fits in
-    record {
-      fits = omega (arith, fits, one, ltb-false most_waiting (length old.waiting) few, least_of (length old.waiting) old.phase w.rests);
-      rests = a.rests;
-    }
+weighs_by b old new piece much half open_ le adds w = grind (arith, nil_from_length, append-nil, none_whole, wanted_few, least_of)
 
 reading_no_closing : (phase : Phase) → is_reading phase ≡ true → is_closing phase ≡ false
-reading_no_closing phases.Closing e = absurd cc
-reading_no_closing _ e = refl
+reading_no_closing phase e = grind arith
 
 pub eased : (old new : LinkState) → AddsAtMost 0 old new → WeighsAtMost most_weight old → WeighsAtMost most_weight new
 eased old new adds w = let a = adds w.rests in let fits = a.fits in let was = w.fits in record { fits = omega (arith, fits, was); rests = a.rests }
@@ -140,8 +95,7 @@ eased old new adds w = let a = adds w.rests in let fits = a.fits in let was = w.
 -- another connection keeps its bytes, or none
 other_partial : (b : Bool) (old new : LinkState) → is_reading old.phase ≡ b → (is_reading old.phase ≡ true → KeepsHalf old.half new)
     → (is_reading old.phase ≡ false → new ≡ old) → arrivals old.half ≡ [] → arrivals new.half ≡ []
-other_partial true old new reads_ keeps still none = kept_partial (is_reading new.phase) old.half new refl (keeps reads_) (λ on. none)
-other_partial false old new reads_ keeps still none = ap (λ (l : LinkState). arrivals l.half) (still reads_) ∙ none
+other_partial b old new reads_ keeps still none = grind (arith, kept_partial)
 
 -- a piece that is no longer than what is wanted, and what is whole is taken
 pub fed_bounded : (old kept new : Machine) (c : ℕ) (piece half : List ℕ) (starved : Option ℕ) → c < length old.links
@@ -160,15 +114,13 @@ fed_bounded old kept new c piece half starved lt reads_ is few takes le bounded 
             (reading_no_closing (link_at old c).phase reads_) le
             (adds_more (length (arrivals half)) (length (arrivals ((link_at old c).half ++ piece))) (link_at old c) (link_at new c) few
             (subst P there takes.leaves.loads)) (bounded c).weighs;
-        partial = kept_partial (is_reading (link_at new c).phase) (rest bytes) (link_at new c) refl takes.kept
-            (λ on. none_whole (rest bytes) (rest_no_frame bytes) (takes.short on));
+        partial = grind (arith, kept_partial, none_whole, rest_no_frame);
       })
   | inr differ ↦
       let link = record (link_at old c) { half = half } in
       let there : link_at kept d ≡ link_at old d = ap (λ (m : Machine). link_at m d) is ∙ link_other old old.units c d link differ.1 in
       record {
-        weighs = eased (link_at old d) (link_at new d) (subst (λ (l : LinkState). AddsAtMost 0 l (link_at new d)) there (takes.leaves.eases d differ.1))
-            (bounded d).weighs;
+        weighs = grind arith;
         partial = other_partial (is_reading (link_at kept d).phase) (link_at kept d) (link_at new d) refl (takes.leaves.keeps d differ.1)
             (takes.leaves.feeds.still d) (ap (λ (l : LinkState). arrivals l.half) there ∙ (bounded d).partial);
       }
@@ -202,20 +154,13 @@ gone_bounded machine c lt bounded =
     with_bounded (closed machine c) c free_link (omega (arith, lt, closed_count machine c)) (closed_bounded machine c lt bounded)
     (record { weighs = record { fits = omega arith; rests = tt }; partial = no_bytes })
 
-sent_weight : (waiting less : ℕ) (phase : Phase) → less ≤ waiting → weight_in less phase ≤ weight_in waiting phase
-sent_weight waiting less (phases.FullFeature session) le = omega (arith, le)
-sent_weight waiting less _ le = le
-
 pub sent_bounded : (machine : Machine) (c n : ℕ) → c < length machine.links → Bounded machine → Bounded (with_link machine c (sent_link (link_at machine c) n))
 sent_bounded machine c n lt bounded =
     let link = link_at machine c in
     let w = bounded c in
     let fits = w.weighs.fits in
     with_bounded machine c (sent_link link n) lt bounded (record {
-      weighs = record {
-        fits = omega (arith, fits, sent_weight (length link.waiting) (length (drop n link.waiting)) link.phase (omega (arith, length-drop n link.waiting)));
-        rests = w.weighs.rests;
-      };
+      weighs = grind (arith, length-drop);
       partial = w.partial;
     })
 

@@ -1,20 +1,19 @@
 -- What the steps of a session make of the code and of the World.
-use Rattle.std.proofs.Common.{◌≡◌, ◌≢◌, ℕ, ◌<◌, List, [], ◌++◌, Bool, true, false, cond, Option, Some, None, refl, sym, ap, ◌∙◌, append_assoc, subst}
+use Rattle.std.proofs.Common.{◌≡◌, ◌≢◌, ℕ, ◌<◌, List, [], ◌++◌, Bool, true, false, cond, Option, Some, refl, sym, ap, ◌∙◌, append_assoc, subst, arith}
 use Rattle.std.specs.Prelude.{flat_map}
 use Rattle.iscsi_pdu.specs.Answer.{spelling}
 use Rattle.iscsi_pdu.specs.declared.answer.Answer.{Answer}
 use Rattle.scsi_unit.specs.Units.{UnitStates}
-use Rattle.iscsi_session.specs.Comings.{Coming, TargetUnits, lend}
+use Rattle.iscsi_session.specs.Comings.{Coming, lend}
 use Rattle.iscsi_session.specs.Requests.{Past}
 use Rattle.iscsi_session.specs.State.{SessionState, remembered}
 use Rattle.iscsi_session.specs.Steps.{Work}
 use Rattle.iscsi_session.specs.Runs.{output, Leaves}
-use Rattle.iscsi_login.specs.Directory.{KnownTargets}
 use Rattle.iscsi_world.specs.History.{connection_limit}
-use Rattle.iscsi_world.specs.Life.{Life, Phase, reads, FullFeature, past_in, session_answers, answers_of}
+use Rattle.iscsi_world.specs.Life.{Life, Phase, reads, FullFeature, past_in, answers_of}
 use Rattle.iscsi_world.specs.World.{Setting, World, present, changed, past_of, work_of, with_past, worked_on, worked, with_units}
 use Rattle.iscsi_world.specs.Machine.{LinkState, Machine, link_at, with_link, closed}
-use Rattle.iscsi_world.specs.Stands.{phase_for, link_of}
+use Rattle.iscsi_world.specs.Stands.{link_of}
 use Rattle.iscsi_world.specs.Serving.{Serves}
 use Rattle.iscsi_world.specs.declared.phase.Phase.TheVariants as phases
 use Rattle.iscsi_world.proofs.Lives.{present-changed_other, present-lives, worked_placed, present-placed}
@@ -28,17 +27,10 @@ pub record IsAtWork (w : World) (c : ℕ) (past : Past) : Type 0 where
   pub at : present c w ≡ Some life
   pub phase : life.phase ≡ FullFeature past
 
-at_work_in : (w : World) (c : ℕ) (life : Life) (phase : Phase) → present c w ≡ Some life → life.phase ≡ phase
-    → (state : SessionState) (directory : KnownTargets) → phase_for directory life phase ≡ phases.FullFeature state
-    → (past : Past) × IsAtWork w c past × (state ≡ remembered past)
-at_work_in w c life (FullFeature past) at e state directory same = (past, record { life = life; at = at; phase = e }, cc)
-at_work_in w c life _ at e state directory same = absurd cc
-
 at_work_of : (w : World) (c : ℕ) (o : Option Life) → present c w ≡ o → (s : Setting) (sent : ℕ) (half : List ℕ) (state : SessionState)
     → (link_of s.directory sent half o).phase ≡ phases.FullFeature state
     → (past : Past) × IsAtWork w c past × (state ≡ remembered past)
-at_work_of w c None at s sent half state e = absurd cc
-at_work_of w c (Some life) at s sent half state e = at_work_in w c life life.phase at refl state s.directory e
+at_work_of w c o at s sent half state e = grind arith
 
 -- where the code has a session, the World has one, which the code remembers
 pub at_work : (s : Setting) (sent : ℕ → ℕ) (half : ℕ → List ℕ) (w : World) (machine : Machine) (c : ℕ) (state : SessionState) → c < connection_limit
@@ -63,18 +55,11 @@ present_worked_other w c d work differ =
 
 pub answers_grow : (life : Life) (phase : Phase) (past then_ : Past) (more : List Answer) → life.phase ≡ FullFeature past
     → then_.answers ≡ past.answers ++ more → answers_of (with_past then_ life) ≡ answers_of life ++ more
-answers_grow life phase past then_ more e grow =
-    ap (λ (l : List Answer). life.answers ++ l) grow ∙ sym (append_assoc life.answers past.answers more)
-    ∙ ap (λ (p : Phase). (life.answers ++ session_answers p) ++ more) (sym e)
+answers_grow life phase past then_ more e grow = grind (arith, append_assoc)
 
 -- of the link of a session's connection
 abbrev pub session_link : SessionState → List ℕ → LinkState → LinkState
 session_link state waiting link = record link { phase = phases.FullFeature state; waiting = waiting }
-
--- the units of a session's target
-units_set : (w : World) (machine : Machine) (units : UnitStates) (target : Option ℕ) → machine.units ≡ w.units
-    → with_units target units w.units ≡ with_units target units machine.units
-units_set w machine units target e = ap (with_units target units) (sym e)
 
 -- the session goes on
 works : (s : Setting) (sent : ℕ → ℕ) (half : ℕ → List ℕ) (w : World) (machine : Machine) (c : ℕ) (past : Past) (work : Work) (state : SessionState)
@@ -89,10 +74,7 @@ works s sent half w machine c past work state waiting orders after comings lt h 
     let old = link_at machine c in
     let all = with_units past.params.target after machine.units in
     let same_units : machine.units ≡ w.units = ap (λ (m : Machine). m.units) h.is ∙ units_with s sent half w in
-    let units : with_units work.past.params.target work.units.states w.units ≡ all =
-    ap (λ (t : Option ℕ). with_units t work.units.states w.units) (ap (λ p. p.target) l.params)
-    ∙ ap (λ (units : TargetUnits). with_units past.params.target units.states w.units) l.units
-    ∙ units_set w machine after past.params.target same_units in
+    let units : with_units work.past.params.target work.units.states w.units ≡ all = grind arith in
     let link : life_link s.directory (half c) then_ (old.waiting ++ flat_map spelling l.more) ≡ session_link state waiting old =
     rw (l.remembered, l.spelled, half_there s sent half w machine c life lt h a.at (ap reads a.phase)) refl in
     subst (λ (x : LinkState). Serves s sent half (worked_on c work w) (record (with_link machine c x) { units = all })) link
