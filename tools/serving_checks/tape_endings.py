@@ -1,8 +1,9 @@
 """A tape in a file whose program ends in the middle of writing records: each record that was answered is there, and the
 next start has the tape. What stands after the position is cut first, and a record goes into the file by one call, so the
 file is torn only where the system ends that call in its middle: Linux does between two pages, for a signal that kills.
-By a signal alone it is seldom, and is counted and not refused; what is torn is cut here as targetd-mend-tape cuts it. By
-the orderly stop of targetd-stop, which waits until the program is inside no call, no file is torn."""
+How often a signal alone does so depends on the machine, so it is counted and not refused; what is torn is cut here as
+targetd-mend-tape cuts it. By the orderly stop of targetd-stop, which waits until the program is inside no call, no file
+is torn."""
 
 import os
 import random
