@@ -1,6 +1,6 @@
 //! The data that the initiator sends for the SCSI Commands of a session.
 
-ghost use Rattle.std.specs.Prelude.{◌≡◌, ◌++◌, ◌∷◌, ◌<◌, ◌^◌, List, [], None, length, remove, true, is_some, OnOk, OnErr};
+ghost use Rattle.std.specs.Prelude.{◌≡◌, ◌++◌, ◌∷◌, ◌<◌, ◌^◌, List, [], None, length, remove, slice_get, OnOk, OnErr};
 ghost use Rattle.std.specs.List.{list_any};
 ghost use Rattle.iscsi_login.specs.Values.{AreInRange};
 ghost use Rattle.iscsi_transfer.specs.Counted.{brought};
@@ -48,7 +48,7 @@ impl Transfer {
 fn take_at(list: &mut Vec<Transfer>, place: usize) -> Option<Transfer>
     requires { place < length list.old.items }
     ensures rest { list.new.items ≡ remove list.old.items place }
-    ensures there { is_some result ≡ true }
+    ensures taken { result ≡ slice_get list.old.items place }
 {
     if place + 1 == list.len() {
         return list.pop();

@@ -214,8 +214,8 @@ impl<S: Store> Unit<S> {
         }
     }
 
-    /// Returns the command that the bytes encode, or the first check that refuses it (own, after SPC-4). This attention is
-    /// pending for the nexus.
+    /// Returns the command that the bytes encode, or the first check that refuses it (own, after SPC-4). `attention` is the
+    /// first that is pending for the nexus.
     #[tactic(auto, unfolding(crate::specs::Checks::judged))]
     fn judge(
         &self,

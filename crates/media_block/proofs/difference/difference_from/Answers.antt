@@ -19,9 +19,11 @@ returns-in-Some-clause-least c =
     let lies = c.loop-done.invariant.lies c.loop-done-test.true in
     let from : 0 + done ≡ done = omega arith in
     let is : slice_range held done (done + part) ≡ slice_range held (0 + done) (0 + done + part) = rw from refl in
-    rw (slice-whole held) at (found-difference 0 (length held) done part c.in-Some.found (slice_range held done (done + part)) (take part c.loop-done.front.now) held c.args.«data».now
-    (omega arith) (omega (arith, c.requires.enough)) c.loop-done.invariant.same is
-    (front-slice done part c.loop-done.front.now c.loop-done.behind c.args.«data».now lies.0 (omega arith)) c.in-Some.ensures.least)
+    let bytes = take part c.loop-done.front.now in
+    let bytes_is = front-slice done part c.loop-done.front.now c.loop-done.behind c.args.«data».now lies.0 (omega arith) in
+    let found = found-difference 0 (length held) done part c.in-Some.found (slice_range held done (done + part)) bytes held c.args.«data».now
+    (omega arith) (omega (arith, c.requires.enough)) c.loop-done.invariant.same is bytes_is c.in-Some.ensures.least in
+    rw (slice-whole held) at found
 
 pub loop-done-smaller : goal.loop-done-smaller
 loop-done-smaller c =
