@@ -9,7 +9,8 @@ from contextlib import contextmanager
 from pathlib import Path
 from typing import Callable, NamedTuple, Optional
 
-LIMIT = 20  # seconds that anything here may take
+from running.patience import LIMIT
+
 PAUSE = 0.2  # seconds within which a program ends that has closed its connections
 AT_ONCE = 4  # runs beside each other
 LENGTH = 4096 * 512  # of the disk in a file

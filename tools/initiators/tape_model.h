@@ -9,7 +9,7 @@
 #include <stdlib.h>
 #include <string.h>
 
-enum { LONGEST = 1 << 20, OVERHEAD = 8, MOST_ITEMS = 1 << 16, LIMIT = 20 };
+enum { LONGEST = 1 << 20, OVERHEAD = 8, MOST_ITEMS = 1 << 16, LIMIT = 120 };
 enum { TAR = 10240 }; /* the length of a record of tar */
 enum { BLOCKS = 0, FILEMARKS = 1, END_OF_DATA = 3 }; /* the codes of SPACE */
 enum { FILEMARK = 0x80, EOM = 0x40, ILI = 0x20 }; /* bits of byte 2 of sense data */

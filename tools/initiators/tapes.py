@@ -9,7 +9,7 @@ from running.checks import must, run
 from running.server import targetd
 
 SOURCE = Path(__file__).resolve().parent / "tape.c"
-LIMIT = 240  # seconds that all its checks may take
+LIMIT = 600  # seconds that all its checks may take
 CAPACITY, EARLY = 4 * MEBIBYTE, 3 * MEBIBYTE
 UNITS = """
 [[target]]

@@ -9,9 +9,10 @@ import tempfile
 from contextlib import contextmanager
 from pathlib import Path
 
+from running.patience import LIMIT
+
 TOP = Path(__file__).resolve().parents[2]
 PROGRAM = Path(sys.argv[1] if len(sys.argv) > 1 else TOP / "crates/targetd/out/targetd").resolve()
-LIMIT = 20  # seconds that anything here may take, but the demo
 
 COMMANDS = ("explain-config", "import", "mend-tape", "status", "stop")
 EXPLAIN, IMPORT, MEND, STATUS, STOP = (f"bin/targetd-{command}" for command in COMMANDS)

@@ -5,11 +5,11 @@ import subprocess
 from pathlib import Path
 
 from running import sources
+from running.patience import LIMIT
 
 TOP = Path(__file__).resolve().parents[2]
 BUILT = TOP / "crates/targetd/out/targetd"  # where `make build` leaves it
 USAGE = TOP / "crates/command_line/src/help.rt"
-LIMIT = 20  # seconds that a call may take
 PACKAGES = {"libc.so.6": "libc6", "libm.so.6": "libc6", "ld-linux-x86-64.so.2": "libc6", "libgcc_s.so.1": "libgcc-s1"}
 
 

@@ -8,7 +8,7 @@ import time
 from wire import notation, pdu
 
 PORT, BLOCK = 3260, 512
-LIMIT = 30  # seconds that a write may take, with every login that it needs
+LIMIT = 120  # seconds that a write may take, with every login that it needs
 READY = "000000000000"
 TARGET = "iqn.2024-01.com.example:disk"
 

@@ -17,8 +17,8 @@ from pathlib import Path
 
 from packing.built import TOP
 from running import packages
+from running.patience import LIMIT
 
-LIMIT = 120  # seconds that a command may take
 RESULTS = "results"
 WITHIN = "--within"  # the word by which a check is run once more, in namespaces of its own
 NAMESPACES = ["unshare", "--mount", "--pid", "--net", "--fork", "--kill-child", "--mount-proc"]

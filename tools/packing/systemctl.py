@@ -11,7 +11,7 @@ from pathlib import Path
 
 UNIT, PROCESS, SAID = Path("/usr/lib/systemd/system/targetd.service"), Path("/run/targetd.process"), Path("/run/targetd.said")
 LINK = Path("/etc/systemd/system/multi-user.target.wants/targetd.service")
-LIMIT = 20  # seconds until it listens
+LIMIT = 120  # seconds until it listens
 
 
 def line_of(key):

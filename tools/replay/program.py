@@ -7,7 +7,8 @@ from contextlib import contextmanager
 from pathlib import Path
 from typing import NamedTuple
 
-TIME_LIMIT = 10.0
+from running.patience import LIMIT
+
 REDIRECTIONS = {("stdin", "folder"): "<.", ("stdin", "closed"): "<&-",
                 ("stdout", "full"): ">/dev/full", ("stdout", "closed"): ">&-"}
 
@@ -49,7 +50,7 @@ def at_once(program, run, count, **settings):
         given.seek(0)
         try:
             ended = subprocess.run(**command(program, run), **settings, stdin=given, cwd=folder,
-                                   capture_output=True, timeout=TIME_LIMIT, check=False)
+                                   capture_output=True, timeout=LIMIT, check=False)
         except subprocess.TimeoutExpired:
             raise TimeLimit from None
     return Ended(ended.stdout, ended.stderr, ended.returncode)
@@ -62,7 +63,7 @@ def line_by_line(program, run):
                                    stdin=subprocess.PIPE, stdout=subprocess.PIPE,
                                    stderr=subprocess.PIPE)
         late = threading.Event()
-        timer = threading.Timer(TIME_LIMIT, lambda: (late.set(), process.kill()))
+        timer = threading.Timer(LIMIT, lambda: (late.set(), process.kill()))
         timer.start()
         try:
             printed = b"".join(said(process, step) for step in run.steps)

@@ -2,7 +2,7 @@
 
 import subprocess
 
-LIMIT = 30  # seconds that an initiator may take
+from running.patience import LIMIT
 
 
 class Failed(Exception):

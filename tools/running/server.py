@@ -8,7 +8,7 @@ from contextlib import contextmanager
 from pathlib import Path
 from typing import NamedTuple
 
-LIMIT = 20  # seconds until a server must listen
+from running.patience import LIMIT
 
 
 class Server(NamedTuple):

@@ -2,10 +2,10 @@
 
 import socket
 
+from running.patience import LIMIT
 from wire import pdu
 
 KEYS = 1000  # in a text: a key and its value take 8 bytes, so that they fit one segment
-LIMIT = 20  # seconds that an answer may take
 NAMES = b"InitiatorName=a\0TargetName=t1\0"
 LAYOUT = pdu.LAYOUTS["Login-Request"]
 

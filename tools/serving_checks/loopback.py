@@ -11,11 +11,11 @@ import time
 from contextlib import contextmanager
 from pathlib import Path
 
+from running.patience import LIMIT
 from wire import notation, pdu
 
 TOP = Path(__file__).resolve().parents[2]
 PROGRAM = Path(sys.argv[1] if len(sys.argv) > 1 else TOP / "crates/targetd/out/targetd").resolve()
-LIMIT = 60  # seconds that anything here may take, on a machine that has much else to do
 
 CONNECTIONS = 64  # as many are served at once
 UNITS = '[[target]]\nname = "t1"\n[[target.unit]]\nlun = 0\nkind = "disk"\nserial = "D0"\nblocks = 8\n'
