@@ -1,6 +1,6 @@
 //! A view of a command's data, as it lies in its buffers.
 
-ghost use Rattle.std.specs.Prelude.{◌≡◌, ◌<◌, ◌++◌, length, IfOk};
+ghost use Rattle.std.specs.Prelude.{◌≡◌, ◌<◌, ◌≤◌, ◌++◌, length, IfOk};
 ghost use Rattle.data_parts.specs.Joined.{joined, AreSome};
 
 use std::alloc::AllocError;
@@ -49,6 +49,13 @@ impl<'a> Data<'a> {
         ensures { result ≡ length self.now }
     {
         self.len
+    }
+
+    /// Returns the mean length of the slices, in bytes. Only the speed of a use may depend on it.
+    pub fn mean_slice(&self) -> usize
+        ensures { result ≤ length self.now }
+    {
+        self.len / (self.buffers.len() + 1)
     }
 
     /// Returns the first bytes that lie together, and a view of the bytes after them.

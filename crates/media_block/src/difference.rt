@@ -4,6 +4,7 @@ ghost use Rattle.std.specs.Prelude.{◌≡◌, ◌+◌, ◌<◌, ◌≤◌, ◌^
 ghost use Rattle.media_store.specs.Failures.{counted};
 ghost use Rattle.media_block.specs.Blocks.{first_difference};
 
+use crate::filling::next_slice;
 use data_parts::Data;
 use media_store::{Store, StoreFault};
 
@@ -42,17 +43,6 @@ pub(crate) fn difference_from(held: &[u8], data: &Data) -> Option<usize>
         (front, behind) = behind.split_front();
     }
     None
-}
-
-/// Returns the slice that comes first in some bytes followed by data, and the data after that slice.
-fn next_slice<'a>(bytes: &'a [u8], behind: Data<'a>) -> (&'a [u8], Data<'a>)
-    ensures joined { bytes.now ++ behind.entry ≡ result.0.now ++ result.1 }
-    ensures some { 0 < length (bytes.now ++ behind.entry) → 0 < length result.0.now }
-{
-    if bytes.is_empty() {
-        return behind.split_front();
-    }
-    (bytes, behind)
 }
 
 /// Returns the least index at which bytes within the content differ from the first bytes of the data, slice by slice.

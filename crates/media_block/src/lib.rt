@@ -21,6 +21,7 @@ mod data;
 mod difference;
 mod disk;
 mod fault;
+mod filling;
 pub mod laws;
 mod part;
 

@@ -1,11 +1,12 @@
-use Rattle.std.proofs.Common.{◌≡◌, ◌<◌, ◌≤◌, ◌+◌, ◌-◌, ◌==◌, ◌++◌, length, take, drop, false, if◌then◌else◌}
+use Rattle.std.proofs.Common.{◌≡◌, ◌≤◌, ◌+◌, ◌-◌, ◌==◌, ◌++◌, length, take, drop, false, if◌then◌else◌}
 use Rattle.media_store.specs.Content.{written}
-use Rattle.media_block.proofs.data.write_data.Given as goal
+use Rattle.media_block.proofs.data.write_joined.Given as goal
 
 abbrev pub invariant-loop-done : goal.invariant-loop-done
 invariant-loop-done g l = record {
   below : l.done ≤ l.count;
-  lies : l.done < l.count → (l.front ++ l.behind ≡ drop l.done l.«data») × (0 < length l.front);
+  lies : l.front ++ l.behind ≡ drop l.done l.«data»;
+  room : length l.room ≡ length l.initial.room;
   honest : g.S.Store.honest l.store ≡ g.S.Store.honest l.initial.store;
   steady : g.S.Store.steady l.store ≡ g.S.Store.steady l.initial.store;
   failures : g.S.Store.failures l.store ≡ g.S.Store.failures l.initial.store;

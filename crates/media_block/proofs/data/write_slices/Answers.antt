@@ -1,12 +1,9 @@
-use Rattle.std.proofs.Common.{◌≡◌, ℕ, zero, suc, ◌<◌, ◌≤◌, ◌+◌, ◌==◌, length, take, drop, false, sym, ◌∙◌, arith, rules}
+use Rattle.std.proofs.Common.{◌≡◌, ◌<◌, ◌≤◌, ◌+◌, ◌==◌, length, take, drop, false, sym, ◌∙◌, arith, rules}
 use Rattle.std.proofs.lemmas.List.{length-take-le, length-drop}
+use Rattle.media_block.proofs.Numbers.{not_none}
 use Rattle.media_block.proofs.Results.{on_err_always}
 use Rattle.media_block.proofs.Slices.{written-more, torn-more, front-slice, behind-slice}
-use Rattle.media_block.proofs.data.write_data.Goals as goal
-
-not_none : (n : ℕ) → 0 < n → (n == 0) ≡ false
-not_none zero some = absurd (omega arith)
-not_none (suc n) some = search rules
+use Rattle.media_block.proofs.data.write_slices.Goals as goal
 
 pub returns-in_err-write_at-clause-torn : goal.returns-in_err-write_at-clause-torn
 returns-in_err-write_at-clause-torn g c =

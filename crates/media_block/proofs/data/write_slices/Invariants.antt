@@ -1,0 +1,18 @@
+use Rattle.std.proofs.Common.{◌≡◌, ◌<◌, ◌≤◌, ◌+◌, ◌-◌, ◌==◌, ◌++◌, length, take, drop, false, if◌then◌else◌}
+use Rattle.media_store.specs.Content.{written}
+use Rattle.media_block.proofs.data.write_slices.Given as goal
+
+abbrev pub invariant-loop-done : goal.invariant-loop-done
+invariant-loop-done g l = record {
+  below : l.done ≤ l.count;
+  lies : l.done < l.count → (l.front ++ l.behind ≡ drop l.done l.«data») × (0 < length l.front);
+  honest : g.S.Store.honest l.store ≡ g.S.Store.honest l.initial.store;
+  steady : g.S.Store.steady l.store ≡ g.S.Store.steady l.initial.store;
+  failures : g.S.Store.failures l.store ≡ g.S.Store.failures l.initial.store;
+  synced : g.S.Store.synced l.store ≡ (if l.done == 0 then g.S.Store.synced l.initial.store else false);
+  content : l.at + l.count ≤ length (g.S.Store.content l.initial.store)
+      → g.S.Store.content l.store ≡ written l.at (take l.done l.«data») (g.S.Store.content l.initial.store);
+}
+
+abbrev pub decreases-loop-done : goal.decreases-loop-done
+decreases-loop-done g l = l.count - l.done
