@@ -18,7 +18,8 @@
    bytewise=1 each byte is sent by a call of its own
    flood=1    it logs in nowhere, but connects and resets, over and over, which counts as a command
    asks=N     each login offers this MaxOutstandingR2T, and "logged in" is followed by that which is in force
-   burst=N    each login offers this MaxBurstLength */
+   burst=N    each login offers this MaxBurstLength
+   piece=N    no PDU brings more data than this */
 
 #include "fields.h"
 
@@ -49,7 +50,7 @@ static const struct kind {
 static const struct kind *kind = kinds;
 static const char *target = "t1";
 static long port, lun, connections = 1, window = 1, count = 1L << 40, milliseconds = 3600000, length;
-static long over = 1, held, bare, stalled, apart, bytewise, flood, asks, burst;
+static long over = 1, held, bare, stalled, apart, bytewise, flood, asks, burst, piece;
 static const struct {
     const char *name;
     long *value, most;
@@ -68,7 +69,8 @@ static const struct {
                {"bytewise", &bytewise, 1},
                {"flood", &flood, 1},
                {"asks", &asks, 65535},
-               {"burst", &burst, 16777215}};
+               {"burst", &burst, 16777215},
+               {"piece", &piece, 262144}};
 
 /* Notes what a word says. Whether it says anything. */
 static int is_taken(const char *word)

@@ -7,6 +7,7 @@ from bench_parts.busy import fairness
 from bench_parts.ends import BLOCK, SIZE, processor_seconds, ran, resident, settle
 from bench_parts.far import far
 from bench_parts.holding import flight, headers, parts, unread, written
+from bench_parts.pieces import pieces
 from bench_parts.requests import requests
 from bench_parts.rows import FIGURES, OURS, figures, head, ratios, row, spread
 from bench_parts.tape_parts import opening, reading, spacing, tape
@@ -173,7 +174,7 @@ def initiators(bench):
                         spread(ratios(rates[name], rates["tgt"])) if name != "tgt" and "tgt" in rates else "")
 
 
-PARTS = {"requests": requests, "connections": connections, "neighbours": neighbours, "fairness": fairness,
+PARTS = {"requests": requests, "pieces": pieces, "connections": connections, "neighbours": neighbours, "fairness": fairness,
          "memory": memory, "flight": flight, "headers": headers, "written": written, "parts": parts, "unread": unread,
          "tape": tape, "spacing": spacing, "opening": opening, "reading": reading, "far": far, "logins": logging_in,
          "tgt": initiators}

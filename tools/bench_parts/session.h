@@ -77,6 +77,8 @@ static int has_begun(struct session *session, const char *text)
     if (opcode(header) != ACCEPTED || header[36] != 0 || (header[1] & TRANSIT && header[1] != LOGGED_IN))
         refused("a login is refused", header);
     session->segment = smaller((size_t)value_of(text, behind(header), limit, (long)session->segment), MOST);
+    if (piece > 0)
+        session->segment = smaller(session->segment, (size_t)piece);
     session->asks = value_of(text, behind(header), most_asks, session->asks);
     return header[1] == LOGGED_IN;
 }
