@@ -38,7 +38,8 @@ use Rattle.iscsi_session.proofs.Telling.{functions_told}
 use Rattle.iscsi_session.proofs.Answered.{moved_other, acted_same, command_answers_none, function_is, function_waits}
 use Rattle.iscsi_session.proofs.Lawful.{moved_by, ended_lawful, more_over, act_lawful, ask_lawful, tell_lawful, first_waits}
 use Rattle.iscsi_session.proofs.Holding.{listed_in, listed_is, listed_other, listed_removing, waits_in, waiting_joined, waiting_more, waiting_told, functions_removing, left_few, pending_in, pending_held, pending_command, pending_other, pending_removing, immediate_of, immediate_less, immediate_joined, comes}
-use Rattle.iscsi_session.proofs.Room.{one_spelled, reject_long, most_answered, r2ts_long, few_asks}
+use Rattle.iscsi_answers.proofs.Room.{one_spelled}
+use Rattle.iscsi_session.proofs.Room.{reject_long, most_answered, r2ts_long, few_asks}
 
 -- what waits of its answers, and its requests
 abbrev pub heaviness : Past → ℕ

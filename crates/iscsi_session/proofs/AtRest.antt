@@ -25,7 +25,7 @@ use Rattle.scsi_unit.specs.Units.{numbers_of}
 use Rattle.iscsi_session.specs.Comings.{TargetUnits}
 use Rattle.iscsi_login.specs.Values.{AreInRange}
 use Rattle.iscsi_login.specs.declared.session_params.SessionParams.{SessionParams}
-use Rattle.iscsi_session.specs.Answers.{command_answers}
+use Rattle.iscsi_answers.specs.Answers.{command_answers}
 use Rattle.iscsi_requests.specs.State.{SessionState, AreDistinct, IsLawful, Stands, remembered}
 use Rattle.iscsi_session.specs.Runs.{Output, Starts, is_failed, Runs, Stops, AnswersAs}
 use Rattle.iscsi_session.proofs.Answered.{none_due, queue_first}

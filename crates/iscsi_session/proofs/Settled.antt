@@ -26,7 +26,7 @@ use Rattle.iscsi_pdu.specs.declared.stamp.Stamp.{Stamp}
 use Rattle.iscsi_login.specs.declared.session_params.SessionParams.{SessionParams}
 use Rattle.iscsi_login.specs.declared.values.Values.{Values}
 use Rattle.iscsi_transfer.specs.declared.data_in.Piece.{Piece}
-use Rattle.iscsi_session.specs.Answers.{data_in, data_answers, scsi_answer, command_answers}
+use Rattle.iscsi_answers.specs.Answers.{data_in, data_answers, scsi_answer, command_answers}
 use Rattle.iscsi_session.specs.Commands.{carried_out}
 use Rattle.iscsi_requests.specs.Transfers.{payload_of, is_whole_of}
 use Rattle.iscsi_session.proofs.Came.{came_none}

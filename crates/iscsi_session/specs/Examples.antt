@@ -17,7 +17,7 @@ use Rattle.iscsi_requests.specs.Requests.{functions, Past, begun, left, taken, t
 use Rattle.iscsi_requests.specs.Transfers.{outs_of, tags_of, task_at, drained, asking, asked_by, r2ts_of}
 use Rattle.iscsi_requests.specs.Judging.{is_refused, verdict, verdict_by, task_verdict, judged, reject}
 use Rattle.scsi_sense.specs.Done.{good}
-use Rattle.iscsi_session.specs.Answers.{data_answers, scsi_answer}
+use Rattle.iscsi_answers.specs.Answers.{data_answers, scsi_answer}
 use Rattle.iscsi_session.specs.Steps.{answered_command, ready}
 use Rattle.iscsi_requests.specs.Functions.{own_reach, reaches, reached, plugs, awaited, function_result, function_answer, drained_functions, told_answers, answered_by}
 use Rattle.iscsi_session.specs.Acts.{acted, act_answers, ends, logout_response}

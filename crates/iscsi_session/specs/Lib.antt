@@ -12,6 +12,7 @@ pub use Rattle.iscsi_transfer.specs.Payload
 pub use Rattle.iscsi_transfer.specs.WriteData
 pub use Rattle.iscsi_transfer.specs.Counted
 pub use Rattle.scsi_sense.specs.Done
+pub use Rattle.iscsi_answers.specs.Answers
 pub use Rattle.iscsi_requests.specs.Requests
 pub use Rattle.iscsi_requests.specs.Transfers
 pub use Rattle.iscsi_requests.specs.Judging
@@ -24,7 +25,6 @@ pub use Rattle.iscsi_requests.specs.Draining
 pub use Rattle.iscsi_requests.specs.Needed
 pub use Rattle.iscsi_requests.specs.RequestQueue
 pub mod Acts
-pub mod Answers
 pub mod Comings
 pub mod Commands
 pub mod Steps
@@ -34,4 +34,3 @@ pub mod Weight
 pub mod Laws
 pub mod Examples
 pub mod ExamplesAsking
-pub mod ExamplesRoom

@@ -9,7 +9,7 @@ use Rattle.iscsi_session.specs.Acts.{ordered, acted, act_answers, ends}
 use Rattle.iscsi_session.specs.declared.act.Act.{Act}
 use Rattle.iscsi_session.specs.declared.act.Act.TheVariants.{Idle, Taken, Ended}
 use Rattle.iscsi_requests.specs.State.{SessionState, IsLawful, Stands, remembered}
-use Rattle.iscsi_session.specs.Answers.{command_answers}
+use Rattle.iscsi_answers.specs.Answers.{command_answers}
 use Rattle.scsi_sense.specs.Done.{Outcome}
 use Rattle.iscsi_session.specs.Steps.{Step, is_step, is_of, Work, settled, answered_command}
 

@@ -9,7 +9,7 @@ use Rattle.iscsi_requests.specs.Transfers.{payload_of, is_whole_of, asking, aske
 use Rattle.iscsi_requests.specs.Functions.{drained_functions, answered_function}
 use Rattle.iscsi_requests.specs.Judging.{verdict, judged, violates}
 use Rattle.iscsi_session.specs.Acts.{acted, ordered, ends}
-use Rattle.iscsi_session.specs.Answers.{command_answers}
+use Rattle.iscsi_answers.specs.Answers.{command_answers}
 use Rattle.iscsi_session.specs.Commands.{carried_out}
 
 -- What a step does: it judges a frame, takes a request, asks for data by R2Ts, answers a function, or does a command.

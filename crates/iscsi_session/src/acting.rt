@@ -15,7 +15,7 @@ ghost use Rattle.iscsi_session.specs.Runs.{Runs, ActsAs, ActsFirst, output};
 ghost use Rattle.iscsi_requests.specs.Texts.{is_text as is_text_in};
 
 use crate::act::Act;
-use crate::answers::rejected;
+use crate::rejecting::rejected;
 use crate::session::Session;
 use crate::task_management::is_function;
 use crate::texts::is_text;

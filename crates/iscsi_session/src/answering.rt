@@ -6,21 +6,21 @@ ghost use Rattle.iscsi_pdu.specs.Answer.{spelling};
 ghost use Rattle.iscsi_pdu.specs.Frames as pdu;
 ghost use Rattle.iscsi_login.specs.Values.{AreInRange};
 ghost use Rattle.iscsi_requests.specs.Requests.{Past, queue};
-ghost use Rattle.iscsi_session.specs.Room.{room_for};
+ghost use Rattle.iscsi_answers.specs.Room.{room_for};
 ghost use Rattle.iscsi_requests.specs.State.{Stands};
 ghost use Rattle.iscsi_session.specs.Runs.{AnswersAs};
 
-use crate::answers::put_answers;
 use crate::session::Session;
 use bytes::BytesMut;
 use data_parts::Parts;
+use iscsi_answers::put_answers;
 use iscsi_outbox::Outbox;
 use scsi_sense::Done;
 use std::alloc::Global;
 
 impl Session {
     /// Finishes the first command of the queue, which is done, and appends its answers to `out`. There must be room for
-    /// them ([`make_room`](crate::making_room::make_room)), so no memory is allocated. Returns a buffer for reuse, if
+    /// them ([`make_room`](iscsi_answers::make_room)), so no memory is allocated. Returns a buffer for reuse, if
     /// there is one, and the data that the command took, with its buffers.
     pub(crate) fn answer_command(
         &mut self,

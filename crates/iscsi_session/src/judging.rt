@@ -11,7 +11,7 @@ ghost use Rattle.iscsi_requests.specs.Judging.{verdict, request_verdict, is_refu
 ghost use Rattle.iscsi_requests.specs.Draining.{judged_in, is_live_in};
 ghost use Rattle.iscsi_requests.specs.State.{Stands, is_vacant_for, function_place, IsAcceptable, IsLawfulTask};
 
-use crate::answers::rejected;
+use crate::rejecting::rejected;
 use crate::session::Session;
 use crate::task_management::is_function;
 use iscsi_outbox::Outbox;

@@ -22,12 +22,10 @@
 mod act;
 mod acting;
 mod answering;
-mod answers;
-mod data_ins;
 mod draining;
 mod judging;
 pub mod laws;
-mod making_room;
+mod rejecting;
 mod serving;
 mod session;
 mod task_management;

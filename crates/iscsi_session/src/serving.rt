@@ -12,10 +12,10 @@ ghost use Rattle.iscsi_session.specs.Steps.{Work, Asking, is_doing, is_serving, 
 ghost use Rattle.iscsi_session.specs.Weight.{IsAtRest, Eases};
 ghost use Rattle.iscsi_session.specs.Runs.{output, Starts, Runs, Stops, StepsFirst, IsSettled};
 
-use crate::making_room::make_room;
 use crate::session::Session;
 use bytes::BytesMut;
 use data_parts::{Data, Parts};
+use iscsi_answers::make_room;
 use iscsi_outbox::Outbox;
 use iscsi_pdu::{Frame, Header};
 use iscsi_requests::{ROOM_TO_ASK, Verdict};

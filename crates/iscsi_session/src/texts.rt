@@ -12,7 +12,7 @@ ghost use Rattle.iscsi_requests.specs.State.{Stands, waiting};
 ghost use Rattle.iscsi_session.specs.Runs.{ActsAs, output};
 
 use crate::act::Act;
-use crate::answers::rejected;
+use crate::rejecting::rejected;
 use crate::session::Session;
 use iscsi_exchange::Piece;
 use iscsi_outbox::Outbox;

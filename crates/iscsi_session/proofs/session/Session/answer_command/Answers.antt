@@ -6,8 +6,8 @@ use Rattle.iscsi_pdu.specs.declared.answer.Answer.{Answer}
 use Rattle.iscsi_pdu.specs.declared.stamp.Stamp.{Stamp}
 use Rattle.iscsi_login.specs.declared.session_params.SessionParams.{SessionParams}
 use Rattle.iscsi_requests.specs.Requests.{frame_of, stamp, finished}
-use Rattle.iscsi_session.specs.Answers.{command_answers}
-use Rattle.iscsi_session.specs.Room.{room_for}
+use Rattle.iscsi_answers.specs.Answers.{command_answers}
+use Rattle.iscsi_answers.specs.Room.{room_for}
 use Rattle.iscsi_requests.specs.State.{SessionState, removed_at, place_with}
 use Rattle.iscsi_pdu.specs.Header.{initiator_task_tag}
 use Rattle.iscsi_session.proofs.Parts.{parts}

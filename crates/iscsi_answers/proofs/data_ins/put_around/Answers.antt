@@ -1,8 +1,8 @@
 use Rattle.std.proofs.Common.{◌-◌, ◌++◌, ℕ, List, length, drop, ap, ◌∙◌, arith, length-drop}
 use Rattle.std.proofs.lemmas.List.{take_all}
 use Rattle.iscsi_pdu.specs.Segment.{segment}
-use Rattle.iscsi_session.proofs.Room.{pieces_counted, piece_there, one_answer}
-use Rattle.iscsi_session.proofs.data_ins.put_around.Goals as goal
+use Rattle.iscsi_answers.proofs.Room.{pieces_counted, piece_there, one_answer}
+use Rattle.iscsi_answers.proofs.data_ins.put_around.Goals as goal
 
 pub piece_of-piece-requires-clause-number : goal.piece_of-piece-requires-clause-number
 piece_of-piece-requires-clause-number c =

@@ -2,9 +2,9 @@ use Rattle.std.proofs.Common.{◌≡◌, ◌<◌, length, get_or, arith}
 use Rattle.std.proofs.lemmas.List.{take_all}
 use Rattle.std.proofs.lemmas.Option.{slice_get_within}
 use Rattle.iscsi_pdu.specs.declared.answer.Answer.TheVariants as answers
-use Rattle.iscsi_session.specs.Answers.{sent_pieces, data_answers}
-use Rattle.iscsi_session.proofs.Room.{piece_there, pieces_counted, data_answer_at, data_answers_count, written_more, next_fits}
-use Rattle.iscsi_session.proofs.data_ins.put_data.Goals as goal
+use Rattle.iscsi_answers.specs.Answers.{sent_pieces, data_answers}
+use Rattle.iscsi_answers.proofs.Room.{piece_there, pieces_counted, data_answer_at, data_answers_count, written_more, next_fits}
+use Rattle.iscsi_answers.proofs.data_ins.put_data.Goals as goal
 
 pub data_in-requires : goal.data_in-requires
 data_in-requires c = grind (arith, piece_there)

@@ -4,20 +4,17 @@ ghost use Rattle.std.specs.Prelude.{◌≡◌, ◌≤◌, ◌<◌, ◌+◌, ◌+
 ghost use Rattle.scsi_sense.specs.Given.{headroom, tailroom};
 ghost use Rattle.scsi_sense.specs.Sense.{sense_bytes};
 ghost use Rattle.iscsi_pdu.specs.Answer.{spelling};
-ghost use Rattle.iscsi_pdu.specs.Frames as pdu;
 ghost use Rattle.iscsi_login.specs.Values.{AreInRange};
-ghost use Rattle.iscsi_session.specs.Answers.{expected_length, data_sent, scsi_answer, command_answers, residual_of};
-ghost use Rattle.iscsi_pdu.specs.declared.answer.Answer.{Answer as AnyAnswer};
-ghost use Rattle.iscsi_requests.specs.Judging.{reject};
-ghost use Rattle.scsi_unit.specs.DiskCommands.{most_given};
-ghost use Rattle.iscsi_session.specs.Room.{room_for};
+ghost use Rattle.iscsi_answers.specs.Answers.{expected_length, data_sent, scsi_answer, command_answers, residual_of};
+ghost use Rattle.scsi_disk.specs.DiskCommands.{most_given};
+ghost use Rattle.iscsi_answers.specs.Room.{room_for};
 
 use crate::data_ins::{count_of, put_alone, put_data, shared_fields};
 use crate::making_room::{LONGEST_RESPONSE, is_long, limits_for};
 use bytes::BytesMut;
 use iscsi_login::Values;
 use iscsi_outbox::{DataIns, Outbox};
-use iscsi_pdu::{Answer, Frame, Header, R2t, Reject, RejectReason, Residual, ScsiResponse, Stamp};
+use iscsi_pdu::{Answer, Frame, Residual, ScsiResponse, Stamp};
 use scsi_sense::{Done, Given, HEADROOM};
 use std::alloc::Global;
 
@@ -97,12 +94,12 @@ fn sent_buffer(given: Given, sent: usize) -> BytesMut
 }
 
 /// Queues a command's Data-Ins and its SCSI Response. There must be room for them
-/// ([`make_room`](crate::making_room::make_room)), so no memory is allocated. Returns a buffer for reuse, if there is
+/// ([`make_room`](crate::make_room)), so no memory is allocated. Returns a buffer for reuse, if there is
 /// one.
 ///
 /// Large data, for which no such room was made, is queued without a copy and cut as it is sent. Small data that fits
 /// one PDU is sent from its own buffer, if the queue is empty. Anything else is copied.
-pub(crate) fn put_answers(
+pub fn put_answers(
     alloc: Global,
     out: &mut Outbox,
     numbers: Stamp,
@@ -132,16 +129,4 @@ pub(crate) fn put_answers(
     put_data(out, numbers, values, frame, &done.given.as_slice()[..sent]);
     out.put(&response);
     Some(done.given.into_buffer())
-}
-
-/// Returns a Reject of the frame with this header (RFC 7143 §11.17).
-pub(crate) fn rejected(reason: RejectReason, stamp: Stamp, header: Header) -> Answer<'static>
-    ensures value { (frame : pdu.Frame) → frame.header ≡ header → result ≡ reject reason stamp frame }
-    ensures short { length (spelling result) ≤ 96 }
-{
-    Answer::Reject(Reject {
-        reason,
-        stamp,
-        header,
-    })
 }

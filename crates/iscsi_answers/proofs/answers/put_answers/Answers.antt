@@ -5,9 +5,9 @@ use Rattle.std.proofs.lemmas.List.{length-append, nil_from_length}
 use Rattle.iscsi_pdu.specs.Answer.{spelling}
 use Rattle.scsi_sense.specs.Done.{Outcome}
 use Rattle.iscsi_transfer.proofs.Counts.{count_fits}
-use Rattle.iscsi_session.specs.Answers.{data_sent, data_answers}
-use Rattle.iscsi_session.proofs.Room.{sent_short, pieces_few, data_fits, count_is, all_spelled, cut_as_sent}
-use Rattle.iscsi_session.proofs.answers.put_answers.Goals as goal
+use Rattle.iscsi_answers.specs.Answers.{data_sent, data_answers}
+use Rattle.iscsi_answers.proofs.Room.{sent_short, pieces_few, data_fits, count_is, all_spelled, cut_as_sent}
+use Rattle.iscsi_answers.proofs.answers.put_answers.Goals as goal
 
 pub overflow_cast-count : goal.overflow_cast-count
 overflow_cast-count c = grind (arith, pieces_few, count_is)

@@ -1,6 +1,6 @@
-use Rattle.iscsi_session.specs.Answers.{data_answers}
-use Rattle.iscsi_session.proofs.Room.{IsWritten}
-use Rattle.iscsi_session.proofs.data_ins.put_data.Given as goal
+use Rattle.iscsi_answers.specs.Answers.{data_answers}
+use Rattle.iscsi_answers.proofs.Room.{IsWritten}
+use Rattle.iscsi_answers.proofs.data_ins.put_data.Given as goal
 
 -- the first Data-Ins are written
 abbrev pub invariant-loop-data_sn : goal.invariant-loop-data_sn

@@ -1,7 +1,7 @@
 use Rattle.std.proofs.Common.{◌+◌, ℕ, List, length, ap, arith, length-drop}
 use Rattle.std.proofs.lemmas.List.{length-take}
-use Rattle.iscsi_session.proofs.Room.{sent_behind}
-use Rattle.iscsi_session.proofs.answers.sent_buffer.Goals as goal
+use Rattle.iscsi_answers.proofs.Room.{sent_behind}
+use Rattle.iscsi_answers.proofs.answers.sent_buffer.Goals as goal
 
 pub returns-clause-data : goal.returns-clause-data
 returns-clause-data c = grind (arith, sent_behind)

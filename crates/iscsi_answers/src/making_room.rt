@@ -3,8 +3,8 @@
 ghost use Rattle.std.specs.Prelude.{◌≡◌, ◌≤◌, ◌<◌, ◌+◌, nat_lt, is_some, IfSome, IfNone, OnOk};
 ghost use Rattle.iscsi_login.specs.Values.{AreInRange};
 ghost use Rattle.iscsi_outbox.specs.Answer.{AreAligned, limits_of};
-ghost use Rattle.scsi_unit.specs.DiskCommands.{most_given};
-ghost use Rattle.iscsi_session.specs.Room.{room_for, cuts_long, most_copied, most_pieces, most_sent as most_data_sent};
+ghost use Rattle.scsi_disk.specs.DiskCommands.{most_given};
+ghost use Rattle.iscsi_answers.specs.Room.{room_for, cuts_long, most_copied, most_pieces, most_sent as most_data_sent};
 
 use crate::data_ins::count_of;
 use iscsi_login::Values;
@@ -111,7 +111,7 @@ pub(crate) fn room_for(values: &Values, frame: &Frame) -> usize
 }
 
 /// Makes room for all answers to a command. If an allocation fails, what waits stays the same.
-pub(crate) fn make_room(out: &mut Outbox, values: &Values, frame: &Frame) -> Result<(), Memory>
+pub fn make_room(out: &mut Outbox, values: &Values, frame: &Frame) -> Result<(), Memory>
     requires { AreInRange values.now }
     ensures room { OnOk result (room_for values.now frame.now ≤ out.new.spare) }
     ensures slot { OnOk result (1 ≤ out.new.slots) }

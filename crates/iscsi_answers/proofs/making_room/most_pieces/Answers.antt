@@ -1,6 +1,6 @@
 use Rattle.std.proofs.Common.{arith}
-use Rattle.iscsi_session.proofs.Room.{most_pieces_fit}
-use Rattle.iscsi_session.proofs.making_room.most_pieces.Goals as goal
+use Rattle.iscsi_answers.proofs.Room.{most_pieces_fit}
+use Rattle.iscsi_answers.proofs.making_room.most_pieces.Goals as goal
 
 pub returns-clause-bound : goal.returns-clause-bound
 returns-clause-bound c = rw (c.count_of.ensures, c.most_copied.ensures.value)

@@ -6,8 +6,8 @@ ghost use Rattle.iscsi_pdu.specs.Answer.{spelling};
 ghost use Rattle.iscsi_pdu.specs.Segment.{most_data, segment};
 ghost use Rattle.iscsi_login.specs.Values.{AreInRange};
 ghost use Rattle.iscsi_transfer.specs.DataIn.{pieces_of, piece_count};
-ghost use Rattle.iscsi_session.specs.Answers.{sent_pieces, data_in as data_in_answer, data_answers, shared_fields};
-ghost use Rattle.scsi_unit.specs.DiskCommands.{most_given};
+ghost use Rattle.iscsi_answers.specs.Answers.{sent_pieces, data_in as data_in_answer, data_answers, shared_fields};
+ghost use Rattle.scsi_disk.specs.DiskCommands.{most_given};
 
 use bytes::BytesMut;
 use iscsi_login::Values;

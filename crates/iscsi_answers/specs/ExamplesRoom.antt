@@ -3,7 +3,7 @@ use Rattle.std.specs.Prelude.{◌≡◌, ℕ, ◌+◌, ◌*◌, [], ◌∷◌, �
 use Rattle.iscsi_pdu.specs.Frames.{Frame}
 use Rattle.iscsi_login.specs.Values.{default_values}
 use Rattle.iscsi_login.specs.declared.values.Values.{Values}
-use Rattle.iscsi_session.specs.Room.{room_for}
+use Rattle.iscsi_answers.specs.Room.{room_for}
 
 -- F and R, and the Expected Data Transfer Length
 abbrev read : Frame

@@ -1,7 +1,7 @@
 use Rattle.std.proofs.Common.{◌++◌, ◌-◌, ◌∷◌, [], take, ℕ, List, ap, arith, ◌∙◌, length-drop}
 use Rattle.iscsi_pdu.specs.Segment.{padded}
-use Rattle.iscsi_session.proofs.Room.{padded_behind}
-use Rattle.iscsi_session.proofs.data_ins.put_header.Goals as goal
+use Rattle.iscsi_answers.proofs.Room.{padded_behind}
+use Rattle.iscsi_answers.proofs.data_ins.put_header.Goals as goal
 
 pub returns-clause-items : goal.returns-clause-items
 returns-clause-items c =
