@@ -1,9 +1,10 @@
 -- Each byte that the system gives is handed on or is ahead, call by call.
 use Rattle.std.proofs.Common.{◌≡◌, ℕ, ◌<◌, ◌≤◌, min, List, [], ◌∷◌, ◌++◌, length, take, drop, set, Option, None, Ok, eq-eqb, append_assoc, refl, sym, ap, subst, ◌∙◌, inl, inr}
 use Rattle.std.proofs.lemmas.Bool.{ne_eqb, cases_eq}
-use Rattle.std.proofs.lemmas.List.{append-nil, take-append-drop, get_or-set_same, get_or-set_other, drop_min}
+use Rattle.std.proofs.lemmas.List.{append-nil, take-append-drop, take_all, get_or-set_same, get_or-set_other, drop_min}
 use Rattle.target_limits.specs.Numbers.{connection_limit}
-use Rattle.iscsi_ports.specs.Calls.{Call, Reading, Handing, Closing}
+use Rattle.iscsi_ports.specs.Calls.{Call, Reading, Handing, Closing, told_by, read_carried}
+use Rattle.iscsi_ports.specs.Log.{Read}
 use Rattle.iscsi_ports.specs.ReadBuffer.{given, handed, bytes_in, ahead_on, IsAccounted, AreDropped}
 
 -- on the connection itself, and on the others
@@ -58,6 +59,23 @@ accounted_reading calls places place c room n bytes was lt none count rest = λ 
           subst P same (λ here. read_here calls places place c room n bytes (was c here) lt none count rest) in_range
       | inr other ↦ read_elsewhere calls places place c d room bytes (was d in_range) other
     ]
+
+-- all that the system gave has room
+pub accounted_at_once : (calls : List Call) (places : List (Option (List ℕ))) (c room : ℕ) (bytes : List ℕ) → IsAccounted calls places
+    → ahead_on c places ≡ [] → length bytes ≤ room → IsAccounted (Reading c room (Ok bytes) ∷ calls) places
+accounted_at_once calls places c room bytes was none few = λ d in_range.
+    elim (cases_eq c d) [
+      | inl same ↦
+          let before = was d in_range in
+          let nothing : ahead_on d places ≡ [] = subst (λ e. ahead_on e places ≡ []) same none in
+          rw (eq-eqb c d same, take_all room bytes few, nothing, append-nil (handed d calls ++ bytes))
+          (ap (λ all. all ++ bytes) (rw (nothing, append-nil (handed d calls)) at before))
+      | inr other ↦ rw (ne_eqb c d other) (was d in_range)
+    ]
+
+pub told_at_once : (c room : ℕ) (bytes : List ℕ) → length bytes ≤ room
+    → told_by (Reading c room (Ok bytes)) ≡ Read c room (read_carried (Ok bytes)) ∷ []
+told_at_once c room bytes few = rw (take_all room bytes few) refl
 
 closed_here : (calls : List Call) (places : List (Option (List ℕ))) (c : ℕ) (dropped : List ℕ) → c < length places
     → given c (Closing c dropped ∷ calls) ≡ handed c (Closing c dropped ∷ calls) ++ ahead_on c (set places c None)

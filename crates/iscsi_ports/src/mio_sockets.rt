@@ -278,7 +278,7 @@ impl SocketCalls for MioSockets {
         c: usize,
         bytes: &[u8],
     ) -> Result<usize, SocketFailure> {
-        match write_to(self.streams.as_mut_slice(), c, bytes) {
+        match write_to(&mut self.streams[c], bytes) {
             Ok(count) => {
                 self.notes.wrote(c, bytes.len(), &bytes[..count]);
                 Ok(count)

@@ -10,57 +10,48 @@ use std::io::{Read, Write};
 
 /// Reads into a buffer of the ports.
 pub(crate) fn fill_from(
-    streams: &mut [Option<TcpStream>],
-    c: usize,
+    place: &mut Option<TcpStream>,
     whole: &mut WholeBuffer,
 ) -> Result<usize, SocketFailure>
     ensures { IfOk result (λ count. count ≤ 65584) }
 {
-    match streams.get_mut(c) {
-        Some(Some(stream)) => match whole.fill(stream) {
+    match place {
+        Some(stream) => match whole.fill(stream) {
             Ok(count) => Ok(count),
             Err(error) => Err(socket_failure(&error)),
         },
-        _ => Err(SocketFailure::Broken),
+        None => Err(SocketFailure::Broken),
     }
 }
 
 /// Reads into the reader's buffer.
 pub(crate) fn read_from(
-    streams: &mut [Option<TcpStream>],
-    c: usize,
+    place: &mut Option<TcpStream>,
     buffer: &mut [u8],
 ) -> Result<usize, SocketFailure>
     ensures { WritesAtMost result buffer.new }
 {
-    match streams.get_mut(c) {
-        Some(Some(stream)) => match stream.read(buffer) {
-            Ok(count) => Ok(count),
-            Err(error) => Err(socket_failure(&error)),
-        },
-        _ => Err(SocketFailure::Broken),
+    match place {
+        Some(stream) => read_piece(stream, buffer),
+        None => Err(SocketFailure::Broken),
     }
 }
 
 /// Writes a front of these bytes.
-pub(crate) fn write_to(
-    streams: &mut [Option<TcpStream>],
-    c: usize,
-    bytes: &[u8],
-) -> Result<usize, SocketFailure>
+pub(crate) fn write_to(place: &mut Option<TcpStream>, bytes: &[u8]) -> Result<usize, SocketFailure>
     ensures { WritesAtMost result bytes.now }
 {
-    match streams.get_mut(c) {
-        Some(Some(stream)) => match stream.write(bytes) {
+    match place {
+        Some(stream) => match stream.write(bytes) {
             Ok(count) => Ok(count),
             Err(error) => Err(socket_failure(&error)),
         },
-        _ => Err(SocketFailure::Broken),
+        None => Err(SocketFailure::Broken),
     }
 }
 
-/// Reads a piece of a connection that lingers.
-pub(crate) fn drain_from(stream: &mut TcpStream, buffer: &mut [u8]) -> Result<usize, SocketFailure>
+/// Reads a piece of a connection.
+pub(crate) fn read_piece(stream: &mut TcpStream, buffer: &mut [u8]) -> Result<usize, SocketFailure>
     ensures { WritesAtMost result buffer.new }
 {
     match stream.read(buffer) {

@@ -77,7 +77,7 @@ impl MioSockets {
         ensures ahead { self.new.ahead ≡ self.old.ahead }
     {
         let room = buffer.len();
-        let answer = read_from(self.streams.as_mut_slice(), c, buffer);
+        let answer = read_from(&mut self.streams[c], buffer);
         readiness.took(c, answer, room);
         match answer {
             Ok(count) => self.notes.read(c, room, &buffer[..count]),
@@ -104,7 +104,7 @@ impl MioSockets {
         ensures readiness { readiness.new
             ≡ after_taking c (given_in_all result (length (ahead_on c self.new.ahead.items))) 65584 readiness.old }
     {
-        let answer = fill_from(self.streams.as_mut_slice(), c, &mut whole);
+        let answer = fill_from(&mut self.streams[c], &mut whole);
         readiness.took(c, answer, MOST_AHEAD);
         let count = match answer {
             Ok(count) => count,
@@ -146,7 +146,7 @@ impl MioSockets {
             ≡ after_taking c (given_in_all result (length (ahead_on c self.new.ahead.items))) (length buffer.old) readiness.old }
     {
         let most = buffer.len();
-        let answer = read_from(self.streams.as_mut_slice(), c, buffer);
+        let answer = read_from(&mut self.streams[c], buffer);
         readiness.took(c, answer, most);
         let count = match answer {
             Ok(count) => count,

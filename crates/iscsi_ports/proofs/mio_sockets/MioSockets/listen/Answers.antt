@@ -9,3 +9,24 @@ invariant_of-result-clause-accounted g c =
 
 pub returns-in_default-clause-explained : goal.returns-in_default-clause-explained
 returns-in_default-clause-explained g c = inl (search rules, refl)
+
+pub returns-in_err-with_capacity-clause-unspelled : goal.returns-in_err-with_capacity-clause-unspelled
+returns-in_err-with_capacity-clause-unspelled g c = λ unspelled. absurd (unspelled c.in-Ok.address c.in-Ok.ensures.value)
+
+pub returns-in_err-free_places-clause-unspelled : goal.returns-in_err-free_places-clause-unspelled
+returns-in_err-free_places-clause-unspelled g c = λ unspelled. absurd (unspelled c.in-Ok.address c.in-Ok.ensures.value)
+
+pub returns-in_err-free_places-2-clause-unspelled : goal.returns-in_err-free_places-2-clause-unspelled
+returns-in_err-free_places-2-clause-unspelled g c = λ unspelled. absurd (unspelled c.in-Ok.address c.in-Ok.ensures.value)
+
+pub returns-in_err-new-clause-unspelled : goal.returns-in_err-new-clause-unspelled
+returns-in_err-new-clause-unspelled g c = λ unspelled. absurd (unspelled c.in-Ok.address c.in-Ok.ensures.value)
+
+pub returns-in_err-new-2-clause-unspelled : goal.returns-in_err-new-2-clause-unspelled
+returns-in_err-new-2-clause-unspelled g c = λ unspelled. absurd (unspelled c.in-Ok.address c.in-Ok.ensures.value)
+
+pub returns-in-Err-clause-unspelled : goal.returns-in-Err-clause-unspelled
+returns-in-Err-clause-unspelled g c = λ unspelled. absurd (unspelled c.in-Ok.address c.in-Ok.ensures.value)
+
+pub returns-clause-unspelled : goal.returns-clause-unspelled
+returns-clause-unspelled g c = λ unspelled. absurd (unspelled c.in-Ok.address c.in-Ok.ensures.value)

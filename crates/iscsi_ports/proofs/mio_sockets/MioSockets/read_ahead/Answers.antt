@@ -1,6 +1,9 @@
-use Rattle.std.proofs.Common.{◌≡◌, ◌<◌, ◌∙◌, ap, sym, length, drop, min, arith}
-use Rattle.std.proofs.lemmas.List.{length-set}
-use Rattle.iscsi_ports.specs.ReadBuffer.{bytes_in}
+use Rattle.std.proofs.Common.{◌≡◌, ◌<◌, ◌∙◌, ap, sym, length, drop, min, arith, ◌+◌, ◌++◌, ◌∷◌, [], None, Ok, take, set}
+use Rattle.std.proofs.lemmas.List.{length-set, length-drop, get_or-set_same, take_min}
+use Rattle.iscsi_ports.specs.ReadBuffer.{bytes_in, ahead_on}
+use Rattle.iscsi_ports.specs.Log.{Read}
+use Rattle.iscsi_ports.specs.Calls.{log_by, read_carried}
+use Rattle.iscsi_ports.specs.Readiness.{after_taking}
 use Rattle.iscsi_ports.proofs.Accounts.{accounted_reading}
 use Rattle.iscsi_ports.proofs.mio_sockets.MioSockets.read_ahead.Goals as goal
 
@@ -18,3 +21,41 @@ invariant_of-self-2-clause-accounted c =
 
 pub invariant_of-self-2-clause-ahead_places : goal.invariant_of-self-2-clause-ahead_places
 invariant_of-self-2-clause-ahead_places c = length-set c.args.self.now.ahead.items c.args.c c.fit-left.result ∙ c.args.self.now.ahead_places
+
+pub invariant_of-self-clause-places : goal.invariant_of-self-clause-places
+invariant_of-self-clause-places c = length-set c.args.self.now.streams.items c.args.c c.fill_from-answer.new.place ∙ c.args.self.now.places
+
+pub invariant_of-self-clause-accounted : goal.invariant_of-self-clause-accounted
+invariant_of-self-clause-accounted c = rw c.read_failed.ensures c.args.self.now.accounted
+
+pub invariant_of-self-clause-dropped : goal.invariant_of-self-clause-dropped
+invariant_of-self-clause-dropped c = rw c.read_failed.ensures c.args.self.now.dropped
+
+pub invariant_of-self-2-clause-places : goal.invariant_of-self-2-clause-places
+invariant_of-self-2-clause-places c = length-set c.args.self.now.streams.items c.args.c c.fill_from-answer.new.place ∙ c.args.self.now.places
+
+pub invariant_of-self-2-clause-dropped : goal.invariant_of-self-2-clause-dropped
+invariant_of-self-2-clause-dropped c = rw c.read.ensures c.args.self.now.dropped
+
+pub returns-clause-told : goal.returns-clause-told
+returns-clause-told c =
+    let room = length c.args.buffer.now in
+    let bytes = c.as_slice.result.now in
+    let handed = c.hand-handed.result in
+    let least : min room (length bytes) ≡ handed = omega (arith, c.hand-handed.ensures.count, ap length c.as_slice.ensures) in
+    let piece : take room bytes ≡ take handed c.hand-handed.new.buffer =
+    sym (take_min room bytes) ∙ ap (λ n. take n bytes) least ∙ ap (take handed) c.as_slice.ensures ∙ sym c.hand-handed.ensures.piece in
+    rw c.hand-handed.auto.buffer
+    (ap log_by c.read.ensures ∙ ap (λ piece. log_by c.args.self.now.notes ++ Read c.args.c room (read_carried (Ok piece)) ∷ []) piece)
+
+pub returns-clause-readiness : goal.returns-clause-readiness
+returns-clause-readiness c =
+    let places = c.args.self.now.ahead.items in
+    let handed = c.hand-handed.result in
+    let lt : c.args.c < length places = omega (arith, c.args.self.now.ahead_places) in
+    let place_is : ahead_on c.args.c (set places c.args.c c.fit-left.result) ≡ drop handed c.of-ahead.result =
+    ap bytes_in (get_or-set_same places c.args.c c.fit-left.result None lt) ∙ c.fit-left.ensures ∙ c.hand-handed.ensures.rest in
+    let all : c.in-Ok.count ≡ handed + length (ahead_on c.args.c (set places c.args.c c.fit-left.result)) =
+    omega (arith, c.hand-handed.ensures.count, c.of-ahead.ensures.count, ap length place_is, length-drop handed c.of-ahead.result) in
+    (rw c.in-Ok.is at c.took.ensures)
+    ∙ ap (λ count. after_taking c.args.c (Ok count) 65584 c.args.readiness.now) all

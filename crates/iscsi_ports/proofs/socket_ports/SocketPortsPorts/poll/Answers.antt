@@ -1,7 +1,8 @@
-use Rattle.std.proofs.Common.{◌≡◌, true, false, ap, rules, ◌∙◌}
+use Rattle.std.proofs.Common.{◌≡◌, true, false, sym, ap, rules, ◌∙◌}
 use Rattle.std.specs.Prelude.{option_map}
 use Rattle.std.specs.Duration.{as_nanos}
-use Rattle.iscsi_ports.specs.Asking.{rested, wait_now}
+use Rattle.std.proofs.lemmas.Bool.{false≢true}
+use Rattle.iscsi_ports.specs.Asking.{asks_now, rested, wait_now}
 use Rattle.iscsi_ports.specs.Calls.{named_by}
 use Rattle.iscsi_ports.specs.declared.readiness.Readiness.{Readiness}
 use Rattle.iscsi_ports.proofs.Seeing.{seen_turns}
@@ -41,3 +42,51 @@ returns-in-Err-clause-asked g c =
 
 pub returns-then-not-asks-clause-known : goal.returns-then-not-asks-clause-known
 returns-then-not-asks-clause-known g c = search rules
+
+pub returns-then-not-asks-clause-asked : goal.returns-then-not-asks-clause-asked
+returns-then-not-asks-clause-asked g c = λ asks.
+    absurd (false≢true (sym c.if-not-asks.true ∙ c.is_to_ask-asks.ensures.asks ∙ asks))
+
+pub returns-then-not-asks-clause-after_asking : goal.returns-then-not-asks-clause-after_asking
+returns-then-not-asks-clause-after_asking g c = λ asks.
+    absurd (false≢true (sym c.if-not-asks.true ∙ c.is_to_ask-asks.ensures.asks ∙ asks))
+
+pub returns-then-not-asks-clause-turn : goal.returns-then-not-asks-clause-turn
+returns-then-not-asks-clause-turn g c = λ asks.
+    absurd (false≢true (sym c.if-not-asks.true ∙ c.is_to_ask-asks.ensures.asks ∙ asks))
+
+pub returns-in-Ok-clause-unasked : goal.returns-in-Ok-clause-unasked
+returns-in-Ok-clause-unasked g c = λ rests.
+    let asks : asks_now c.restart.new.self.has_passed c.args.self.now ≡ true =
+    ap (λ passed. asks_now passed c.args.self.now) c.restart.ensures ∙ sym c.is_to_ask-asks.ensures.asks ∙ c.if-not-asks.false in
+    absurd (false≢true (sym rests ∙ asks))
+
+pub returns-in-Ok-clause-after_naming : goal.returns-in-Ok-clause-after_naming
+returns-in-Ok-clause-after_naming g c = λ rests.
+    let asks : asks_now c.restart.new.self.has_passed c.args.self.now ≡ true =
+    ap (λ passed. asks_now passed c.args.self.now) c.restart.ensures ∙ sym c.is_to_ask-asks.ensures.asks ∙ c.if-not-asks.false in
+    absurd (false≢true (sym rests ∙ asks))
+
+pub returns-in-Ok-clause-known : goal.returns-in-Ok-clause-known
+returns-in-Ok-clause-known g c = λ rests.
+    let asks : asks_now c.restart.new.self.has_passed c.args.self.now ≡ true =
+    ap (λ passed. asks_now passed c.args.self.now) c.restart.ensures ∙ sym c.is_to_ask-asks.ensures.asks ∙ c.if-not-asks.false in
+    absurd (false≢true (sym rests ∙ asks))
+
+pub returns-in-Err-clause-unasked : goal.returns-in-Err-clause-unasked
+returns-in-Err-clause-unasked g c = λ rests.
+    let asks : asks_now c.restart.new.self.has_passed c.args.self.now ≡ true =
+    ap (λ passed. asks_now passed c.args.self.now) c.restart.ensures ∙ sym c.is_to_ask-asks.ensures.asks ∙ c.if-not-asks.false in
+    absurd (false≢true (sym rests ∙ asks))
+
+pub returns-in-Err-clause-after_naming : goal.returns-in-Err-clause-after_naming
+returns-in-Err-clause-after_naming g c = λ rests.
+    let asks : asks_now c.restart.new.self.has_passed c.args.self.now ≡ true =
+    ap (λ passed. asks_now passed c.args.self.now) c.restart.ensures ∙ sym c.is_to_ask-asks.ensures.asks ∙ c.if-not-asks.false in
+    absurd (false≢true (sym rests ∙ asks))
+
+pub returns-in-Err-clause-known : goal.returns-in-Err-clause-known
+returns-in-Err-clause-known g c = λ rests.
+    let asks : asks_now c.restart.new.self.has_passed c.args.self.now ≡ true =
+    ap (λ passed. asks_now passed c.args.self.now) c.restart.ensures ∙ sym c.is_to_ask-asks.ensures.asks ∙ c.if-not-asks.false in
+    absurd (false≢true (sym rests ∙ asks))
