@@ -1,8 +1,12 @@
 -- Units of a configuration as they are opened, one after the other.
-use Rattle.std.proofs.Common.{◌≡◌, ℕ, zero, suc, ◌-◌, ◌*◌, ◌/◌, ◌%◌, ◌<◌, List, [], ◌∷◌, ◌++◌, map, refl, sym, ap, subst, ◌∙◌, Bool, true, false, ◌&&◌, IsTrue, arith}
+use Rattle.std.proofs.Common.{◌≡◌, ℕ, ℤ, pos, negsuc, zero, suc, ◌-◌, ◌*◌, ◌/◌, ◌%◌, ◌<◌, List, [], ◌∷◌, ◌++◌, map, refl, sym, ap, subst, ◌∙◌, Bool, true, false, ◌&&◌, IsTrue, w64, arith}
 use Rattle.std.specs.Prelude.{length, replicate, nat_le, String, string_bytes, Contains}
 use Rattle.std.specs.declared.alloc.Global.{Global}
 use Rattle.std.specs.List.{list_all}
+use Rattle.std.proofs.Math.IntN.{nat_abs}
+use Rattle.std.proofs.lemmas.Int.{to_z-of_z}
+use Rattle.std.proofs.lemmas.Grind.{common_steps}
+use mir.Val.{to_z, of_z}
 use Rattle.std.proofs.lemmas.Bool.{lt-ltb, eq-eqb}
 use Rattle.std.proofs.lemmas.List.Elements.{Contains-append_right}
 use Rattle.std.proofs.lemmas.List.{take-replicate, drop-replicate, length-replicate, map-append}
@@ -15,7 +19,7 @@ use Rattle.scsi_unit.specs.Unit.{free_unit}
 use Rattle.target_config.specs.declared.configuration.UnitConfiguration.{UnitConfiguration}
 use Rattle.target_config.specs.declared.configuration.TargetConfiguration.{TargetConfiguration}
 use Rattle.target_config.specs.Configuration.{UnitEntry, TargetEntry, Document, natural, names_of, unit_view, units_view, target_view, targets_view}
-use Rattle.target_config.specs.Limits.{unit_keeps, target_keeps, keeps_limits}
+use Rattle.target_config.specs.Limits.{is_lun, is_serial, unit_keeps, target_keeps, keeps_limits}
 use Rattle.target_units.specs.Opened.{Held, zero_disk, empty_tape, IsMediumOf, IsUnitOf, AreEach}
 
 -- the blocks of zeros are blocks of zeros
@@ -80,6 +84,18 @@ empty_opened capacity early tape before after tail loaded most mark synced failu
     ∙ ap (λ (x : ℕ). record (empty_tape capacity early) { reach = x; atomic = tape.atomic }) reach
     ∙ ap (λ (x : Bool). record (empty_tape capacity early) { atomic = x }) atomic
 
+both : (a b : Bool) → (a && b) ≡ true → (a ≡ true) × (b ≡ true)
+both true b e = (refl, e)
+both false b e = absurd cc
+
+-- the number of a LUN of the file, as it is cast
+lun_is : (lun : ℤ) → is_lun lun ≡ true → nat_abs (to_z w64 (of_z w64 lun)) ≡ natural lun
+lun_is (pos n) kept = grind (arith, common_steps, to_z-of_z)
+lun_is (negsuc n) kept = absurd cc
+
+pub number_is : (unit : UnitEntry) → unit_keeps unit ≡ true → nat_abs (to_z w64 (of_z w64 unit.lun)) ≡ natural unit.lun
+number_is unit kept = lun_is unit.lun (both (is_lun unit.lun) (is_serial unit.serial) kept).0
+
 -- a unit over its medium
 pub unit_over : (held : Held) (entry : UnitEntry) (lun : ℕ) (medium : DeviceState) (unit : UnitState) → unit ≡ free_unit lun entry.serial medium
     → lun ≡ natural entry.lun
@@ -104,10 +120,6 @@ pub each_view_more : {X Y Z : Type 0} (R : Y → Z → Type 0) (view : X → Y) 
     → AreEach R (map view xs) zs → R (view x) z
     → AreEach R (map view (xs ++ x ∷ [])) now
 each_view_more R view xs zs now x z pushed h one = rw (pushed, map-append view xs (x ∷ [])) (each_more R (map view xs) zs (view x) z h one)
-
-both : (a b : Bool) → (a && b) ≡ true → (a ≡ true) × (b ≡ true)
-both true b e = (refl, e)
-both false b e = absurd cc
 
 -- the targets of a configuration that keeps its limits keep theirs
 pub all_kept : (document : Document) → keeps_limits document ≡ true → list_all target_keeps document.targets ≡ true

@@ -60,6 +60,12 @@ module _ (held : Held) where
       (sym (device.0 ∙ number), device.1)
   fault_at unit lun refused whys.Memory number is = tt
 
+  -- a call that fails with this fault
+  pub fails_at : {T : Type 0} (unit : UnitEntry) (refused : Refusal) (result : Result T UnitFault) (why : UnitFault)
+      → IsErrAnd result (λ seen. seen ≡ why) → IsFaultAt held unit refused why → IfErr result (IsFaultAt held unit refused)
+  fails_at unit refused (Ok value) why told is = absurd told
+  fails_at unit refused (Err seen) why told is = subst (IsFaultAt held unit refused) (sym told) is
+
   -- one of the units of a target
   pub fault_in : (units : List UnitEntry) (unit : UnitEntry) (refused : Refusal) (why : UnitFault) → Contains units unit
       → IsFaultAt held unit refused why → IsFaultIn held units refused why
