@@ -4,8 +4,9 @@ use crate::escape::put_escaped;
 use crate::login_names::LoginNames;
 use crate::operation::put_operation;
 use crate::sense::Sensed;
-use crate::violation::Offence;
+use crate::violation::{Offence, put_offence};
 use iscsi_pdu::TaskFunction;
+use jiff::Timestamp;
 use std::alloc::{AllocError, Global};
 use std::net::SocketAddr;
 
@@ -175,7 +176,8 @@ pub(crate) fn violated(
 ) -> Result<String, AllocError> {
     let mut line = ended(alloc, c, has_session, "violation", None)?;
     if let Some(offence) = offence {
-        write!(line, ": {offence}")?;
+        line.push_str(": ")?;
+        put_offence(&mut line, &offence)?;
     }
     Ok(line)
 }
@@ -255,9 +257,18 @@ pub(crate) fn listening(alloc: Global, address: SocketAddr) -> Result<String, Al
     Ok(line)
 }
 
-/// Returns a line with its time and its end.
-pub(crate) fn timed(alloc: Global, time: &str, text: &str) -> Result<String, AllocError> {
+/// Returns a time in UTC, in the form of RFC 3339.
+fn utc(alloc: Global, second: u64) -> Option<String> {
+    let timestamp = Timestamp::from_second(i64::try_from(second).ok()?).ok()?;
+    timestamp.strftime(alloc, "%Y-%m-%dT%H:%M:%SZ").ok()
+}
+
+/// Returns a line with its time and its end, or `None` if an allocation failed or there is no such time.
+pub(crate) fn timed(alloc: Global, second: u64, text: &str) -> Option<String> {
+    let time = utc(alloc, second)?;
     let mut line = String::new(alloc);
-    writeln!(line, "{time} {text}")?;
-    Ok(line)
+    match writeln!(line, "{time} {text}") {
+        Ok(()) => Some(line),
+        Err(AllocError) => None,
+    }
 }

@@ -2,6 +2,7 @@
 //!
 //! No clause says what the system does with a line.
 
+use crate::lines;
 use libc::{STDERR_FILENO, write};
 use mio::unix::SourceFd;
 use mio::{Events, Interest, Poll, Token};
@@ -111,7 +112,7 @@ impl<'r, R: Files<File = File> + Clock> LogFile<'r, R> {
 
     /// Writes a line, if it is taken at once. Ends the line before first, if only a front of that was taken. Returns
     /// whether the line was taken whole.
-    pub(crate) fn put(&mut self, line: &str) -> bool {
+    fn put(&mut self, line: &str) -> bool {
         let Some(descriptor) = self.descriptor() else {
             return false;
         };
@@ -129,6 +130,14 @@ impl<'r, R: Files<File = File> + Clock> LogFile<'r, R> {
         };
         self.is_torn = 0 < count && count < line.len();
         count == line.len()
+    }
+
+    /// Writes a line with this time, if it is taken at once. Returns whether it was taken whole.
+    pub(crate) fn put_timed(&mut self, alloc: Global, second: u64, text: &str) -> bool {
+        match lines::timed(alloc, second, text) {
+            Some(line) => self.put(line.as_str()),
+            None => false,
+        }
     }
 
     /// Returns the descriptor to write to. Closes a file that the path no longer names, and opens the path again.

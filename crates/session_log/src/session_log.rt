@@ -6,7 +6,6 @@ use crate::lines;
 use crate::log_file::LogFile;
 use crate::observed::Observer;
 use crate::sense::Sensed;
-use jiff::Timestamp;
 use std::alloc::{AllocError, Global};
 use std::fs::File;
 use std::net::SocketAddr;
@@ -57,10 +56,11 @@ pub struct SessionLog<'r, R: Files<File = File> + Clock> {
     lost: u64,
 }
 
-/// Returns a time in UTC, in the form of RFC 3339.
-pub(crate) fn utc(alloc: Global, second: u64) -> Option<String> {
-    let timestamp = Timestamp::from_second(i64::try_from(second).ok()?).ok()?;
-    timestamp.strftime(alloc, "%Y-%m-%dT%H:%M:%SZ").ok()
+/// Notes why the connection with this number ends.
+fn note_cause(connections: &mut [Option<Connection>], c: usize, cause: Cause) {
+    if let Some(Some(connection)) = connections.get_mut(c) {
+        connection.cause = Some(cause);
+    }
 }
 
 /// Returns why a connection ended, if its own end says so.
@@ -144,23 +144,12 @@ impl<'r, R: Files<File = File> + Clock> SessionLog<'r, R> {
             let Ok(lost) = lines::lost(self.alloc, self.lost) else {
                 return;
             };
-            if self.is_written(second, lost.as_str()) {
+            if self.file.put_timed(self.alloc, second, lost.as_str()) {
                 self.lost = 0;
             }
         }
-        if !self.is_written(second, text) {
+        if !self.file.put_timed(self.alloc, second, text) {
             self.lost = self.lost.saturating_add(1);
-        }
-    }
-
-    /// Writes a line with this time. Returns whether it was taken.
-    fn is_written(&mut self, second: u64, text: &str) -> bool {
-        let Some(time) = utc(self.alloc, second) else {
-            return false;
-        };
-        match lines::timed(self.alloc, time.as_str(), text) {
-            Ok(line) => self.file.put(line.as_str()),
-            Err(_) => false,
         }
     }
 
@@ -290,19 +279,16 @@ impl<R: Files<File = File> + Clock> Observer for SessionLog<'_, R> {
     }
 
     fn ended(&mut self, c: usize, has_failed: bool) {
-        if let Some(Some(connection)) = self.connections.get_mut(c) {
-            connection.cause = Some(if has_failed {
-                Cause::Failed
-            } else {
-                Cause::Closed
-            });
-        }
+        let cause = if has_failed {
+            Cause::Failed
+        } else {
+            Cause::Closed
+        };
+        note_cause(&mut self.connections, c, cause);
     }
 
     fn starved(&mut self, c: usize) {
-        if let Some(Some(connection)) = self.connections.get_mut(c) {
-            connection.cause = Some(Cause::Starved);
-        }
+        note_cause(&mut self.connections, c, Cause::Starved);
     }
 
     fn closed(&mut self, c: usize) {

@@ -1,8 +1,6 @@
 //! Why nothing is served, as one line of the log.
 
-use crate::lines;
 use crate::log_file::LogFile;
-use crate::session_log::utc;
 use std::alloc::Global;
 use std::fs::{self, File};
 use std::net::Net;
@@ -17,6 +15,16 @@ fn are_one_file(rt: &impl Files<File = File>, one: &str, other: &str) -> bool {
     }
 }
 
+/// Returns whether a path names one of these files.
+fn names_one_of(rt: &impl Files<File = File>, path: &str, units: &[String]) -> bool {
+    for unit in units {
+        if are_one_file(rt, path, unit.as_str()) {
+            return true;
+        }
+    }
+    false
+}
+
 /// Appends a line to the log at this path, or writes it to standard error for `-`. Writes nothing if the path names one
 /// of the files of units, which may not be locked now. A line that cannot be written is lost.
 pub fn tell_start_fault(
@@ -26,21 +34,14 @@ pub fn tell_start_fault(
     units: &[String],
     text: &str,
 ) {
-    for unit in units {
-        if are_one_file(rt, path, unit.as_str()) {
-            return;
-        }
+    if names_one_of(rt, path, units) {
+        return;
     }
     let Ok(path) = String::from_str(alloc, path) else {
         return;
     };
-    let Ok(mut file) = LogFile::open(rt, rt, alloc, path) else {
-        return;
-    };
-    let Some(time) = utc(alloc, file.seconds()) else {
-        return;
-    };
-    if let Ok(line) = lines::timed(alloc, time.as_str(), text) {
-        let _ = file.put(line.as_str());
+    if let Ok(mut file) = LogFile::open(rt, rt, alloc, path) {
+        let second = file.seconds();
+        let _ = file.put_timed(alloc, second, text);
     }
 }

@@ -1,7 +1,7 @@
 //! The rules whose breach closes a connection (RFC 7143), in words.
 
 use iscsi_pdu::{MOST_DATA, Opcode};
-use std::fmt;
+use std::alloc::AllocError;
 
 /// What bounds the data of a sequence (RFC 7143 §11.3.4, §11.8.4, §13.14).
 #[derive(Clone, Copy)]
@@ -98,68 +98,85 @@ fn name(opcode: Opcode) -> Option<&'static str> {
     }
 }
 
-impl fmt::Display for Bound {
-    fn fmt<W: fmt::Write>(&self, f: &mut fmt::Formatter<W>) -> fmt::Result {
-        f.write_str(match self {
-            Bound::FirstBurstLength => "FirstBurstLength",
-            Bound::ExpectedLength => "Expected Data Transfer Length",
-            Bound::Ask => "its R2T",
-        })
+/// Returns the name of a bound.
+fn bound_name(bound: Bound) -> &'static str {
+    match bound {
+        Bound::FirstBurstLength => "FirstBurstLength",
+        Bound::ExpectedLength => "Expected Data Transfer Length",
+        Bound::Ask => "its R2T",
     }
 }
 
-impl fmt::Display for Violation {
-    fn fmt<W: fmt::Write>(&self, f: &mut fmt::Formatter<W>) -> fmt::Result {
-        match *self {
-            Violation::LongSegment { length } => {
-                write!(f, "data segment of {length} bytes, above {MOST_DATA}")
-            }
-            Violation::BeforeFullFeature => f.write_str("before full feature phase"),
-            Violation::InFullFeature => f.write_str("in full feature phase"),
-            Violation::ReservedTag => f.write_str("reserved Initiator Task Tag"),
-            Violation::TagInUse => f.write_str("Initiator Task Tag in use"),
-            Violation::DataWithoutWrite => f.write_str("immediate data without W"),
-            Violation::ImmediateData => f.write_str("immediate data with ImmediateData=No"),
-            Violation::UnsolicitedData => f.write_str("W without F with InitialR2T=Yes"),
-            Violation::LongImmediateData {
-                reached,
-                end,
-                bound,
-            } => write!(f, "immediate data to byte {reached}, past {end} ({bound})"),
-            Violation::NothingDue { tag } => {
-                write!(f, "Target Transfer Tag {tag:08X}h, where no data is due")
-            }
-            Violation::TransferTag { tag, due } => {
-                write!(f, "Target Transfer Tag {tag:08X}h in place of {due:08X}h")
-            }
-            Violation::DataSn { number, due } => write!(f, "DataSN {number} in place of {due}"),
-            Violation::BufferOffset { offset, due } => {
-                write!(f, "Buffer Offset {offset} in place of {due}")
-            }
-            Violation::LongData {
-                reached,
-                end,
-                bound,
-            } => write!(f, "data to byte {reached}, past {end} ({bound})"),
-            Violation::EarlyFinal { reached, end } => {
-                write!(f, "F at byte {reached}, before {end} (its R2T)")
-            }
-            Violation::NoFinal { end } => write!(f, "no F at byte {end} (its R2T)"),
+/// Appends a Buffer Offset that came, and the one that was due.
+fn put_offset(line: &mut String, offset: usize, due: usize) -> Result<(), AllocError> {
+    write!(line, "Buffer Offset {offset} in place of {due}")
+}
+
+/// Appends the byte that was reached, and on which side of a bound it lies.
+fn put_reached(
+    line: &mut String,
+    what: &str,
+    reached: usize,
+    side: &str,
+    end: usize,
+    bound: Bound,
+) -> Result<(), AllocError> {
+    let name = bound_name(bound);
+    write!(line, "{what} byte {reached}, {side} {end} ({name})")
+}
+
+/// Appends a rule, and how a PDU broke it.
+fn put_violation(line: &mut String, violation: Violation) -> Result<(), AllocError> {
+    match violation {
+        Violation::LongSegment { length } => {
+            write!(line, "data segment of {length} bytes, above {MOST_DATA}")
         }
+        Violation::BeforeFullFeature => line.push_str("before full feature phase"),
+        Violation::InFullFeature => line.push_str("in full feature phase"),
+        Violation::ReservedTag => line.push_str("reserved Initiator Task Tag"),
+        Violation::TagInUse => line.push_str("Initiator Task Tag in use"),
+        Violation::DataWithoutWrite => line.push_str("immediate data without W"),
+        Violation::ImmediateData => line.push_str("immediate data with ImmediateData=No"),
+        Violation::UnsolicitedData => line.push_str("W without F with InitialR2T=Yes"),
+        Violation::LongImmediateData {
+            reached,
+            end,
+            bound,
+        } => put_reached(line, "immediate data to", reached, "past", end, bound),
+        Violation::NothingDue { tag } => {
+            write!(line, "Target Transfer Tag {tag:08X}h, where no data is due")
+        }
+        Violation::TransferTag { tag, due } => {
+            write!(
+                line,
+                "Target Transfer Tag {tag:08X}h in place of {due:08X}h"
+            )
+        }
+        Violation::DataSn { number, due } => write!(line, "DataSN {number} in place of {due}"),
+        Violation::BufferOffset { offset, due } => put_offset(line, offset, due),
+        Violation::LongData {
+            reached,
+            end,
+            bound,
+        } => put_reached(line, "data to", reached, "past", end, bound),
+        Violation::EarlyFinal { reached, end } => {
+            put_reached(line, "F at", reached, "before", end, Bound::Ask)
+        }
+        Violation::NoFinal { end } => write!(line, "no F at byte {end} (its R2T)"),
     }
 }
 
-impl fmt::Display for Offence {
-    fn fmt<W: fmt::Write>(&self, f: &mut fmt::Formatter<W>) -> fmt::Result {
-        let tag = self.tag;
-        match (name(self.opcode), self.opcode) {
-            (None, Opcode::Other(number)) => write!(f, "opcode {number:02X}h ({tag:08X}h), ")?,
-            (None, _) => write!(f, "a PDU ({tag:08X}h), ")?,
-            (Some(name), _) => write!(f, "{name} ({tag:08X}h), ")?,
-        }
-        match self.violation {
-            Some(violation) => write!(f, "{violation}"),
-            None => f.write_str("a rule that is not known"),
-        }
+/// Appends the PDU that closed its connection, and the rule that it broke.
+pub(crate) fn put_offence(line: &mut String, offence: &Offence) -> Result<(), AllocError> {
+    let tag = offence.tag;
+    match (name(offence.opcode), offence.opcode) {
+        (None, Opcode::Other(number)) => write!(line, "opcode {number:02X}h")?,
+        (None, _) => line.push_str("a PDU")?,
+        (Some(name), _) => line.push_str(name)?,
+    }
+    write!(line, " ({tag:08X}h), ")?;
+    match offence.violation {
+        Some(violation) => put_violation(line, violation),
+        None => line.push_str("a rule that is not known"),
     }
 }
