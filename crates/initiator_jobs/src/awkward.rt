@@ -12,7 +12,7 @@ use crate::random::Random;
 use crate::requests::{
     Command, Header, READY, abort_task, data_out, ping, scsi_command, text, transfer,
 };
-use std::alloc::Global;
+use std::alloc::{AllocError, Global};
 
 /// The number of blocks of the disk: 64 MiB.
 const BLOCKS: usize = 131_072;
@@ -144,14 +144,11 @@ impl Trial {
     }
 
     /// Returns a text of about `length` bytes, with unknown keys.
-    fn long_text(&mut self, length: usize) -> Result<Vec<u8>, Fault> {
-        let mut all = Vec::with_capacity(self.alloc, length)?;
+    fn long_text(&mut self, length: usize) -> Result<String, AllocError> {
+        let mut all = String::with_capacity(self.alloc, length)?;
         for number in 0..length / 64 {
             let value = self.line.random.number();
-            let pair = format!(in self.alloc;
-                "X-com.example.key{number}={value:016x}{value:016x}\0"
-            )?;
-            all.extend_from_slice(pair.as_bytes())?;
+            write!(all, "X-com.example.key{number}={value:016x}{value:016x}\0")?;
         }
         Ok(all)
     }
@@ -176,7 +173,7 @@ impl Trial {
     /// Sends a text of 64 KiB in pieces of 512 bytes, and requests its answer piece by piece.
     fn text_in_pieces(&mut self) -> Result<(), Fault> {
         let all = self.long_text(65_000)?;
-        self.send_pieces(all.as_slice())?;
+        self.send_pieces(all.as_bytes())?;
         for _ in 0..all.len() {
             if self.host.answers.flags & 0x40 == 0 {
                 break;

@@ -65,8 +65,8 @@ fn discover(line: &mut Line, host: &mut Host) -> Result<(), Fault> {
 
 /// Asks what an initiator asks first.
 fn look(line: &mut Line, host: &mut Host) -> Result<(), Fault> {
-    for (cdb, expected) in QUESTIONS {
-        ask(line, host, cdb, expected)?;
+    for (cdb, expected) in QUESTIONS.iter() {
+        ask(line, host, *cdb, *expected)?;
     }
     Ok(())
 }

@@ -23,35 +23,47 @@ pub fn name_of(number: usize) -> &'static str {
     NAMES[number % 4]
 }
 
-/// Returns a disk of `blocks` blocks, which has this LUN.
-fn disk(alloc: Global, lun: u8, blocks: usize) -> Result<Unit<MemStore>, Fault> {
+/// Returns a unit alone in its target.
+fn alone(alloc: Global, unit: Unit<MemStore>) -> Result<Units<MemStore>, Fault> {
+    let mut units = Vec::new(alloc);
+    units.push(unit)?;
+    Ok(Units::new(alloc, units)?)
+}
+
+/// Returns a disk of `blocks` blocks, which has LUN 0.
+fn disk(alloc: Global, blocks: usize) -> Result<Units<MemStore>, Fault> {
     let length = blocks.min(1 << 24) * BLOCK_LENGTH;
-    let store = MemStore::new(alloc, length, length)?;
+    let disk = Disk::open(MemStore::new(alloc, length, length)?)?;
     let serial = Serial::new(String::from_str(alloc, "DISK")?);
-    Ok(Unit::disk(alloc, lun.min(15), serial, Disk::open(store)?))
+    alone(alloc, Unit::disk(alloc, 0, serial, disk))
 }
 
 /// Returns a tape of `capacity` bytes, which has LUN 0.
-fn tape(alloc: Global, capacity: usize) -> Result<Unit<MemStore>, Fault> {
+fn tape(alloc: Global, capacity: usize) -> Result<Units<MemStore>, Fault> {
     let store = MemStore::new(alloc, 0, capacity)?;
-    let serial = Serial::new(String::from_str(alloc, "TAPE")?);
     let tape = Tape::open(alloc, store, capacity as u64, capacity as u64)?;
-    Ok(Unit::tape(alloc, 0, serial, tape))
+    let serial = Serial::new(String::from_str(alloc, "TAPE")?);
+    alone(alloc, Unit::tape(alloc, 0, serial, tape))
+}
+
+/// Returns the names of the first `count` targets.
+fn names(alloc: Global, count: usize) -> Result<Vec<String>, Fault> {
+    let mut names = Vec::new(alloc);
+    for number in 0..count {
+        names.push(String::from_str(alloc, name_of(number))?)?;
+    }
+    Ok(names)
 }
 
 /// Returns targets with these units.
 fn targets(alloc: Global, units: Vec<Units<MemStore>>) -> Result<Targets, Fault> {
-    let mut names = Vec::new(alloc);
-    for number in 0..units.len() {
-        names.push(String::from_str(alloc, name_of(number))?)?;
-    }
-    if names.len() != units.len() {
-        return Err(Fault::Unopened);
-    }
     let config = Config {
         listen: String::from_str(alloc, "192.0.2.1:3260")?,
-        targets: names,
+        targets: names(alloc, units.len())?,
     };
+    if config.targets.len() != units.len() {
+        return Err(Fault::Unopened);
+    }
     Ok(Target::new(alloc, config, units)?)
 }
 
@@ -59,18 +71,14 @@ fn targets(alloc: Global, units: Vec<Units<MemStore>>) -> Result<Targets, Fault>
 pub fn disks(alloc: Global, count: usize, blocks: usize) -> Result<Targets, Fault> {
     let mut all = Vec::new(alloc);
     for _ in 0..count {
-        let mut units = Vec::new(alloc);
-        units.push(disk(alloc, 0, blocks)?)?;
-        all.push(Units::new(alloc, units)?)?;
+        all.push(disk(alloc, blocks)?)?;
     }
     targets(alloc, all)
 }
 
 /// Returns a target with a tape of `capacity` bytes.
 pub fn one_tape(alloc: Global, capacity: usize) -> Result<Targets, Fault> {
-    let mut units = Vec::new(alloc);
-    units.push(tape(alloc, capacity)?)?;
     let mut all = Vec::new(alloc);
-    all.push(Units::new(alloc, units)?)?;
+    all.push(tape(alloc, capacity)?)?;
     targets(alloc, all)
 }

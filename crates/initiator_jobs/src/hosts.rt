@@ -38,8 +38,8 @@ const QUESTIONS: [(Cdb, usize); 3] = [
 fn start(line: &mut Line, initiator: &mut Initiator) -> Result<(), Fault> {
     initiator.log_in(line)?;
     let host = &mut initiator.host;
-    for (cdb, expected) in QUESTIONS {
-        line.send(host, &Command::reading(cdb, expected))?;
+    for (cdb, expected) in QUESTIONS.iter() {
+        line.send(host, &Command::reading(*cdb, *expected))?;
     }
     line.reserve(host, 6, 0, [0, key_of(host)])
 }

@@ -6,7 +6,7 @@ use crate::host::Host;
 use crate::line::Line;
 use crate::random::Random;
 use crate::requests::{Header, login, text};
-use std::alloc::Global;
+use std::alloc::{AllocError, Global};
 
 /// The length of the longest data segment that both sides take.
 pub const SEGMENT: usize = 262_144;
@@ -100,7 +100,7 @@ const WAYS: [Way; 8] = [
 #[derive(Drop)]
 struct Part {
     stages: u8,
-    text: Vec<u8>,
+    text: String,
 }
 
 /// An initiator that always logs in the same way.
@@ -110,7 +110,7 @@ pub struct Initiator {
     isid: [u8; 6],
     parts: Vec<Part>,
     /// What it asks in full feature phase.
-    question: Vec<u8>,
+    question: String,
     alloc: Global,
 }
 
@@ -137,46 +137,46 @@ impl Initiator {
     }
 
     /// Adds a Login Request.
-    fn add(&mut self, stages: u8, texts: &[&str]) -> Result<(), Fault> {
-        let mut all = Vec::new(self.alloc);
+    fn add(&mut self, stages: u8, texts: &[&str]) -> Result<(), AllocError> {
+        let mut all = String::new(self.alloc);
         for text in texts.iter() {
-            all.extend_from_slice(text.as_bytes())?;
+            all.push_str(text)?;
         }
         self.parts.push(Part { stages, text: all })?;
         Ok(())
     }
 
     /// Adds unknown keys to the last Login Request: three for each unit of `more`, but at most 20.
-    fn add_further_keys(&mut self, more: usize) -> Result<(), Fault> {
+    fn add_further_keys(&mut self, more: usize) -> Result<(), AllocError> {
         let keys = further_keys(self.alloc, more.saturating_mul(3).min(20))?;
         if let Some(part) = self.parts.last_mut() {
-            part.text.extend_from_slice(keys.as_slice())?;
+            part.text.push_str(keys.as_str())?;
         }
         Ok(())
     }
 
     /// Returns the keys with which it names itself and the target.
-    fn names(&self, way: Way, target: &str) -> Result<String, Fault> {
+    fn names(&self, way: Way, target: &str) -> Result<String, AllocError> {
         let number = self.host.number;
         let (name, alias, kind) = match way {
             Way::Libiscsi => ("iqn.2007-10.com.github:sahlberg:libiscsi:iscsi-inq", "", ""),
             Way::OpenIscsi => ("iqn.2026-11.bench:", ALIAS, NORMAL),
             _ => ("iqn.2024-01.com.example:guest-", ALIAS, NORMAL),
         };
-        Ok(format!(in self.alloc;
+        format!(in self.alloc;
             "InitiatorName={name}{number:02}\0{alias}TargetName={target}\0{kind}"
-        )?)
+        )
     }
 
     /// Adds the Login Requests of a way, the last with further keys.
-    fn add_login(&mut self, way: Way, target: &str, more: usize) -> Result<(), Fault> {
+    fn add_login(&mut self, way: Way, target: &str, more: usize) -> Result<(), AllocError> {
         let names = self.names(way, target)?;
         self.add_texts(way, names.as_str())?;
         self.add_further_keys(more)
     }
 
     /// Adds the Login Requests of a way, the first of which begins with the names.
-    fn add_texts(&mut self, way: Way, names: &str) -> Result<(), Fault> {
+    fn add_texts(&mut self, way: Way, names: &str) -> Result<(), AllocError> {
         match way {
             Way::Libiscsi => self.add(TO_FULL_FEATURE, &[names, LIBISCSI_KEYS]),
             Way::OpenIscsi | Way::Guest => {
@@ -197,10 +197,10 @@ impl Initiator {
     }
 
     /// Adds the login of a guest in eight texts of one stage, with bursts of 64 KiB.
-    fn add_eight_texts(&mut self, names: &str) -> Result<(), Fault> {
+    fn add_eight_texts(&mut self, names: &str) -> Result<(), AllocError> {
         self.add(STAYS, &[names])?;
-        for (stages, text) in SEVEN_TEXTS {
-            self.add(stages, &[text])?;
+        for (stages, text) in SEVEN_TEXTS.iter() {
+            self.add(*stages, &[*text])?;
         }
         Ok(())
     }
@@ -211,7 +211,7 @@ impl Initiator {
         for part in self.parts.iter() {
             let header = part.header(self.isid, self.host.cmd_sn());
             line.wire.begin(0);
-            line.wire.lay_text(&header, part.text.as_slice());
+            line.wire.lay_text(&header, part.text.as_bytes());
             self.host.expect();
             line.exchange(&mut self.host)?;
         }
@@ -221,7 +221,7 @@ impl Initiator {
     /// Sends a Text Request of 17 to 40 keys.
     pub fn ask(&mut self, line: &mut Line) -> Result<(), Fault> {
         let (tag, cmd_sn) = (self.host.next_tag(), self.host.next_cmd_sn());
-        let asked = self.question.as_slice();
+        let asked = self.question.as_bytes();
         line.wire.begin(0);
         line.wire
             .lay_text(&text(0x80, tag, 0xffff_ffff, cmd_sn, asked.len()), asked);
@@ -252,11 +252,10 @@ impl Part {
 }
 
 /// Returns a text of `count` unknown keys.
-fn further_keys(alloc: Global, count: usize) -> Result<Vec<u8>, Fault> {
-    let mut all = Vec::new(alloc);
+fn further_keys(alloc: Global, count: usize) -> Result<String, AllocError> {
+    let mut all = String::new(alloc);
     for number in 0..count {
-        let pair = format!(in alloc; "X-com.example.key{number:02}=value{number:02}\0")?;
-        all.extend_from_slice(pair.as_bytes())?;
+        write!(all, "X-com.example.key{number:02}=value{number:02}\0")?;
     }
     Ok(all)
 }

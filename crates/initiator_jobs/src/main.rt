@@ -91,8 +91,8 @@ fn run_words(rt: &HostRuntime, words: &[String]) -> Result<(), Fault> {
     if job.as_str() != "all" {
         return run_job(rt, job.as_str(), seed, rounds);
     }
-    for job in JOBS {
-        run_job(rt, job, seed, rounds)?;
+    for job in JOBS.iter() {
+        run_job(rt, *job, seed, rounds)?;
     }
     Ok(())
 }
