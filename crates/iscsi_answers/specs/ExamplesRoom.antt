@@ -1,9 +1,9 @@
 -- Room for the answers to a READ of 1 MiB, computed.
-use Rattle.std.specs.Prelude.{◌≡◌, ℕ, ◌+◌, ◌*◌, [], ◌∷◌, ◌++◌, replicate, refl}
+use Rattle.std.specs.Prelude.{◌≡◌, ℕ, ◌+◌, ◌*◌, [], ◌∷◌, ◌++◌, replicate, true, false, refl}
 use Rattle.iscsi_pdu.specs.Frames.{Frame}
 use Rattle.iscsi_login.specs.Values.{default_values}
 use Rattle.iscsi_login.specs.declared.values.Values.{Values}
-use Rattle.iscsi_answers.specs.Room.{room_for}
+use Rattle.iscsi_answers.specs.Room.{room_for, lies_in_pieces}
 
 -- F and R, and the Expected Data Transfer Length
 abbrev read : Frame
@@ -24,3 +24,7 @@ short_pieces = refl
 -- so are pieces with padding, four in each of four bursts
 padded_pieces : room_for (cut_at 65537) read ≡ 16 * 51 + 1048576 + 68
 padded_pieces = refl
+
+-- of these three, the first is to lie in pieces
+laid_out : (lies_in_pieces (cut_at 262144) read ≡ true) × (lies_in_pieces (cut_at 8192) read ≡ false) × (lies_in_pieces (cut_at 65537) read ≡ false)
+laid_out = (refl, refl, refl)

@@ -1,9 +1,10 @@
 -- How much room the answers to a command take, known before it is done.
-use Rattle.std.specs.Prelude.{ℕ, ◌+◌, ◌*◌, min, Bool, ◌&&◌, ◌||◌, not, nat_lt, if◌then◌else◌}
+use Rattle.std.specs.Prelude.{ℕ, ◌+◌, ◌*◌, ◌%◌, min, Bool, ◌==◌, ◌&&◌, ◌||◌, not, nat_lt, if◌then◌else◌}
 use Rattle.iscsi_pdu.specs.ScsiCommand.{is_read, is_write, expected_transfer_length}
 use Rattle.iscsi_pdu.specs.Frames.{Frame}
 use Rattle.iscsi_transfer.specs.DataIn.{piece_count}
-use Rattle.iscsi_outbox.specs.Answer.{is_aligned, limits_of}
+use Rattle.iscsi_outbox.specs.Answer.{is_aligned, are_even, limits_of, shorter}
+use Rattle.media_block.specs.Blocks.{block_length}
 use Rattle.scsi_disk.specs.DiskCommands.{most_given}
 use Rattle.iscsi_login.specs.declared.values.Values.{Values}
 
@@ -18,6 +19,12 @@ cuts_long values = is_aligned (limits_of values) && not (nat_lt values.max_burst
 -- own: how much data of a command is copied at most; if its pieces are long, more data is sent from where it lies
 abbrev pub most_copied : Values → Frame → ℕ
 most_copied values frame = if nat_lt 16384 (most_sent frame) && cuts_long values then 2048 else most_sent frame
+
+-- own: whether the data of a command is to lie in pieces, as they are sent: if there may be much of it, in pieces of one
+-- length, which are whole blocks
+abbrev pub lies_in_pieces : Values → Frame → Bool
+lies_in_pieces values frame =
+    nat_lt 16384 (most_sent frame) && cuts_long values && are_even (limits_of values) && shorter (limits_of values) % block_length == 0
 
 -- the most Data-Ins that are copied
 abbrev pub most_pieces : Values → Frame → ℕ

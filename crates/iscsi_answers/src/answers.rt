@@ -5,6 +5,7 @@ ghost use Rattle.scsi_sense.specs.Given.{headroom, tailroom};
 ghost use Rattle.scsi_sense.specs.Sense.{sense_bytes};
 ghost use Rattle.iscsi_pdu.specs.Answer.{spelling};
 ghost use Rattle.iscsi_login.specs.Values.{AreInRange};
+ghost use Rattle.iscsi_outbox.specs.Answer.{AreAligned, answered};
 ghost use Rattle.iscsi_answers.specs.Answers.{expected_length, data_sent, scsi_answer, command_answers, residual_of};
 ghost use Rattle.scsi_disk.specs.DiskCommands.{most_given};
 ghost use Rattle.iscsi_answers.specs.Room.{room_for};
@@ -13,7 +14,7 @@ use crate::data_ins::{count_of, put_alone, put_data, shared_fields};
 use crate::making_room::{LONGEST_RESPONSE, is_long, limits_for};
 use bytes::BytesMut;
 use iscsi_login::Values;
-use iscsi_outbox::{DataIns, Outbox};
+use iscsi_outbox::{DataIns, Limits, Outbox, SharedFields};
 use iscsi_pdu::{Answer, Frame, Residual, ScsiResponse, Stamp};
 use scsi_sense::{Done, Given, HEADROOM};
 use std::alloc::Global;
@@ -93,6 +94,43 @@ fn sent_buffer(given: Given, sent: usize) -> BytesMut
     buffer
 }
 
+/// Returns the bytes of a command's data that are sent, where it lies together.
+fn sent_slice(buffer: &BytesMut, sent: usize) -> &[u8]
+    requires { sent ≤ length (drop headroom buffer.now.items) }
+    ensures { result.now ≡ take sent (drop headroom buffer.now.items) }
+{
+    if sent == 0 {
+        return &[];
+    }
+    &buffer.as_slice()[HEADROOM..HEADROOM + sent]
+}
+
+/// Returns the answers to a command that returned much data, of which `sent` bytes are sent, and `last`, which ends them.
+/// No byte of the data is copied. If it lies in pieces as they are sent, all that is sent lies together.
+fn long_answers(
+    given: Given,
+    sent: usize,
+    shared: SharedFields,
+    limits: Limits,
+    last: &Answer,
+) -> DataIns
+    requires some { 0 < sent }
+    requires within { sent ≤ length given }
+    requires short { length given ≤ most_given }
+    requires last { length (spelling last.now) ≤ LONGEST_RESPONSE }
+    requires limits { AreAligned limits }
+    ensures { result ≡ answered shared limits (take sent given) (spelling last.now) }
+{
+    let laid = match limits.piece() {
+        Some(piece) if sent == given.len() => given.into_pieces(piece),
+        _ => Err(given),
+    };
+    match laid {
+        Ok((buffer, count)) => DataIns::in_pieces(buffer, count, shared, limits, last),
+        Err(given) => DataIns::new(sent_buffer(given, sent), shared, limits, last),
+    }
+}
+
 /// Queues a command's Data-Ins and its SCSI Response. There must be room for them
 /// ([`make_room`](crate::make_room)), so no memory is allocated. Returns a buffer for reuse, if there is
 /// one.
@@ -118,15 +156,16 @@ pub fn put_answers(
     let response = response(numbers, frame, &done, count as u32);
     if let Some(limits) = limits_for(values, frame, sent) {
         let shared = shared_fields(numbers, frame);
-        let buffer = sent_buffer(done.given, sent);
-        out.put_data(alloc, DataIns::new(buffer, shared, limits, &response));
+        let answers = long_answers(done.given, sent, shared, limits, &response);
+        out.put_data(alloc, answers);
         return None;
     }
     if count == 1 && !is_long(frame) && out.is_empty() {
         let buffer = sent_buffer(done.given, sent);
         return Some(put_alone(out, numbers, values, frame, buffer, &response));
     }
-    put_data(out, numbers, values, frame, &done.given.as_slice()[..sent]);
+    let buffer = done.given.into_buffer();
+    put_data(out, numbers, values, frame, sent_slice(&buffer, sent));
     out.put(&response);
-    Some(done.given.into_buffer())
+    Some(buffer)
 }

@@ -1,10 +1,11 @@
 //! Room for the answers to a command, made before the command is done.
 
-ghost use Rattle.std.specs.Prelude.{◌≡◌, ◌≤◌, ◌<◌, ◌+◌, nat_lt, is_some, IfSome, IfNone, OnOk};
+ghost use Rattle.std.specs.Prelude.{◌≡◌, ◌≤◌, ◌<◌, ◌+◌, ◌*◌, nat_lt, is_some, IfSome, IfNone, OnOk};
 ghost use Rattle.iscsi_login.specs.Values.{AreInRange};
-ghost use Rattle.iscsi_outbox.specs.Answer.{AreAligned, limits_of};
+ghost use Rattle.iscsi_outbox.specs.Answer.{AreAligned, limits_of, shorter};
+ghost use Rattle.media_block.specs.Blocks.{block_length};
 ghost use Rattle.scsi_disk.specs.DiskCommands.{most_given};
-ghost use Rattle.iscsi_answers.specs.Room.{room_for, cuts_long, most_copied, most_pieces, most_sent as most_data_sent};
+ghost use Rattle.iscsi_answers.specs.Room.{room_for, cuts_long, lies_in_pieces, most_copied, most_pieces, most_sent as most_data_sent};
 
 use crate::data_ins::count_of;
 use iscsi_login::Values;
@@ -90,6 +91,23 @@ pub(crate) fn limits_for(values: &Values, frame: &Frame, sent: usize) -> Option<
         return None;
     }
     long_limits(values)
+}
+
+/// Returns of how many blocks the pieces are in which the data of a command is to lie once it is read, each after room for
+/// its header. `None` means that it is to lie together: there may be little of it, or it is not cut at whole blocks.
+pub fn piece_for(values: &Values, frame: &Frame) -> Option<u32>
+    requires { AreInRange values.now }
+    ensures some { is_some result ≡ lies_in_pieces values.now frame.now }
+    ensures value { IfSome result (λ piece. block_length * piece ≡ shorter (limits_of values.now)) }
+{
+    if !is_long(frame) {
+        return None;
+    }
+    let piece = long_limits(values)?.piece()?;
+    if piece % BLOCK_LENGTH != 0 {
+        return None;
+    }
+    Some((piece / BLOCK_LENGTH) as u32)
 }
 
 /// Returns how many Data-Ins are copied for a command, at most.

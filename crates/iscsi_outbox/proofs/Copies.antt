@@ -1,5 +1,5 @@
 -- What is left of an answer is copied.
-use Rattle.std.proofs.Common.{◌≡◌, ℕ, zero, suc, ◌+◌, ◌-◌, ◌<◌, ◌≤◌, ◌^◌, max, List, [], ◌∷◌, ◌++◌, length, take, drop, slice_get, Some, refl, ap, sym, ◌∙◌, arith, append_assoc}
+use Rattle.std.proofs.Common.{◌≡◌, ℕ, zero, suc, ◌+◌, ◌-◌, ◌<◌, ◌≤◌, ◌^◌, max, List, [], ◌∷◌, ◌++◌, length, take, drop, slice_get, Some, ap, sym, ◌∙◌, arith, append_assoc}
 use Rattle.std.specs.List.{flat_map, enumerate_from, slice_range}
 use Rattle.std.proofs.lemmas.List.{append-nil, drop_all, take_all, length-drop}
 use Rattle.scsi_sense.specs.Given.{headroom}
@@ -12,7 +12,7 @@ use Rattle.iscsi_outbox.specs.Cut.{AreCut}
 use Rattle.iscsi_outbox.specs.Cursor.{all_pieces, pieces_left, left, IsPlaced}
 use Rattle.iscsi_outbox.proofs.Cuts.{pieces_are_cut}
 
-cut_at : (size burst from : ℕ) (pieces : List Piece) (k : ℕ) (piece : Piece) → AreCut size burst from size pieces → slice_get pieces k ≡ Some piece
+pub cut_at : (size burst from : ℕ) (pieces : List Piece) (k : ℕ) (piece : Piece) → AreCut size burst from size pieces → slice_get pieces k ≡ Some piece
     → (piece.offset + piece.length ≤ size) × (piece.length ≤ burst) × (from + k ≤ piece.offset)
 cut_at size burst from [] k piece cut found = absurd cc
 cut_at size burst from (p ∷ ps) zero piece cut found =

@@ -4,3 +4,4 @@ pub mod Starts
 pub mod Runs
 pub mod Copies
 pub mod Wholes
+pub mod Written

@@ -165,6 +165,7 @@ settles_ready c buffer head p placed found long written =
     let lies = after.is_cut.within in
     let room = placed.within in
     let early = placed.early in
+    let more : c.offset < c.length = omega arith in
     let same : length buffer.items ≡ length c.buffer.items =
     ap (λ (xs : List ℕ). length xs) written ∙ simp (length-append, length-take, length-drop) (omega arith) in
     record {
@@ -178,11 +179,11 @@ settles_ready c buffer head p placed found long written =
         early = omega arith;
         cut = after.others;
         by_4 = after.is_cut.aligned;
-        ends = record {
-          pdus = placed.ends.pdus;
+        ends = λ _. record {
+          pdus = (placed.ends more).pdus;
           spelled =
               ap (drop (headroom + c.length)) written
-              ∙ behind c.buffer.items head c.offset (headroom + c.length) long (omega arith) (omega arith) ∙ placed.ends.spelled;
+              ∙ behind c.buffer.items head c.offset (headroom + c.length) long (omega arith) (omega arith) ∙ (placed.ends more).spelled;
         };
       };
       some = λ _. omega arith;

@@ -1,7 +1,7 @@
 -- What a new cursor has to send is the answer, and how long that is.
 use Rattle.std.proofs.Common.{◌≡◌, ℕ, ◌+◌, ◌-◌, ◌*◌, ◌%◌, ◌^◌, ◌<◌, ◌≤◌, max, List, [], ◌∷◌, ◌++◌, length, map, take, drop, replicate, refl, ap, sym, ◌∙◌, inl, inr, arith, length-drop, append_assoc}
 use Rattle.std.specs.List.{flat_map, enumerate_from}
-use Rattle.std.proofs.lemmas.List.{append-nil, drop_at, drop-append-le, take-append-le, take-replicate, length-append, length-take, length-replicate}
+use Rattle.std.proofs.lemmas.List.{append-nil, drop_at, drop-append-le, take-append-le, take-replicate, take-append-drop, length-append, length-take, length-replicate}
 use Rattle.std.proofs.lemmas.Bool.{cases_lt}
 use Rattle.bytes.specs.Filled.{Filled}
 use Rattle.scsi_sense.specs.Given.{headroom}
@@ -16,13 +16,13 @@ use Rattle.iscsi_outbox.specs.declared.limits.Limits.{Limits}
 use Rattle.iscsi_outbox.specs.declared.cursor.Cursor.{Cursor}
 use Rattle.iscsi_outbox.specs.Answer.{AreAligned, fields_of, data_in, answered, unpadded}
 use Rattle.iscsi_outbox.specs.Cut.{AreCut}
-use Rattle.iscsi_outbox.specs.Cursor.{pieces_left, left, IsPlaced}
+use Rattle.iscsi_outbox.specs.Cursor.{pieces_left, left, IsPlaced, IsReady}
 use Rattle.iscsi_outbox.proofs.Cuts.{pieces_are_cut}
 use Rattle.iscsi_outbox.proofs.Moves.{no_piece}
 
 -- ---- only the last piece has padding
 
-abbrev padding : ℕ → List ℕ
+abbrev pub padding : ℕ → List ℕ
 padding n = replicate (padded n - n) 0
 
 no_padding : (n : ℕ) → n % 4 ≡ 0 → padding n ≡ []
@@ -117,7 +117,7 @@ start_placed buffer shared limits items last size aligned short long written =
       early = omega arith;
       cut = pieces_are_cut size limits.burst limits.segment aligned.burst aligned.segment aligned.burst_by_4 aligned.segment_by_4;
       by_4 = λ _. refl;
-      ends = record {
+      ends = λ _. record {
         pdus = last ∷ [];
         spelled =
             ap (drop (headroom + size)) (written ∙ append_assoc items (padding size) (spelling last))
@@ -145,6 +145,53 @@ start_answered buffer shared limits items last size aligned long written =
     ∙ sym (append_assoc (flat_map (unpadded shared (d ++ tail)) (enumerate_from 0 pieces)) (padding size) last)
     ∙ ap (λ (xs : List ℕ). xs ++ last) (sym (padded_last size limits.burst 0 pieces 0 shared d tail refl size_is cut))
     ∙ ap (λ (n : ℕ). flat_map spelling (map (data_in shared d) (enumerate_from 0 (pieces_of n limits.burst limits.segment))) ++ last) size_is
+
+-- an answer that lies ready
+abbrev pub all_ready : Filled → SharedFields → Limits → Cursor
+all_ready buffer shared limits =
+    record { buffer = buffer; shared = shared; limits = limits; length = 0; number = 0; offset = 0; at = 0 }
+
+no_pieces : (limits : Limits) → AreAligned limits → pieces_of 0 limits.burst limits.segment ≡ []
+no_pieces limits aligned =
+    no_piece 0 limits.burst 0 (pieces_of 0 limits.burst limits.segment) refl
+    (pieces_are_cut 0 limits.burst limits.segment aligned.burst aligned.segment aligned.burst_by_4 aligned.segment_by_4)
+
+pub ready_left : (buffer : Filled) (shared : SharedFields) (limits : Limits) → AreAligned limits → left (all_ready buffer shared limits) ≡ buffer.items
+unfolding left pieces_left
+ready_left buffer shared limits aligned =
+    ap (λ (ps : List Piece). take headroom buffer.items
+    ++ (flat_map (unpadded shared (drop headroom buffer.items)) (enumerate_from 0 ps) ++ drop headroom buffer.items)) (no_pieces limits aligned)
+    ∙ take-append-drop headroom buffer.items
+
+pub ready_is : (buffer : Filled) (shared : SharedFields) (limits : Limits) → AreAligned limits → headroom ≤ length buffer.items
+    → IsReady (all_ready buffer shared limits)
+unfolding pieces_left
+ready_is buffer shared limits aligned room = record {
+  placed = record {
+    limits = aligned;
+    short = omega arith;
+    within = omega arith;
+    at = omega arith;
+    near = λ more. absurd (omega (arith, more));
+    below = omega arith;
+    early = omega arith;
+    cut = pieces_are_cut 0 limits.burst limits.segment aligned.burst aligned.segment aligned.burst_by_4 aligned.segment_by_4;
+    by_4 = λ more. refl;
+    ends = λ more. absurd (omega (arith, more));
+  };
+  some = λ more. absurd (omega (arith, more));
+}
+
+-- pieces after their headers, and what ends the answer
+pub laid_answered : (shared : SharedFields) (limits : Limits) (d last written : List ℕ) (size : ℕ) → AreAligned limits → size ≡ length d
+    → written ≡ (flat_map (unpadded shared d) (enumerate_from 0 (pieces_of size limits.burst limits.segment)) ++ padding size) ++ last
+    → written ≡ answered shared limits d last
+laid_answered shared limits d last written size aligned is laid =
+    let pieces = pieces_of size limits.burst limits.segment in
+    let cut = pieces_are_cut size limits.burst limits.segment aligned.burst aligned.segment aligned.burst_by_4 aligned.segment_by_4 in
+    laid ∙ ap (λ (xs : List ℕ). (flat_map (unpadded shared xs) (enumerate_from 0 pieces) ++ padding size) ++ last) (sym (append-nil d))
+    ∙ ap (λ (xs : List ℕ). xs ++ last) (sym (padded_last size limits.burst 0 pieces 0 shared d [] refl is cut))
+    ∙ ap (λ (n : ℕ). flat_map spelling (map (data_in shared d) (enumerate_from 0 (pieces_of n limits.burst limits.segment))) ++ last) is
 
 -- ---- how long it is
 

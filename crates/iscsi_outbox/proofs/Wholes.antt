@@ -57,7 +57,7 @@ pieces_whole c placed more =
     let room = placed.within in
     let pieces = enumerate_from c.number (pieces_left c) in
     let pad : List ℕ = replicate (padded c.length - c.length) 0 in
-    let ends = placed.ends in
+    let ends = placed.ends more in
     let long : c.length ≡ length d = sym (length-take-le c.length bytes (omega (arith, length-drop headroom c.buffer.items))) in
     let data_ins = map (data_in c.shared d) pieces in
     record {

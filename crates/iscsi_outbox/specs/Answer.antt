@@ -1,5 +1,5 @@
 -- The answer to a command that returns data: its SCSI Data-Ins (RFC 7143 §11.7) and a last PDU after them.
-use Rattle.std.specs.Prelude.{◌≡◌, ◌≤◌, ℕ, ◌%◌, List, ◌++◌, length, map, Bool, ◌&&◌, ◌==◌}
+use Rattle.std.specs.Prelude.{◌≡◌, ◌≤◌, ℕ, ◌%◌, min, List, ◌++◌, length, map, Bool, ◌&&◌, ◌==◌}
 use Rattle.std.specs.List.{flat_map, enumerate_from}
 use Rattle.iscsi_pdu.specs.DataIn.{DataInFields, data_in_header}
 use Rattle.iscsi_pdu.specs.Answer.{spelling}
@@ -12,17 +12,22 @@ use Rattle.iscsi_transfer.specs.declared.data_in.Piece.{Piece}
 use Rattle.iscsi_outbox.specs.declared.shared.SharedFields.{SharedFields}
 use Rattle.iscsi_outbox.specs.declared.limits.Limits.{Limits}
 
--- the fields of the Data-In that carries this piece, whose DataSN is its place among those of its command (§11.7.5)
-abbrev pub fields_of : SharedFields → List ℕ → ℕ × Piece → DataInFields
-fields_of shared bytes (number, piece) = record {
+-- the fields of the Data-In that carries this piece, with these bytes; its DataSN is its place among those of its
+-- command (§11.7.5)
+abbrev pub fields_with : SharedFields → List ℕ → ℕ × Piece → DataInFields
+fields_with shared body (number, piece) = record {
   is_final = piece.is_final;
   initiator_task_tag = shared.initiator_task_tag;
   exp_cmd_sn = shared.exp_cmd_sn;
   max_cmd_sn = shared.max_cmd_sn;
   data_sn = number;
   buffer_offset = piece.offset;
-  body = part_of bytes piece;
+  body = body;
 }
+
+-- these, of a piece of this data
+abbrev pub fields_of : SharedFields → List ℕ → ℕ × Piece → DataInFields
+fields_of shared bytes piece = fields_with shared (part_of bytes piece.1) piece
 
 abbrev pub data_in : SharedFields → List ℕ → ℕ × Piece → Answer
 data_in shared bytes piece = answers.DataIn (fields_of shared bytes piece)
@@ -41,6 +46,16 @@ pub record AreAligned (limits : Limits) : Type 0 where
   pub segment : 1 ≤ limits.segment
   pub burst_by_4 : limits.burst % 4 ≡ 0
   pub segment_by_4 : limits.segment % 4 ≡ 0
+
+-- the length of the pieces of a burst, if the burst is whole pieces of it
+abbrev pub shorter : Limits → ℕ
+shorter limits = min limits.burst limits.segment
+
+abbrev pub AreEven : Limits → Type 0
+AreEven limits = limits.burst % shorter limits ≡ 0
+
+abbrev pub are_even : Limits → Bool
+are_even limits = limits.burst % shorter limits == 0
 
 -- RFC 7143 §13.12, §13.13: data is cut at MaxBurstLength, and each burst at the initiator's MaxRecvDataSegmentLength
 abbrev pub pieces : Limits → List ℕ → List Piece

@@ -43,7 +43,7 @@ pub record IsPlaced (c : Cursor) : Type 0 where
   pub early : c.number ≤ c.offset
   pub cut : AreCut c.length c.limits.burst c.offset c.length (pieces_left c)
   pub by_4 : c.offset < c.length → c.offset % 4 ≡ 0
-  pub ends : EndsAnswer c.length (drop (headroom + c.length) c.buffer.items)
+  pub ends : c.offset < c.length → EndsAnswer c.length (drop (headroom + c.length) c.buffer.items)
 
 -- a byte of the piece that is being sent is left, or there are no more pieces
 pub record IsReady (c : Cursor) : Type 0 where

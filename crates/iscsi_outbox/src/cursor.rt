@@ -16,7 +16,7 @@ use crate::limits::Limits;
 use crate::put::put;
 use crate::shared::SharedFields;
 use bytes::BytesMut;
-use iscsi_pdu::{Answer, DataIn, padding};
+use iscsi_pdu::{Answer, padding};
 use iscsi_transfer::{Piece, piece_at, piece_count};
 use scsi_sense::HEADROOM;
 use std::alloc::AllocError;
@@ -38,8 +38,8 @@ pub(crate) struct Cursor {
     pub at: usize,
 }
 
-/// Writes a header over bytes that were sent.
-fn put_over(buffer: &mut BytesMut, at: usize, header: &[u8; HEADROOM])
+/// Writes a header over the bytes at a place.
+pub(crate) fn put_over(buffer: &mut BytesMut, at: usize, header: &[u8; HEADROOM])
     requires { at + headroom ≤ length buffer.old.items }
     ensures items { buffer.new.items ≡ take at buffer.old.items ++ (header.now ++ drop (at + headroom) buffer.old.items) }
     ensures spare { buffer.new.spare ≡ buffer.old.spare }
@@ -74,6 +74,24 @@ impl Cursor {
         cursor
     }
 
+    /// Creates the answer that lies ready in a buffer, headers and all. None of it is cut any more.
+    pub fn ready(buffer: BytesMut, shared: SharedFields, limits: Limits) -> Cursor
+        requires room { headroom ≤ length buffer.items }
+        requires limits { AreAligned limits }
+        ensures value { left result ≡ buffer.items }
+        ensures ready { IsReady result }
+    {
+        Cursor {
+            buffer,
+            shared,
+            limits,
+            length: 0,
+            number: 0,
+            offset: 0,
+            at: 0,
+        }
+    }
+
     /// Returns the next piece.
     fn piece(&self) -> Piece
         requires placed { IsPlaced self.now }
@@ -98,16 +116,8 @@ impl Cursor {
         ensures { result ≡ data_in_header (fields_of self.now.shared (drop headroom self.now.buffer.items) (number, piece)) }
     {
         let data = &self.buffer.as_slice()[HEADROOM..];
-        DataIn {
-            is_final: piece.is_final,
-            initiator_task_tag: self.shared.initiator_task_tag,
-            exp_cmd_sn: self.shared.exp_cmd_sn,
-            max_cmd_sn: self.shared.max_cmd_sn,
-            data_sn: number as u32,
-            buffer_offset: piece.offset as u32,
-            body: &data[piece.offset..piece.offset + piece.length],
-        }
-        .header()
+        let body = &data[piece.offset..piece.offset + piece.length];
+        self.shared.header(number, piece, body)
     }
 
     /// Writes the header of the next piece in front of its data, once the piece before it was sent.

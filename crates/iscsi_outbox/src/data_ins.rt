@@ -1,13 +1,15 @@
 //! The data of a command, which is cut as it is sent.
 
 ghost use Rattle.std.specs.Prelude.{◌≡◌, ◌<◌, ◌≤◌, ◌+◌, ◌^◌, length, drop};
-ghost use Rattle.scsi_sense.specs.Given.{headroom};
+ghost use Rattle.scsi_sense.specs.Given.{headroom, gathered, IsLaid};
 ghost use Rattle.iscsi_pdu.specs.Answer.{spelling};
-ghost use Rattle.iscsi_outbox.specs.Answer.{AreAligned, answered};
+ghost use Rattle.iscsi_outbox.specs.Answer.{AreAligned, answered, AreEven, shorter};
 ghost use Rattle.iscsi_outbox.specs.Offered.{AreWhole};
 
 use crate::cursor::Cursor;
+use crate::headers::put_headers;
 use crate::limits::Limits;
+use crate::put::put;
 use crate::shared::SharedFields;
 use crate::unsent::Unsent;
 use bytes::BytesMut;
@@ -51,6 +53,34 @@ impl DataIns {
         let rest = HEADROOM * count + length + padding(length) + last.length();
         DataIns {
             cursor: Cursor::new(buffer, shared, limits, last),
+            rest,
+        }
+    }
+
+    /// Creates the answer from data that lies in a buffer in `count` pieces, just as they are sent, each after room for
+    /// its header. Their length but for the last is that of [`Limits::piece`]. All headers are written at once, and
+    /// `last`, which ends the answer, is appended, so that all of it lies together. Allocates no memory.
+    pub fn in_pieces(
+        mut buffer: BytesMut,
+        count: usize,
+        shared: SharedFields,
+        limits: Limits,
+        last: &Answer,
+    ) -> DataIns
+        requires even { AreEven limits }
+        requires laid { IsLaid (shorter limits) count buffer.items }
+        requires short { length (gathered (shorter limits) count buffer.items) < 2 ^ 32 }
+        requires spare { length (spelling last.now) + 3 ≤ buffer.spare }
+        requires limits { AreAligned limits }
+        ensures { result ≡ answered shared limits (gathered (shorter limits) count buffer.items) (spelling last.now) }
+    {
+        let size = buffer.len() - HEADROOM * count;
+        put_headers(&mut buffer, count, size, shared, limits);
+        buffer.extend_reserved(&[0; 3][..padding(size)]);
+        put(&mut buffer, last);
+        let rest = buffer.len();
+        DataIns {
+            cursor: Cursor::ready(buffer, shared, limits),
             rest,
         }
     }

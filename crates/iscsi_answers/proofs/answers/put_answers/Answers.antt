@@ -1,4 +1,4 @@
-use Rattle.std.proofs.Common.{◌≡◌, ◌++◌, ℕ, List, length, take, drop, ap, ◌∙◌, arith, append_assoc}
+use Rattle.std.proofs.Common.{◌≡◌, ◌++◌, ℕ, List, length, take, ap, ◌∙◌, arith, append_assoc}
 use Rattle.std.specs.Prelude.{flat_map}
 use Rattle.std.proofs.lemmas.Bool.{eqb-true}
 use Rattle.std.proofs.lemmas.List.{length-append, nil_from_length}
@@ -19,7 +19,7 @@ limits_for-requires-clause-sent c = omega (arith, c.sent_length-sent.ensures.val
 
 pub put_data-requires-clause-some : goal.put_data-requires-clause-some
 put_data-requires-clause-some c =
-    omega (arith, simp length-append at (ap (λ (bytes : List ℕ). length bytes) c.new.ensures), c.response-response.ensures.some)
+    omega (arith, simp length-append at (ap (λ (bytes : List ℕ). length bytes) c.long_answers-answers.ensures), c.response-response.ensures.some)
 
 pub returns-in-Some : goal.returns-in-Some
 returns-in-Some c =
@@ -27,19 +27,18 @@ returns-in-Some c =
     let frame = c.args.frame.now in
     let done = c.args.done in
     let counted = count_is values frame done _ _ c.requires.values c.sent_length-sent.ensures.value c.count_of-count.ensures in
-    let sent_is : drop 48 c.sent_buffer-buffer.result.items ≡ data_sent frame done =
-    c.sent_buffer-buffer.ensures.data ∙ ap (λ (d : Outcome). take c.sent_length-sent.result d.given) c.done.view_is ∙ c.sent_length-sent.ensures.data in
+    let sent_is = ap (λ (d : Outcome). take c.sent_length-sent.result d.given) c.done.view_is ∙ c.sent_length-sent.ensures.data in
     c.put_data.ensures.items
     ∙ ap (λ (xs : List ℕ). c.args.out.now.items ++ xs)
-    (c.new.ensures
+    (c.long_answers-answers.ensures
     ∙ cut_as_sent c.args.numbers values frame (data_sent frame done) _ (spelling c.response-response.result) _ _ c.shared_fields-shared.ensures
     c.in-Some.ensures.value sent_is
     ∙ all_spelled c.args.numbers values frame done c.count_of-count.result c.response-response.result c.response-response.ensures.value counted)
 
 -- ---- one piece, where nothing waits
 
-pub sent_buffer-buffer-requires-then-is_empty-clause-some : goal.sent_buffer-buffer-requires-then-is_empty-clause-some
-sent_buffer-buffer-requires-then-is_empty-clause-some c =
+pub sent_buffer-buffer-requires-clause-some : goal.sent_buffer-buffer-requires-clause-some
+sent_buffer-buffer-requires-clause-some c =
     let values = c.args.values.now in
     let fits = count_fits c.sent_length-sent.result values.max_burst_length values.max_recv_data_segment_length
     (omega (arith, c.requires.values.burst)) (omega (arith, c.requires.values.segment)) in
@@ -65,8 +64,9 @@ returns c =
     let frame = c.args.frame.now in
     let done = c.args.done in
     let counted = count_is values frame done _ _ c.requires.values c.sent_length-sent.ensures.value c.count_of-count.ensures in
-    let cut : take c.sent_length-sent.result c.as_slice.result.now ≡ data_sent frame done = ap (take c.sent_length-sent.result)
-    (c.as_slice.ensures ∙ ap (λ (d : Outcome). d.given) c.done.view_is) ∙ c.sent_length-sent.ensures.data in
+    let cut : c.sent_slice.result.now ≡ data_sent frame done = c.sent_slice.ensures
+    ∙ ap (take c.sent_length-sent.result) (c.into_buffer-buffer.ensures.data ∙ ap (λ (d : Outcome). d.given) c.done.view_is)
+    ∙ c.sent_length-sent.ensures.data in
     c.put.ensures.items
     ∙ ap (λ (xs : List ℕ). xs ++ spelling c.response-response.result) (rw cut at c.put_data-2.ensures.written)
     ∙ append_assoc c.args.out.now.items (flat_map spelling (data_answers c.args.numbers values frame (data_sent frame done)))
