@@ -1,9 +1,9 @@
 -- How a command to a disk came out, by what the calls to its medium did.
-use Rattle.std.proofs.Common.{◌≡◌, ℕ, zero, suc, ◌+◌, ◌-◌, ◌*◌, List, length, take, drop, replicate, Bool, true, false, IsTrue, Option, Some}
+use Rattle.std.proofs.Common.{◌≡◌, ℕ, zero, suc, ◌*◌, List, length, take, drop, replicate, Bool, true, false, IsTrue, Option, Some}
 use Rattle.std.proofs.Common.{None, nat_lt, refl, sym, ap, subst, ◌∙◌, arith}
 use Rattle.std.specs.Prelude.{is_some}
-use Rattle.std.proofs.lemmas.Bool.{false≢true, ltb-false, lt-ltb, eq-eqb, and_from, or_left, or_right}
-use Rattle.std.proofs.lemmas.List.{nil_from_length, length-replicate}
+use Rattle.std.proofs.lemmas.Bool.{false≢true, lt-ltb, eq-eqb, and_from, or_left, or_right}
+use Rattle.std.proofs.lemmas.List.{length-replicate}
 use Rattle.media_store.specs.Failures.{risen}
 use Rattle.media_block.specs.Blocks.{DiskState, block_length, blocks_of, data_of, replaced, first_difference}
 use Rattle.scsi_sense.specs.Done.{Outcome, good_with, good_taking, check_condition}
@@ -160,30 +160,17 @@ module _ (command : DiskCommand) (bytes : List ℕ) (unit : DiskUnit) where
 
 -- ---- READ
 
--- no block, no byte
-no_data : (blocks : List (List ℕ)) (first count : ℕ) (given : List ℕ) → count ≡ 0 → length given ≡ block_length * count
-    → given ≡ data_of blocks first count
-no_data blocks first count given none long =
-    let some : first + count - first ≡ 0 = omega arith in
-    let empty : length given ≡ 0 = omega (arith, long, none) in
-    nil_from_length given empty ∙ rw some refl
-
--- it gave bytes: of no block, as it should, or others
-pub read_given : (range : Range) (bytes : List ℕ) (unit : DiskUnit) (new : DiskState) (given : List ℕ) (some honest : Bool)
-    → nat_lt 0 range.count ≡ some → new.honest ≡ honest → length given ≡ block_length * range.count
+-- it gave bytes, as it should, or others
+pub read_given : (range : Range) (bytes : List ℕ) (unit : DiskUnit) (new : DiskState) (given : List ℕ) (honest : Bool)
+    → nat_lt 0 range.count ≡ true → new.honest ≡ honest → length given ≡ block_length * range.count
     → new ≡ record unit.disk { honest = new.honest }
     → (IsTrue new.honest → IsTrue unit.disk.honest)
     → (IsTrue new.honest → given ≡ data_of unit.disk.blocks range.first range.count)
-    → (range.count ≡ 0 → new ≡ unit.disk)
     → (IsTrue unit.disk.steady → IsTrue unit.disk.honest → new ≡ unit.disk)
     → IsDiskDone (Read range) bytes unit (with_disk unit new) (good_with given)
-read_given range bytes unit new given false honest some is long same back read none sure =
-    let no_block : range.count ≡ 0 = omega (arith, ltb-false 0 range.count some) in
-    shown_right (Read range) bytes unit new _ (none no_block) refl
-    (ap good_with (no_data unit.disk.blocks range.first range.count given no_block long))
-read_given range bytes unit new given true true some is long same back read none sure =
+read_given range bytes unit new given true some is long same back read sure =
     shown_right (Read range) bytes unit new _ (as_before unit.disk new same (is ∙ sym (back is))) refl (ap good_with (read is))
-read_given range bytes unit new given true false some is long same back read none sure =
+read_given range bytes unit new given false some is long same back read sure =
     shown_wrong (Read range) bytes unit (record { given = given; difference = None }) new _ is (rw some refl)
     (rw some (and_from _ _ (eq-eqb _ _ long) refl)) same sure refl refl
 

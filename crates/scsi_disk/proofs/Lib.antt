@@ -1,5 +1,5 @@
 mod DiskCame
 mod DiskDone
 mod DiskWrites
-mod Room
+mod Pieces
 mod Rooms

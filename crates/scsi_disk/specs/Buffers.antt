@@ -9,9 +9,9 @@ use Rattle.scsi_disk.specs.DiskCommands.{most_given}
 abbrev pub most_short : ℕ
 most_short = 65536
 
--- own: the room that kept buffers have together, in bytes: that of four of the longest READs
+-- own: the room that kept buffers have together, in bytes: that of four of the longest READs, each in 64 pieces
 abbrev pub most_room : ℕ
-most_room = 4 * (headroom + most_given + tailroom)
+most_room = 4 * (headroom * 64 + most_given + tailroom)
 
 -- own: the room of each buffer that is kept, in bytes, and the most of a kind that are kept
 pub record Kept : Type 0 where

@@ -21,12 +21,17 @@ const MOST_SHORT: usize = 256;
 /// The most long buffers that are kept: as many as there may be room for.
 const MOST_LONG: usize = MOST_ROOM / SHORT;
 
-/// The most bytes of room that they have together: that of four of the longest READs.
-const MOST_ROOM: usize = 4 * (HEADROOM + BLOCK_LENGTH * MOST_BLOCKS as usize + TAILROOM);
+/// The most bytes of room that they have together: that of four of the longest READs, in the shortest pieces.
+const MOST_ROOM: usize = 4
+    * (HEADROOM * MOST_PIECES + BLOCK_LENGTH * MOST_BLOCKS as usize + TAILROOM);
+
+/// The most pieces in which the longest READ lies, in practice: of 16,384 bytes each.
+const MOST_PIECES: usize = 64;
 
 /// Buffers in which commands returned their data, and whose bytes are no longer used, each with its room in bytes.
 /// Their bytes never leave the target. Of the long ones, a READ takes the smallest that has its room. So none is made
-/// anew if one would do, and a larger one is left for a longer READ. Clauses see the room of each.
+/// anew if one would do, and a larger one is left for a longer READ. Clauses see the room of each. In what pieces the
+/// data of a READ is to lie is said here too, and clauses do not see it.
 #[derive(Drop)]
 pub struct Buffers {
     short: Vec<(BytesMut, usize)>,
@@ -35,6 +40,9 @@ pub struct Buffers {
     room: usize,
     /// More were to be kept than there is room for.
     is_overfull: bool,
+    /// Of how many blocks the pieces are in which the data of a READ is to lie, each after room for a header. `None`: it
+    /// lies together.
+    piece: Option<u32>,
 }
 
 impl Model for Buffers {
@@ -123,6 +131,7 @@ impl Buffers {
             long: Vec::new(alloc),
             room: 0,
             is_overfull: false,
+            piece: None,
         }
     }
 
@@ -135,7 +144,28 @@ impl Buffers {
             long: Vec::with_capacity(alloc, MOST_LONG)?,
             room: 0,
             is_overfull: false,
+            piece: None,
         })
+    }
+
+    /// Says of how many blocks the pieces are in which the data of the next READs is to lie, each after room for the
+    /// header of a PDU. `None` means that it lies together. Only the speed of the answers depends on it.
+    pub fn lay_out(&mut self, piece: Option<u32>)
+        ensures { self.new ≡ self.old }
+    {
+        self.piece = piece;
+    }
+
+    /// Returns of how many blocks the pieces are in which so many blocks are to lie.
+    pub(crate) fn piece_for(&self, count: u32) -> u32
+        requires { 0 < count }
+        ensures some { 1 ≤ result }
+        ensures within { result ≤ count }
+    {
+        match self.piece {
+            Some(blocks) if blocks > 0 && blocks < count => blocks,
+            _ => count,
+        }
     }
 
     /// Keeps a buffer with this room among those of its kind, if there are a place and room for it.

@@ -1,9 +1,10 @@
 //! The commands to disks.
 
-ghost use Rattle.std.specs.Prelude.{◌≡◌, ◌+◌, ◌*◌, ◌<◌, ◌≤◌, ℕ, List, [], length, drop, IsTrue, IsOk, IfOk, OnOk, OnErr};
+ghost use Rattle.std.specs.Prelude.{◌≡◌, ◌+◌, ◌*◌, ◌<◌, ◌≤◌, ℕ, List, [], length, take, drop, IsTrue, IsOk, IfOk, OnOk, OnErr};
+ghost use Rattle.std.specs.Int.{div_ceil};
 ghost use Rattle.media_store.specs.Failures.{counted};
 ghost use Rattle.media_block.specs.Blocks.{block_length, data_of};
-ghost use Rattle.scsi_sense.specs.Given.{headroom};
+ghost use Rattle.scsi_sense.specs.Given.{headroom, gathered, IsLaid};
 ghost use Rattle.scsi_cdb.specs.declared.command.DiskCommand.TheVariants.{Read};
 ghost use Rattle.scsi_disk.specs.DiskDevice.{disk_view, has_blocks};
 ghost use Rattle.scsi_disk.specs.DiskCommands.{capacity_10 as capacity_10_data, capacity_16 as capacity_16_data, bytes_needed};
@@ -49,45 +50,87 @@ fn capacity_16(block_count: u64) -> [u8; 32]
     ]
 }
 
-/// Reads blocks into an empty buffer that has room for them and a header, after the room for the header. The room is not
-/// filled before.
-fn read_into<S: Store>(
+/// Appends room for a header, and blocks that are read after it. The room is not filled before.
+fn read_piece<S: Store>(
     disk: &mut Disk<S>,
-    range: BlockRange,
+    first: u64,
+    count: u32,
     buffer: &mut BytesMut,
 ) -> Result<(), StoreFault>
-    requires range { range.first + range.count ≤ length disk.old.blocks }
-    requires empty { buffer.old.items ≡ [] }
-    requires room { headroom + block_length * range.count ≤ buffer.old.spare }
-    ensures length { length (drop headroom buffer.new.items) ≡ block_length * range.count }
-    ensures spare { buffer.new.spare + (headroom + block_length * range.count) ≡ buffer.old.spare }
-    ensures read { OnOk result (IsTrue disk.new.honest → drop headroom buffer.new.items ≡ data_of disk.old.blocks range.first range.count) }
-    ensures none { range.count ≡ 0 → IsOk result × (disk.new ≡ disk.old) }
+    requires range { first + count ≤ length disk.old.blocks }
+    requires room { headroom + block_length * count ≤ buffer.old.spare }
+    ensures front { take (length buffer.old.items) buffer.new.items ≡ buffer.old.items }
+    ensures length { length buffer.new.items ≡ length buffer.old.items + (headroom + block_length * count) }
+    ensures spare { buffer.new.spare + (headroom + block_length * count) ≡ buffer.old.spare }
+    ensures read { OnOk result (IsTrue disk.new.honest
+        → drop (length buffer.old.items + headroom) buffer.new.items ≡ data_of disk.old.blocks first count) }
     ensures back { IsTrue disk.new.honest → IsTrue disk.old.honest }
     ensures disk { disk.new ≡ record disk.old { failures = counted result disk.old.failures; honest = disk.new.honest } }
     ensures succeeds { IsTrue disk.old.steady → IsTrue disk.old.honest → IsOk result × (disk.new ≡ disk.old) }
 {
-    let count = u64::from(range.count());
+    let start = buffer.len() + HEADROOM;
     buffer.advance_mut(HEADROOM + BLOCK_LENGTH * count as usize);
-    disk.read(range.first(), count, &mut buffer.as_mut_slice()[HEADROOM..])
+    let bytes = &mut buffer.as_mut_slice()[start..];
+    disk.read(first, u64::from(count), bytes)
+}
+
+/// Reads blocks into an empty buffer that has room for them and for headers. They lie in so many pieces, each but the
+/// last of so many blocks, and each after room for a header.
+fn read_into<S: Store>(
+    disk: &mut Disk<S>,
+    range: BlockRange,
+    piece: u32,
+    pieces: u32,
+    buffer: &mut BytesMut,
+) -> Result<(), StoreFault>
+    requires range { range.first + range.count ≤ length disk.old.blocks }
+    requires some { 0 < range.count }
+    requires piece { 1 ≤ piece }
+    requires pieces { pieces ≡ div_ceil range.count piece }
+    requires empty { buffer.old.items ≡ [] }
+    requires room { headroom * pieces + block_length * range.count ≤ buffer.old.spare }
+    ensures laid { OnOk result (IsLaid (block_length * piece) pieces buffer.new.items) }
+    ensures length { OnOk result (length (gathered (block_length * piece) pieces buffer.new.items) ≡ block_length * range.count) }
+    ensures spare { OnOk result (buffer.new.spare + (headroom * pieces + block_length * range.count) ≡ buffer.old.spare) }
+    ensures read { OnOk result (IsTrue disk.new.honest
+        → gathered (block_length * piece) pieces buffer.new.items ≡ data_of disk.old.blocks range.first range.count) }
+    ensures back { IsTrue disk.new.honest → IsTrue disk.old.honest }
+    ensures disk { disk.new ≡ record disk.old { failures = counted result disk.old.failures; honest = disk.new.honest } }
+    ensures succeeds { IsTrue disk.old.steady → IsTrue disk.old.honest → IsOk result × (disk.new ≡ disk.old) }
+{
+    // So the number of each block fits a `u64`.
+    prove!(range.first() < disk.block_count());
+    for number in 0..pieces {
+        let before = number * piece;
+        let count = piece.min(range.count() - before);
+        read_piece(disk, range.first() + u64::from(before), count, buffer)?;
+    }
+    Ok(())
 }
 
 impl<S: Store> DiskDevice<S> {
-    /// Executes a READ of blocks that the disk has. Makes the room for the data first, with room for a header before it
-    /// and for what is sent after it, so that a failed allocation changes nothing.
+    /// Executes a READ of blocks that the disk has. Makes the room for the data first, with room for a header before
+    /// each piece and for what is sent after them, so that a failed allocation changes nothing.
     fn read(&mut self, alloc: Global, used: &mut Buffers, range: BlockRange) -> Result<Done, Memory>
         requires { range.first + range.count ≤ length self.old.disk.blocks }
         ensures done { IfOk result (λ done. (bytes : List ℕ) → IsDiskDone (Read range) bytes (disk_view self.old) (disk_view self.new) done) }
         ensures given { IfOk result (λ done. length done.given ≤ most_given) }
         ensures err { OnErr result (disk_view self.new ≡ disk_view self.old) }
     {
-        if range.count() == 0 {
+        let count = range.count();
+        if count == 0 {
             return Ok(Done::good(alloc));
         }
-        let room = HEADROOM + BLOCK_LENGTH * range.count() as usize + TAILROOM;
+        let piece = used.piece_for(count);
+        let pieces = count.div_ceil(piece);
+        let room = HEADROOM * pieces as usize + BLOCK_LENGTH * count as usize + TAILROOM;
         let mut buffer = take(alloc, used, room)?;
-        match read_into(&mut self.disk, range, &mut buffer) {
-            Ok(()) => Ok(Done::good_with(Given::in_place(buffer))),
+        match read_into(&mut self.disk, range, piece, pieces, &mut buffer) {
+            Ok(()) => Ok(Done::good_with(Given::in_pieces(
+                buffer,
+                BLOCK_LENGTH * piece as usize,
+                pieces as usize,
+            ))),
             Err(_) => Ok(read_failed(alloc)),
         }
     }

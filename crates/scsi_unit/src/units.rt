@@ -199,6 +199,14 @@ impl<S: Store> Units<S> {
         give_back(&mut self.used, buffer);
     }
 
+    /// Says of how many blocks the pieces are in which the data of the next READs is to lie, each after room for the
+    /// header of a PDU. `None` means that it lies together. Only the speed of the answers depends on it.
+    pub fn lay_out(&mut self, piece: Option<u32>)
+        ensures { self.new ≡ self.old }
+    {
+        self.used.lay_out(piece);
+    }
+
     /// Keeps a buffer in which the data of a command arrived, for that of another.
     pub fn keep_buffer(&mut self, buffer: Vec<u8>)
         ensures { self.new ≡ self.old }
