@@ -15,7 +15,7 @@ ghost use Rattle.iscsi_session.specs.Runs.{output, Starts, Runs, Stops, StepsFir
 use crate::session::Session;
 use bytes::BytesMut;
 use data_parts::{Data, Parts};
-use iscsi_answers::make_room;
+use iscsi_answers::{make_room, piece_for};
 use iscsi_outbox::Outbox;
 use iscsi_pdu::{Frame, Header};
 use iscsi_requests::{ROOM_TO_ASK, Verdict};
@@ -200,6 +200,7 @@ impl Session {
             return Ok(false);
         };
         make_room(out, &self.params.values, frame)?;
+        units.lay_out(piece_for(&self.params.values, frame));
         let payload = self.transfers.payload(frame.header.initiator_task_tag());
         let done = perform_first(alloc, units, &self.params.nexus, frame, &payload)?;
         // There is room for the answers, so nothing fails from here on.

@@ -15,7 +15,7 @@ returns-in_default-clause-steps g c =
 
 pub returns-clause-steps : goal.returns-clause-steps
 returns-clause-steps g c =
-    let came = c.in_ok-done.ensures.came in
+    let came = rw c.lay_out.ensures at c.in_ok-done.ensures.came in
     rw (c.keep_buffers.ensures, c.give_back.ensures)
     (came_one _ _ _ _ came.0 (λ comings next work s.
     let list = c.self.inside.transfers.list in
@@ -28,7 +28,7 @@ returns-clause-steps g c =
     (rw c.make_room.ensures.same at c.answer_command-buffer.ensures.answers) work s c.in-Some.ensures.whole) came.2)
 
 pub returns-clause-back : goal.returns-clause-back
-returns-clause-back g c = rw (c.keep_buffers.ensures, c.give_back.ensures) c.perform_first.ensures.back
+returns-clause-back g c = rw (c.keep_buffers.ensures, c.give_back.ensures) (rw c.lay_out.ensures at c.perform_first.ensures.back)
 
 pub returns-in_err-make_room-clause-grows : goal.returns-in_err-make_room-clause-grows
 returns-in_err-make_room-clause-grows g c = ([], c.make_room.ensures.same ∙ sym (append-nil _))
@@ -37,7 +37,7 @@ pub returns-in_err-done-clause-grows : goal.returns-in_err-done-clause-grows
 returns-in_err-done-clause-grows g c = ([], c.make_room.ensures.same ∙ sym (append-nil _))
 
 pub returns-clause-sure : goal.returns-clause-sure
-returns-clause-sure g c = rw (c.keep_buffers.ensures, c.give_back.ensures) c.perform_first.ensures.sure
+returns-clause-sure g c = rw (c.keep_buffers.ensures, c.give_back.ensures) (rw c.lay_out.ensures at c.perform_first.ensures.sure)
 
 pub returns-clause-eases : goal.returns-clause-eases
 returns-clause-eases g c r =
