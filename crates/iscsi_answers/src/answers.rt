@@ -135,8 +135,8 @@ fn long_answers(
 /// ([`make_room`](crate::make_room)), so no memory is allocated. Returns a buffer for reuse, if there is
 /// one.
 ///
-/// Large data, for which no such room was made, is queued without a copy and cut as it is sent. Small data that fits
-/// one PDU is sent from its own buffer, if the queue is empty. Anything else is copied.
+/// Large data, for which no such room was made, is queued without a copy. Small data that fits one PDU is sent from its
+/// own buffer, if the queue is empty. Anything else is copied.
 pub fn put_answers(
     alloc: Global,
     out: &mut Outbox,

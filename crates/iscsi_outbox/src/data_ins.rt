@@ -1,4 +1,4 @@
-//! The data of a command, which is cut as it is sent.
+//! The answer to a command that returned data.
 
 ghost use Rattle.std.specs.Prelude.{◌≡◌, ◌<◌, ◌≤◌, ◌+◌, ◌^◌, length, drop};
 ghost use Rattle.scsi_sense.specs.Given.{headroom, gathered, IsLaid};

@@ -89,7 +89,7 @@ impl Outbox {
         mem::replace(&mut self.tail, buffer)
     }
 
-    /// Appends the data of a command, which is cut as it is sent. Allocates no memory.
+    /// Appends the answer to a command that returned data. Allocates no memory.
     pub fn put_data(&mut self, alloc: Global, data_ins: DataIns)
         requires slot { 1 ≤ self.old.slots }
         requires some { 0 < length data_ins }

@@ -12,7 +12,7 @@ use std::alloc::{AllocError, Global};
 use std::collections::VecDeque;
 use std::mem;
 
-/// The data of a command, which is cut as it is sent, and the small answers before it.
+/// The answer to a command that returned data, and the small answers before it.
 #[derive(Drop)]
 pub(crate) struct Run {
     pub before: BytesMut,
