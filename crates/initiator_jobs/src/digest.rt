@@ -128,6 +128,9 @@ impl Digest {
     pub fn value(&self) -> u64 {
         let mut ended = *self;
         ended.add_number(self.total);
+        // Bytes of an earlier block may stand after these.
+        let count = ended.count.min(BLOCK);
+        ended.begun[count..].fill(0);
         let [a, b, c, d] = mix_block(ended.lanes, &ended.begun);
         let mut value = a ^ b.rotate_left(16) ^ c.rotate_left(32) ^ d.rotate_left(48);
         value = (value ^ (value >> 32)).wrapping_mul(FACTOR);
