@@ -93,8 +93,9 @@ pub(crate) fn limits_for(values: &Values, frame: &Frame, sent: usize) -> Option<
     long_limits(values)
 }
 
-/// Returns of how many blocks the pieces are in which the data of a command is to lie once it is read, each after room for
-/// its header. `None` means that it is to lie together: there may be little of it, or it is not cut at whole blocks.
+/// Returns the length of the pieces in which the data of a command is to lie once it is read, in blocks. Each piece lies
+/// after room for its header. `None` means that the data is to lie together: there may be little of it, or it is not cut
+/// at whole blocks.
 pub fn piece_for(values: &Values, frame: &Frame) -> Option<u32>
     requires { AreInRange values.now }
     ensures some { is_some result ≡ lies_in_pieces values.now frame.now }

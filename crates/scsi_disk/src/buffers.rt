@@ -40,8 +40,8 @@ pub struct Buffers {
     room: usize,
     /// More were to be kept than there is room for.
     is_overfull: bool,
-    /// Of how many blocks the pieces are in which the data of a READ is to lie, each after room for a header. `None`: it
-    /// lies together.
+    /// The length of the pieces in which the data of a READ is to lie, each after room for a header, in blocks. `None`:
+    /// it lies together.
     piece: Option<u32>,
 }
 
@@ -148,15 +148,15 @@ impl Buffers {
         })
     }
 
-    /// Says of how many blocks the pieces are in which the data of the next READs is to lie, each after room for the
-    /// header of a PDU. `None` means that it lies together. Only the speed of the answers depends on it.
+    /// Sets the length of the pieces in which the data of the next READs is to lie, in blocks. Each piece lies after room
+    /// for the header of a PDU. `None` means that the data lies together. Only the speed of the answers depends on it.
     pub fn lay_out(&mut self, piece: Option<u32>)
         ensures { self.new ≡ self.old }
     {
         self.piece = piece;
     }
 
-    /// Returns of how many blocks the pieces are in which so many blocks are to lie.
+    /// Returns the length of the pieces in which `count` blocks are to lie, in blocks.
     pub(crate) fn piece_for(&self, count: u32) -> u32
         requires { 0 < count }
         ensures some { 1 ≤ result }

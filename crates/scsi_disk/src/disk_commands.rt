@@ -74,8 +74,8 @@ fn read_piece<S: Store>(
     disk.read(first, u64::from(count), bytes)
 }
 
-/// Reads blocks into an empty buffer that has room for them and for headers. They lie in so many pieces, each but the
-/// last of so many blocks, and each after room for a header.
+/// Reads blocks into an empty buffer that has room for them and for headers. They lie in `pieces` pieces, each after room
+/// for a header. All but the last have `piece` blocks.
 fn read_into<S: Store>(
     disk: &mut Disk<S>,
     range: BlockRange,

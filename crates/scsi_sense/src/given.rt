@@ -82,8 +82,8 @@ impl Given {
         }
     }
 
-    /// Returns the data that lies in this buffer in so many pieces, each but the last of this length in bytes, and each
-    /// after room for a header. The buffer has room for what is sent after them.
+    /// Returns the data of `count` pieces that lie in this buffer, each after room for a header. All but the last have
+    /// `length` bytes. The buffer has room for what is sent after them.
     pub fn in_pieces(buffer: BytesMut, length: usize, count: usize) -> Given
         requires laid { IsLaid «length» count buffer.items }
         requires spare { tailroom ≤ buffer.spare }

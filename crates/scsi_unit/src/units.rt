@@ -199,8 +199,8 @@ impl<S: Store> Units<S> {
         give_back(&mut self.used, buffer);
     }
 
-    /// Says of how many blocks the pieces are in which the data of the next READs is to lie, each after room for the
-    /// header of a PDU. `None` means that it lies together. Only the speed of the answers depends on it.
+    /// Sets the length of the pieces in which the data of the next READs is to lie, in blocks. Each piece lies after room
+    /// for the header of a PDU. `None` means that the data lies together. Only the speed of the answers depends on it.
     pub fn lay_out(&mut self, piece: Option<u32>)
         ensures { self.new ≡ self.old }
     {
