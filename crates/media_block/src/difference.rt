@@ -2,6 +2,7 @@
 
 ghost use Rattle.std.specs.Prelude.{◌≡◌, ◌+◌, ◌<◌, ◌≤◌, ◌^◌, ◌++◌, length, take, slice_range, IsTrue, IsOk, IfOk, IfSome};
 ghost use Rattle.media_store.specs.Failures.{counted};
+ghost use Rattle.media_store.specs.Reading.{IsOnlyRead};
 ghost use Rattle.media_block.specs.Blocks.{first_difference};
 
 use crate::filling::next_slice;
@@ -61,11 +62,8 @@ pub(crate) fn compare_data<S: Store>(
         → found ≡ first_difference (slice_range (S.Store.content store.old) at (at + count)) (take count «data».now)) }
     ensures within { IfOk result (λ found. IfSome found (λ n. n < count)) }
     ensures none { count ≡ 0 → IsOk result }
-    ensures back { IsTrue (S.Store.honest store.new) → IsTrue (S.Store.honest store.old) }
-    ensures content { S.Store.content store.new ≡ S.Store.content store.old }
-    ensures synced { S.Store.synced store.new ≡ S.Store.synced store.old }
+    ensures kept { IsOnlyRead S.Store store.old store.new }
     ensures failures { S.Store.failures store.new ≡ counted result (S.Store.failures store.old) }
-    ensures steady { S.Store.steady store.new ≡ S.Store.steady store.old }
     ensures succeeds { IsTrue (S.Store.steady store.old) → at + count ≤ length (S.Store.content store.old)
         → IsOk result × (S.Store.honest store.new ≡ S.Store.honest store.old) }
 {

@@ -1,3 +1,4 @@
+pub mod Reading
 pub mod Writes
 pub mod Joined
 pub mod Ended

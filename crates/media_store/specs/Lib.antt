@@ -1,6 +1,7 @@
 pub mod Content
 pub mod Failures
 pub mod Honesty
+pub mod Reading
 pub mod Calls
 pub mod Opening
 pub mod Replay

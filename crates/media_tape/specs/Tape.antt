@@ -1,8 +1,8 @@
 -- A tape as the items before its position and those after it (SSC-4 "Position within a partition"), and what commands
 -- do to it.
 use Rattle.std.specs.Prelude.{◌≡◌, ℕ, ◌+◌, ◌*◌, ◌≤◌, ◌==◌, nat_lt, nat_le, List, [], ◌∷◌, ◌++◌, length, take, drop, replicate}
-use Rattle.std.specs.Prelude.{Bool, true, false, IsTrue, All, sum, map, if◌then◌else◌}
-use Rattle.media_store.specs.Failures.{risen}
+use Rattle.std.specs.Prelude.{Result, Bool, true, false, IsTrue, All, sum, map, if◌then◌else◌}
+use Rattle.media_store.specs.Failures.{counted, risen}
 use Rattle.media_tape.specs.Items.{Item, Record, Filemark, IsSize, size, size_of, items_of}
 use Rattle.media_tape.specs.declared.outcome.Located.{Located}
 use Rattle.media_tape.specs.declared.outcome.Located.TheVariants as located
@@ -37,6 +37,20 @@ items tape = tape.before ++ tape.after
 pub record IsSizedAs (other tape : TapeState) : Type 0 where
   pub before : map size tape.before ≡ map size other.before
   pub after : map size tape.after ≡ map size other.after
+
+-- own: a call that reads changes no more of a tape than its position and whether its store is honest; a failure is counted
+abbrev pub IsReadFrom : {T E : Type 0} → Result T E → TapeState → TapeState → Type 0
+IsReadFrom done old new = new ≡ record old { before = new.before; after = new.after; honest = new.honest; failures = counted done old.failures }
+
+-- own: a call that writes changes no more of it than its items, its position and whether it is synced; a failure is counted
+abbrev pub IsWrittenTo : {T E : Type 0} → Result T E → TapeState → TapeState → Type 0
+IsWrittenTo done old new = new ≡ record old {
+  before = new.before;
+  after = new.after;
+  tail = new.tail;
+  synced = new.synced;
+  failures = counted done old.failures;
+}
 
 -- own: the tape with its position after this many items
 abbrev pub located_at : ℕ → TapeState → TapeState

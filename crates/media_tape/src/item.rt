@@ -2,6 +2,7 @@
 
 ghost use Rattle.std.specs.Prelude.{◌≡◌, ◌+◌, ◌≤◌, length, take, drop, IsTrue, IsOk, IfOk, IfSome, OnOk};
 ghost use Rattle.media_store.specs.Failures.{counted};
+ghost use Rattle.media_store.specs.Reading.{IsOnlyRead};
 ghost use Rattle.media_tape.specs.Items.{front, most_bytes};
 ghost use Rattle.media_tape.specs.Window.{IsWindow, Shows};
 
@@ -45,13 +46,8 @@ pub(crate) fn item_at<S: Store>(
     ensures window { IsWindow window.new }
     ensures shows { OnOk result (IsTrue (S.Store.honest store.new) → Shows (S.Store.content store.old) window.old
         → end ≤ length (S.Store.content store.old) → Shows (S.Store.content store.old) window.new) }
-    ensures back { IsTrue (S.Store.honest store.new) → IsTrue (S.Store.honest store.old) }
-    ensures content { S.Store.content store.new ≡ S.Store.content store.old }
-    ensures synced { S.Store.synced store.new ≡ S.Store.synced store.old }
+    ensures kept { IsOnlyRead S.Store store.old store.new }
     ensures failures { S.Store.failures store.new ≡ counted result (S.Store.failures store.old) }
-    ensures steady { S.Store.steady store.new ≡ S.Store.steady store.old }
-    ensures reach { S.Store.reach store.new ≡ S.Store.reach store.old }
-    ensures atomic { S.Store.atomic store.new ≡ S.Store.atomic store.old }
     ensures succeeds { IsTrue (S.Store.steady store.old) → end ≤ length (S.Store.content store.old)
         → IsOk result × (S.Store.honest store.new ≡ S.Store.honest store.old) }
 {

@@ -2,6 +2,7 @@
 
 ghost use Rattle.std.specs.Prelude.{◌≡◌, ◌+◌, ◌*◌, ◌≤◌, ◌<◌, ◌^◌, ◌++◌, length, drop, slice_range, IsTrue, IsOk, IfOk, OnOk, OnErr};
 ghost use Rattle.media_store.specs.Failures.{counted};
+ghost use Rattle.media_store.specs.Reading.{IsOnlyRead};
 ghost use Rattle.media_tape.specs.Items.{most_bytes};
 ghost use Rattle.media_tape.specs.BlockData.{data_in};
 
@@ -26,13 +27,8 @@ pub(crate) fn read_behind<S: Store>(
         → buffer.new.items ≡ buffer.old.items ++ slice_range (S.Store.content store.old) at (at + count)) }
     ensures length { length buffer.new.items ≡ length buffer.old.items + count }
     ensures spare { buffer.new.spare + count ≡ buffer.old.spare }
-    ensures back { IsTrue (S.Store.honest store.new) → IsTrue (S.Store.honest store.old) }
-    ensures content { S.Store.content store.new ≡ S.Store.content store.old }
-    ensures synced { S.Store.synced store.new ≡ S.Store.synced store.old }
+    ensures kept { IsOnlyRead S.Store store.old store.new }
     ensures failures { S.Store.failures store.new ≡ counted result (S.Store.failures store.old) }
-    ensures steady { S.Store.steady store.new ≡ S.Store.steady store.old }
-    ensures reach { S.Store.reach store.new ≡ S.Store.reach store.old }
-    ensures atomic { S.Store.atomic store.new ≡ S.Store.atomic store.old }
     ensures succeeds { IsTrue (S.Store.steady store.old) → at + count ≤ length (S.Store.content store.old)
         → IsOk result × (S.Store.honest store.new ≡ S.Store.honest store.old) }
     ensures none { count ≡ 0 → IsOk result × (store.new ≡ store.old) }
@@ -77,13 +73,8 @@ pub(crate) fn read_blocks<S: Store>(
         → buffer.new.items ≡ buffer.old.items ++ data_in count block_length (drop place (S.Store.content store.old)))) }
     ensures length { IfOk result (λ done. OnOk done (length buffer.new.items ≡ length buffer.old.items + count * block_length)) }
     ensures spare { IfOk result (λ _. tailroom ≤ buffer.new.spare) }
-    ensures back { IsTrue (S.Store.honest store.new) → IsTrue (S.Store.honest store.old) }
-    ensures content { S.Store.content store.new ≡ S.Store.content store.old }
-    ensures synced { S.Store.synced store.new ≡ S.Store.synced store.old }
+    ensures kept { IsOnlyRead S.Store store.old store.new }
     ensures failures { IfOk result (λ done. S.Store.failures store.new ≡ counted done (S.Store.failures store.old)) }
-    ensures steady { S.Store.steady store.new ≡ S.Store.steady store.old }
-    ensures reach { S.Store.reach store.new ≡ S.Store.reach store.old }
-    ensures atomic { S.Store.atomic store.new ≡ S.Store.atomic store.old }
     ensures succeeds { IfOk result (λ done. IsTrue (S.Store.steady store.old)
         → place + count * (block_length + 8) ≤ length (S.Store.content store.old)
         → IsOk done × (S.Store.honest store.new ≡ S.Store.honest store.old)) }

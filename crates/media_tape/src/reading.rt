@@ -1,9 +1,9 @@
 //! READ of a tape.
 
 ghost use Rattle.std.specs.Prelude.{◌≡◌, ◌+◌, ◌*◌, ◌≤◌, ℕ, [], ◌++◌, length, take, min, IsTrue, IsOk, IfOk, OnOk, OnErr};
-ghost use Rattle.media_store.specs.Failures.{counted, risen};
+ghost use Rattle.media_store.specs.Failures.{risen};
 ghost use Rattle.media_tape.specs.Items.{most_bytes};
-ghost use Rattle.media_tape.specs.Tape.{read_told, passed_length, first_data, tape_read};
+ghost use Rattle.media_tape.specs.Tape.{IsReadFrom, read_told, passed_length, first_data, tape_read};
 ghost use Rattle.media_tape.specs.Fixed.{fixed_told, fixed_data, tape_read_fixed};
 ghost use Rattle.media_tape.specs.declared.outcome.Passed.TheVariants as passed;
 
@@ -36,12 +36,7 @@ impl<S: Store> Tape<S> {
         ensures tape { IfOk result (λ done. OnOk done (self.new ≡ record (tape_read asked self.old) { honest = self.new.honest })) }
         ensures failed { IfOk result (λ done. OnErr done (self.new
             ≡ record self.old { failures = risen self.old.failures; honest = self.new.honest })) }
-        ensures rest { IfOk result (λ done. self.new ≡ record self.old {
-          before = self.new.before;
-          after = self.new.after;
-          honest = self.new.honest;
-          failures = counted done self.old.failures;
-        }) }
+        ensures rest { IfOk result (λ done. IsReadFrom done self.old self.new) }
         ensures back { IsTrue self.new.honest → IsTrue self.old.honest }
         ensures succeeds { IfOk result (λ done. IsTrue self.old.steady → IsTrue self.old.honest
             → IsOk done × (self.new.honest ≡ self.old.honest)) }
@@ -91,12 +86,7 @@ impl<S: Store> Tape<S> {
             ≡ record (tape_read_fixed count block_length self.old) { honest = self.new.honest })) }
         ensures failed { IfOk result (λ done. OnErr done (self.new
             ≡ record self.old { failures = risen self.old.failures; honest = self.new.honest })) }
-        ensures rest { IfOk result (λ done. self.new ≡ record self.old {
-          before = self.new.before;
-          after = self.new.after;
-          honest = self.new.honest;
-          failures = counted done self.old.failures;
-        }) }
+        ensures rest { IfOk result (λ done. IsReadFrom done self.old self.new) }
         ensures back { IsTrue self.new.honest → IsTrue self.old.honest }
         ensures succeeds { IfOk result (λ done. IsTrue self.old.steady → IsTrue self.old.honest
             → IsOk done × (self.new.honest ≡ self.old.honest)) }

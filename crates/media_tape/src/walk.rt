@@ -1,6 +1,7 @@
 //! The items of a store, one after the other.
 
 ghost use Rattle.std.specs.Prelude.{◌≡◌, ℕ, ◌≤◌, length, take, map, sum, All, IsTrue, IfOk, IfErr, OnOk};
+ghost use Rattle.media_store.specs.Reading.{IsOnlyRead};
 ghost use Rattle.media_tape.specs.Fault.{failures_after, Explains};
 ghost use Rattle.media_tape.specs.Items.{IsSize, items_of, size, size_of};
 ghost use Rattle.media_tape.specs.declared.fault.TapeOpenFault.TheVariants.{OutOfMemory};
@@ -21,14 +22,9 @@ pub(crate) fn walk<S: Store>(alloc: Global, store: &mut S, end: u64) -> Result<I
     ensures within { IfOk result (λ index. sum index.sizes ≤ end) }
     ensures each { IfOk result (λ index. All IsSize index.sizes) }
     ensures why { IfErr result (λ fault. (capacity : ℕ) → Explains (S.Store.content store.old) capacity fault) }
-    ensures back { IsTrue (S.Store.honest store.new) → IsTrue (S.Store.honest store.old) }
-    ensures content { S.Store.content store.new ≡ S.Store.content store.old }
-    ensures synced { S.Store.synced store.new ≡ S.Store.synced store.old }
+    ensures kept { IsOnlyRead S.Store store.old store.new }
     ensures failures { OnOk result (S.Store.failures store.new ≡ S.Store.failures store.old) }
     ensures failed { IfErr result (λ fault. S.Store.failures store.new ≡ failures_after fault (S.Store.failures store.old)) }
-    ensures steady { S.Store.steady store.new ≡ S.Store.steady store.old }
-    ensures reach { S.Store.reach store.new ≡ S.Store.reach store.old }
-    ensures atomic { S.Store.atomic store.new ≡ S.Store.atomic store.old }
     ensures stays { IsTrue (S.Store.steady store.old) → end ≤ length (S.Store.content store.old)
         → S.Store.honest store.new ≡ S.Store.honest store.old }
     ensures succeeds { IfErr result (λ fault. IsTrue (S.Store.steady store.old) → end ≤ length (S.Store.content store.old)

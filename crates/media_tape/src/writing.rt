@@ -3,7 +3,7 @@
 ghost use Rattle.std.specs.Prelude.{◌≡◌, ◌≢◌, ◌+◌, ◌*◌, ◌≤◌, ◌<◌, [], length, nat_lt, true, false, if◌then◌else◌, ◌||◌, IsTrue, IsOk, IfOk, OnOk, OnErr};
 ghost use Rattle.media_store.specs.Failures.{counted, risen};
 ghost use Rattle.media_tape.specs.Items.{most_bytes, size_of, is_tape};
-ghost use Rattle.media_tape.specs.Tape.{IsSizedAs, size_told, write_told, tape_written, written_synced, marks_told, marked_synced, tape_marked, lost, erased};
+ghost use Rattle.media_tape.specs.Tape.{IsSizedAs, IsWrittenTo, size_told, write_told, tape_written, written_synced, marks_told, marked_synced, tape_marked, lost, erased};
 ghost use Rattle.media_tape.specs.Fixed.{fixed_written_told, tape_written_fixed, fixed_synced, IsPart};
 ghost use Rattle.media_tape.specs.Writing.{AreWhole, bytes_of, part_told, put_if_told, put_synced};
 ghost use Rattle.media_tape.specs.declared.outcome.FixedWritten.TheVariants as fixed_written;
@@ -64,13 +64,7 @@ impl<S: Store> Tape<S> {
         ensures unsynced { IfOk result (λ done. OnErr done (self.new.synced ≡ false)) }
         ensures fits { IfOk result (λ done. OnErr done (size_of self.old.before + (length bytes.now + 8) ≤ self.old.capacity)) }
         ensures honest { self.new.honest ≡ self.old.honest }
-        ensures rest { IfOk result (λ done. self.new ≡ record self.old {
-          before = self.new.before;
-          after = self.new.after;
-          tail = self.new.tail;
-          synced = self.new.synced;
-          failures = counted done self.old.failures;
-        }) }
+        ensures rest { IfOk result (λ done. IsWrittenTo done self.old self.new) }
         ensures succeeds { IfOk result (λ done. IsTrue self.old.steady → self.old.capacity ≤ self.old.reach → IsOk done) }
         ensures err { OnErr result (self.new ≡ self.old) }
     {
@@ -114,13 +108,7 @@ impl<S: Store> Tape<S> {
         ensures unsynced { IfOk result (λ done. OnErr done (self.new.synced ≡ false)) }
         ensures fits { IfOk result (λ done. OnErr done (size_of self.old.before + (block_length + 8) ≤ self.old.capacity)) }
         ensures honest { self.new.honest ≡ self.old.honest }
-        ensures rest { IfOk result (λ done. self.new ≡ record self.old {
-          before = self.new.before;
-          after = self.new.after;
-          tail = self.new.tail;
-          synced = self.new.synced;
-          failures = counted done self.old.failures;
-        }) }
+        ensures rest { IfOk result (λ done. IsWrittenTo done self.old self.new) }
         ensures succeeds { IfOk result (λ done. IsTrue self.old.steady → self.old.capacity ≤ self.old.reach → IsOk done) }
         ensures err { OnErr result (self.new ≡ self.old) }
     {
@@ -166,13 +154,7 @@ impl<S: Store> Tape<S> {
         ensures fits { IfOk result (λ done. OnErr done (count ≢ 0
             → size_of self.old.before + 8 * count ≤ self.old.capacity)) }
         ensures honest { self.new.honest ≡ self.old.honest }
-        ensures rest { IfOk result (λ done. self.new ≡ record self.old {
-          before = self.new.before;
-          after = self.new.after;
-          tail = self.new.tail;
-          synced = self.new.synced;
-          failures = counted done self.old.failures;
-        }) }
+        ensures rest { IfOk result (λ done. IsWrittenTo done self.old self.new) }
         ensures succeeds { IfOk result (λ done. IsTrue self.old.steady → self.old.capacity ≤ self.old.reach → IsOk done) }
         ensures err { OnErr result (self.new ≡ self.old) }
     {
@@ -201,13 +183,7 @@ impl<S: Store> Tape<S> {
         ensures unsynced { IfOk result (λ done. OnErr done (self.new.synced ≡ false)) }
         ensures fits { IfOk result (λ done. OnErr done (size_of self.old.before + length (bytes_of objects.now) ≤ self.old.capacity)) }
         ensures honest { self.new.honest ≡ self.old.honest }
-        ensures rest { IfOk result (λ done. self.new ≡ record self.old {
-          before = self.new.before;
-          after = self.new.after;
-          tail = self.new.tail;
-          synced = self.new.synced;
-          failures = counted done self.old.failures;
-        }) }
+        ensures rest { IfOk result (λ done. IsWrittenTo done self.old self.new) }
         ensures succeeds { IfOk result (λ done. IsTrue self.old.steady → self.old.capacity ≤ self.old.reach → IsOk done) }
         ensures err { OnErr result (self.new ≡ self.old) }
     {

@@ -1,5 +1,6 @@
 use Rattle.std.proofs.Common.{◌≡◌, ℕ, ◌+◌, List, ◌++◌, length, take, drop, arith, rules, ap, sym, ◌∙◌}
 use Rattle.std.proofs.lemmas.List.{length-append, length-drop, length-take-le, drop-append-le, drop-drop}
+use Rattle.media_store.proofs.Reading.{only_read_then}
 use Rattle.media_block.proofs.Slices.{front-slice}
 use Rattle.media_block.proofs.Differences.{found-difference, same-more}
 use Rattle.media_block.proofs.difference.compare_data.Goals as goal
@@ -14,7 +15,7 @@ returns-in-Some-clause-compared g c honest =
     found-difference c.args.at c.args.count c.loop-done.done part c.in-Some.found c.read_at.new.buf c.split_at.result.0.now
     (g.S.Store.content c.args.store.now) c.args.«data».now (omega arith) (omega arith)
     (c.loop-done.invariant.same (c.in_ok-read_at.ensures.back honest))
-    (rw (c.loop-done.invariant.content, room) at (c.in_ok-read_at.ensures.read honest)) bytes c.in-Some.ensures.least
+    (rw (c.loop-done.invariant.read.content, room) at (c.in_ok-read_at.ensures.read honest)) bytes c.in-Some.ensures.least
 
 pub loop-done-preserved : goal.loop-done-preserved
 loop-done-preserved g c =
@@ -34,15 +35,19 @@ loop-done-preserved g c =
         c.next_slice.ensures.some (rw rest (omega (arith, length-drop (done + part) c.args.«data».now, again))),
       );
       room = simp (length-append, length-drop) (omega (arith, c.read_at.auto.buf, room, c.loop-done.invariant.room));
-      back = λ honest. c.loop-done.invariant.back (c.in_ok-read_at.ensures.back honest);
-      content = c.in_ok-read_at.ensures.content ∙ c.loop-done.invariant.content;
-      synced = c.in_ok-read_at.ensures.synced ∙ c.loop-done.invariant.synced;
+      read = only_read_then g.S.Store _ _ _ c.loop-done.invariant.read (record {
+        content = c.in_ok-read_at.ensures.content;
+        synced = c.in_ok-read_at.ensures.synced;
+        steady = c.in_ok-read_at.ensures.steady;
+        reach = c.in_ok-read_at.ensures.reach;
+        atomic = c.in_ok-read_at.ensures.atomic;
+        back = c.in_ok-read_at.ensures.back;
+      });
       failures = search rules;
-      steady = c.in_ok-read_at.ensures.steady ∙ c.loop-done.invariant.steady;
       agrees = λ steady within.
-          (c.in_ok-read_at.ensures.succeeds (rw c.loop-done.invariant.steady steady) (rw (c.loop-done.invariant.content, room) (omega (arith, within)))).1
+          (c.in_ok-read_at.ensures.succeeds (rw c.loop-done.invariant.read.steady steady) (rw (c.loop-done.invariant.read.content, room) (omega (arith, within)))).1
           ∙ c.loop-done.invariant.agrees steady within;
       same = λ honest. same-more c.args.at done part c.read_at.new.buf c.split_at.result.0.now (g.S.Store.content c.args.store.now) c.args.«data».now
           (omega arith) (c.loop-done.invariant.same (c.in_ok-read_at.ensures.back honest)) (c.read_at.auto.buf ∙ room)
-          (rw (c.loop-done.invariant.content, room) at (c.in_ok-read_at.ensures.read honest)) bytes c.in_default.ensures.least;
+          (rw (c.loop-done.invariant.read.content, room) at (c.in_ok-read_at.ensures.read honest)) bytes c.in_default.ensures.least;
     }

@@ -21,8 +21,8 @@ returns-then-length-gt-MOST_BYTES-clause-found g c honest shows long =
 pub returns-then-again-length-clause-found : goal.returns-then-again-length-clause-found
 returns-then-again-length-clause-found g c honest shows long =
     let content = g.S.Store.content c.args.store.now in
-    let first = c.in_ok-hold.ensures.shows (c.in_ok-hold-2.ensures.back honest) shows long in
-    let second = rw c.in_ok-hold.ensures.content at c.in_ok-hold-2.ensures.shows in
+    let first = c.in_ok-hold.ensures.shows (c.in_ok-hold-2.ensures.kept.back honest) shows long in
+    let second = rw c.in_ok-hold.ensures.kept.content at c.in_ok-hold-2.ensures.shows in
     let again = rw c.from-2.ensures at (c.number-again.ensures content (second honest first long)) in
     some-item content c.args.place c.args.end c.number-length.result c.number-again.result long (omega arith) (omega arith) (omega arith)
     (c.number-length.ensures content first) again c.if-again-length.true
@@ -30,8 +30,8 @@ returns-then-again-length-clause-found g c honest shows long =
 pub returns-else-again-length-clause-found : goal.returns-else-again-length-clause-found
 returns-else-again-length-clause-found g c honest shows long =
     let content = g.S.Store.content c.args.store.now in
-    let first = c.in_ok-hold.ensures.shows (c.in_ok-hold-2.ensures.back honest) shows long in
-    let second = rw c.in_ok-hold.ensures.content at c.in_ok-hold-2.ensures.shows in
+    let first = c.in_ok-hold.ensures.shows (c.in_ok-hold-2.ensures.kept.back honest) shows long in
+    let second = rw c.in_ok-hold.ensures.kept.content at c.in_ok-hold-2.ensures.shows in
     let again = rw c.from-2.ensures at (c.number-again.ensures content (second honest first long)) in
     none-other content c.args.place c.args.end c.number-length.result c.number-again.result long (omega arith) (omega arith)
     (c.number-length.ensures content first) again c.if-again-length.false

@@ -1,4 +1,5 @@
 use Rattle.std.proofs.Common.{◌≡◌, ◌-◌, ◌≤◌, length, take, sum, All, IsTrue}
+use Rattle.media_store.specs.Reading.{IsOnlyRead}
 use Rattle.media_tape.specs.Items.{IsSize}
 use Rattle.media_tape.specs.Window.{IsWindow, Shows}
 use Rattle.media_tape.proofs.Walks.{IsWalked}
@@ -8,13 +9,8 @@ abbrev pub invariant-loop-window : goal.invariant-loop-window
 invariant-loop-window g l = record {
   within : sum l.index.sizes ≤ l.end;
   each : All IsSize l.index.sizes;
-  content : g.S.Store.content l.store ≡ g.S.Store.content l.initial.store;
-  synced : g.S.Store.synced l.store ≡ g.S.Store.synced l.initial.store;
+  read : IsOnlyRead g.S.Store l.initial.store l.store;
   failures : g.S.Store.failures l.store ≡ g.S.Store.failures l.initial.store;
-  steady : g.S.Store.steady l.store ≡ g.S.Store.steady l.initial.store;
-  reach : g.S.Store.reach l.store ≡ g.S.Store.reach l.initial.store;
-  atomic : g.S.Store.atomic l.store ≡ g.S.Store.atomic l.initial.store;
-  back : IsTrue (g.S.Store.honest l.store) → IsTrue (g.S.Store.honest l.initial.store);
   stays : IsTrue (g.S.Store.steady l.initial.store) → l.end ≤ length (g.S.Store.content l.initial.store)
       → g.S.Store.honest l.store ≡ g.S.Store.honest l.initial.store;
   window : IsWindow l.window;

@@ -42,10 +42,10 @@ returns-clause-succeeds g c steady honest =
       told.0,
       rw (
         ← c.self.view_is,
-        c.compare_data.ensures.content,
-        c.compare_data.ensures.synced,
+        c.compare_data.ensures.kept.content,
+        c.compare_data.ensures.kept.synced,
         c.compare_data.ensures.failures,
-        c.compare_data.ensures.steady,
+        c.compare_data.ensures.kept.steady,
         told.0,
         told.1,
       ) refl,

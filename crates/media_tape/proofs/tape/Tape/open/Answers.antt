@@ -25,7 +25,7 @@ pub returns-then-place-end-clause-explained : goal.returns-then-place-end-clause
 returns-then-place-end-clause-explained g c honest =
     let walked = c.in-Ok-walk.ensures in
     let content = g.S.Store.content c.args.store in
-    let end : c.in-Ok.end ≡ length content = c.in-Ok.ensures.len (walked.back honest) in
+    let end : c.in-Ok.end ≡ length content = c.in-Ok.ensures.len (walked.kept.back honest) in
     let place = walked_place content (g.S.Store.content c.len.new.self) c.in-Ok-walk.index.sizes c.in-Ok.end c.end-place.result
     c.in-Ok.ensures.content end (walked.place honest) c.end-place.ensures.end in
     (place, rw end at c.if-place-end.true)
@@ -34,7 +34,7 @@ pub returns-then-capacity-end-clause-explained : goal.returns-then-capacity-end-
 returns-then-capacity-end-clause-explained g c honest =
     let walked = c.in-Ok-walk.ensures in
     let content = g.S.Store.content c.args.store in
-    let end : c.in-Ok.end ≡ length content = c.in-Ok.ensures.len (walked.back honest) in
+    let end : c.in-Ok.end ≡ length content = c.in-Ok.ensures.len (walked.kept.back honest) in
     let place = walked_place content (g.S.Store.content c.len.new.self) c.in-Ok-walk.index.sizes c.in-Ok.end c.end-place.result
     c.in-Ok.ensures.content end (walked.place honest) c.end-place.ensures.end in (
       whole_tape content c.end-place.result c.in-Ok.end place end (rw c.end-place.ensures.end walked.within) c.if-place-end.false,
@@ -45,15 +45,15 @@ pub returns-clause-tail : goal.returns-clause-tail
 returns-clause-tail g c honest =
     let walked = c.in-Ok-walk.ensures in
     let content = g.S.Store.content c.args.store in
-    let end : c.in-Ok.end ≡ length content = c.in-Ok.ensures.len (walked.back honest) in
-    no_tail content (g.S.Store.content c.walk.new.store) _ c.in-Ok.end (walked.content ∙ c.in-Ok.ensures.content) end
+    let end : c.in-Ok.end ≡ length content = c.in-Ok.ensures.len (walked.kept.back honest) in
+    no_tail content (g.S.Store.content c.walk.new.store) _ c.in-Ok.end (walked.kept.content ∙ c.in-Ok.ensures.content) end
     (rw c.end-place.ensures.end at c.if-place-end.false)
 
 pub returns-clause-tape : goal.returns-clause-tape
 returns-clause-tape g c honest =
     let walked = c.in-Ok-walk.ensures in
     let content = g.S.Store.content c.args.store in
-    let end : c.in-Ok.end ≡ length content = c.in-Ok.ensures.len (walked.back honest) in
+    let end : c.in-Ok.end ≡ length content = c.in-Ok.ensures.len (walked.kept.back honest) in
     let place = walked_place content (g.S.Store.content c.len.new.self) c.in-Ok-walk.index.sizes c.in-Ok.end c.end-place.result
     c.in-Ok.ensures.content end (walked.place honest) c.end-place.ensures.end in
     whole_tape content c.end-place.result c.in-Ok.end place end (rw c.end-place.ensures.end walked.within) c.if-place-end.false
@@ -70,16 +70,16 @@ returns-clause-after g c honest =
     let sizes = c.in-Ok-walk.index.sizes in
     let walked = c.in-Ok-walk.ensures in
     let content = g.S.Store.content c.walk.new.store in
-    let same : content ≡ g.S.Store.content c.args.store = walked.content ∙ c.in-Ok.ensures.content in
-    let end : c.in-Ok.end ≡ length (g.S.Store.content c.args.store) = c.in-Ok.ensures.len (walked.back honest) in
+    let same : content ≡ g.S.Store.content c.args.store = walked.kept.content ∙ c.in-Ok.ensures.content in
+    let end : c.in-Ok.end ≡ length (g.S.Store.content c.args.store) = c.in-Ok.ensures.len (walked.kept.back honest) in
     let long : length (g.S.Store.content c.len.new.self) ≡ c.in-Ok.end = ap length c.in-Ok.ensures.content ∙ sym end in
     let total : sum sizes ≡ c.in-Ok.end = omega (arith, c.end-place.ensures.end, c.if-place-end.false, walked.within) in
     let parsed = walked.sizes honest (omega (arith, long)) in
     let parse : map size (items_of (take (sum sizes) content)) ≡ sizes =
     ap (λ (n : ℕ). map size (items_of (take n content))) total
-    ∙ ap (λ (xs : List ℕ). map size (items_of (take c.in-Ok.end xs))) walked.content ∙ sym parsed in
-    items_sized-is sizes content (omega (arith, total, ap length walked.content, long)) parse
-    ∙ ap items_of (take_all (sum sizes) content (omega (arith, total, ap length walked.content, long)) ∙ same)
+    ∙ ap (λ (xs : List ℕ). map size (items_of (take c.in-Ok.end xs))) walked.kept.content ∙ sym parsed in
+    items_sized-is sizes content (omega (arith, total, ap length walked.kept.content, long)) parse
+    ∙ ap items_of (take_all (sum sizes) content (omega (arith, total, ap length walked.kept.content, long)) ∙ same)
 
 pub returns-clause-before : goal.returns-clause-before
 returns-clause-before g c = refl

@@ -74,7 +74,7 @@ returns-in-Ok-clause-given g c honest =
     let old = c.self.inside in
     let content = g.S.Store.content old.store in
     let n : ℕ = c.size_at-length.result - 8 in
-    let that = next g c (c.in-Ok.ensures.back honest) in
+    let that = next g c (c.in-Ok.ensures.kept.back honest) in
     let place = sum (take old.position old.index.sizes) in
     let least : c.min-given.result ≡ min c.args.asked n = c.min-given.ensures in
     let within : place + 4 + c.min-given.result ≤ length content = omega (arith, that.within, least) in
@@ -87,9 +87,9 @@ returns-in-Ok-clause-tape g c =
     let old = c.self.inside in
     let items = items_sized old.index.sizes (g.S.Store.content old.store) in
     let some : (c.args.asked == 0) ≡ false = search rules in
-    let kept = c.in-Ok.ensures in
+    let kept = c.in-Ok.ensures.kept in
     rw (← c.self.view_is, some, kept.content, take-add old.position 1 items, ← drop-drop 1 old.position items)
-    (rw (kept.synced, kept.failures, kept.steady, kept.reach, kept.atomic) refl)
+    (rw (kept.synced, c.in-Ok.ensures.failures, kept.steady, kept.reach, kept.atomic) refl)
 
 pub returns-in-Ok-clause-succeeds : goal.returns-in-Ok-clause-succeeds
 returns-in-Ok-clause-succeeds g c steady honest =

@@ -57,7 +57,7 @@ returns-in-Ok-clause-few g c =
 
 pub returns-in-Ok-clause-given : goal.returns-in-Ok-clause-given
 returns-in-Ok-clause-given g c honest =
-    let back = c.in_ok-done.ensures.back honest in
+    let back = c.in_ok-done.ensures.kept.back honest in
     let is = of_items g c back in
     let content = g.S.Store.content c.self.inside.store in
     let given = ap (λ (r : FixedRead). r.given) is.told in
@@ -71,8 +71,8 @@ returns-in-Ok-clause-tape g c =
     let old = c.self.inside in
     let items = items_sized old.index.sizes (g.S.Store.content old.store) in
     let passed : ℕ = fixed_passed (told_of (fixed c.args.count c.args.block_length (drop old.position items))) in
-    let kept = c.in_ok-done.ensures in
-    let failures = rw c.in-Ok.is at kept.failures in
+    let kept = c.in_ok-done.ensures.kept in
+    let failures = rw c.in-Ok.is at c.in_ok-done.ensures.failures in
     rw (← c.self.view_is, kept.content, c.passed_blocks.ensures, by_items g c, take-add old.position passed items, ← drop-drop passed old.position items)
     (rw (kept.synced, failures, kept.steady, kept.reach, kept.atomic) refl)
 
@@ -100,7 +100,7 @@ invariant_of-self-in-Ok g c =
       within = omega (arith, within.passed, c.passed_blocks.ensures, length-drop old.position old.index.sizes, c.self.invariant.within);
       fits = c.self.invariant.fits;
       sized = c.self.invariant.sized;
-      are_in = λ honest. rw c.in_ok-done.ensures.content (c.self.invariant.are_in (c.in_ok-done.ensures.back honest));
+      are_in = λ honest. rw c.in_ok-done.ensures.kept.content (c.self.invariant.are_in (c.in_ok-done.ensures.kept.back honest));
     }
 
 pub returns-in-Ok-clause-unread : goal.returns-in-Ok-clause-unread
