@@ -1,6 +1,7 @@
 //! How a unit performs a command: the checks, and then the command.
 
-ghost use Rattle.std.specs.Prelude.{◌≡◌, ◌≤◌, [], length, take, IsTrue, IfOk, OnOk, OnErr};
+ghost use Rattle.std.specs.Prelude.{◌≡◌, ◌≤◌, [], length, take, slice_index, IsTrue, IfOk, OnOk, OnErr};
+ghost use Rattle.scsi_cdb.specs.Operation.{row_of};
 ghost use Rattle.scsi_mode.specs.ParameterList.{selected};
 ghost use Rattle.scsi_unit.specs.Device.{parameters_of, store_of};
 ghost use Rattle.scsi_unit.specs.Checks.{judged, has_range, range_of, needed, data_sense, writes};
@@ -214,23 +215,26 @@ impl<S: Store> Unit<S> {
         }
     }
 
-    /// Returns the command that the bytes encode, or the first check that refuses it (own, after SPC-4). `attention` is the
-    /// first that is pending for the nexus.
+    /// Returns the command that the bytes encode, or the first check that refuses it (own, after SPC-4). `row` is that of its
+    /// operation code, and `attention` the first that is pending for the nexus.
     #[tactic(auto, unfolding(crate::specs::Checks::judged))]
     fn judge(
         &self,
         nexus: &Nexus,
+        row: Option<Row>,
         attention: Option<Attention>,
         cdb: [u8; 16],
         data: &Data,
     ) -> Result<Command, Refusal>
+        requires row { row ≡ row_of (slice_index cdb 0) }
         requires pending { attention ≡ (told nexus.now self.now.joined).1 }
         ensures judged { result ≡ judged nexus.now cdb «data».now self.now }
         ensures range { IfOk result (λ command. IsTrue (has_range self.now.device (range_of command))) }
         ensures needed { IfOk result (λ command. needed command ≤ length «data».now) }
     {
-        let Some(row) = Row::for_kind(cdb[0], self.device.kind()) else {
-            return Err(Refusal::Refused(Cdb::no_operation()));
+        let row = match row {
+            Some(row) if row.operation.is_for(self.device.kind()) => row,
+            _ => return Err(Refusal::Refused(Cdb::no_operation())),
         };
         if !row.passes_attention {
             if let Some(attention) = attention {
@@ -243,8 +247,7 @@ impl<S: Store> Unit<S> {
         if let Some(sense) = self.device.unready(row.needs) {
             return Err(Refusal::Refused(sense));
         }
-        let fixed_length = self.device.fixed_length();
-        let command = match row.operation.command(cdb, fixed_length) {
+        let command = match row.operation.command(cdb, self.device.fixed_length()) {
             Ok(command) => command,
             Err(fault) => return Err(Refusal::Refused(fault.sense())),
         };
@@ -278,23 +281,25 @@ impl<S: Store> Unit<S> {
         }
     }
 
-    /// Performs a command on the unit with this data. The data that it returns lies in a buffer of `used`, if there is
-    /// one. If an allocation fails, nothing changes.
+    /// Performs a command on the unit with this data. `row` is that of its operation code. The data that it returns lies in
+    /// a buffer of `used`, if there is one. If an allocation fails, nothing changes.
     #[tactic(auto, unfolding(crate::specs::Unit::performed_as, crate::specs::Unit::touch_at))]
     pub(crate) fn perform_with(
         &mut self,
         used: &mut Buffers,
         nexus: &Nexus,
+        row: Option<Row>,
         cdb: [u8; 16],
         data: &Data,
     ) -> Result<Done, Memory>
+        requires { row ≡ row_of (slice_index cdb 0) }
         ensures done { IfOk result (IsPerformed (touch_at nexus.now cdb «data».now self.old)
             (λ came. performed_as came nexus.now cdb «data».now self.old) self.old self.new) }
         ensures given { IfOk result (λ done. length done.given ≤ most_given) }
         ensures err { OnErr result (self.new ≡ self.old) }
     {
         let attention = self.joined.look_for(nexus);
-        match self.judge(nexus, attention, cdb, data) {
+        match self.judge(nexus, row, attention, cdb, data) {
             Ok(command) => self.carry_out(used, nexus, command, data),
             Err(refusal) => Ok(self.refuse(nexus, refusal)),
         }

@@ -14,6 +14,7 @@ use data_parts::Data;
 use media_block::Disk;
 use media_store::Store;
 use media_tape::Tape;
+use scsi_cdb::Row;
 use scsi_disk::{Buffers, DiskDevice};
 use scsi_reserve::Table;
 use scsi_sense::{Attention, Done, Nexus};
@@ -181,6 +182,7 @@ impl<S: Store> Unit<S> {
         if !self.is_named(lun) {
             return without_unit(alloc, cdb);
         }
-        self.perform_with(&mut Buffers::new(alloc), nexus, cdb, data)
+        let row = Row::of(cdb[0]);
+        self.perform_with(&mut Buffers::new(alloc), nexus, row, cdb, data)
     }
 }

@@ -7,7 +7,6 @@ ghost use Rattle.scsi_unit.specs.Unit.{joined_unit};
 ghost use Rattle.scsi_unit.specs.Lun.{lun_number as number_of_lun};
 ghost use Rattle.scsi_unit.specs.Units.{join, leave, raised_at, raised_for_all_at, raised_everywhere, numbers_of, come_out, perform as performed, unit_of, AreSound, AreSure, AreAnswered, IsTrusted};
 ghost use Rattle.scsi_unit.specs.Identity.{reported_luns, is_row_of_target};
-ghost use Rattle.scsi_cdb.specs.Operation.{row_of};
 
 use crate::identity::{report_luns, without_unit};
 use crate::joined::join as join_list;
@@ -104,11 +103,11 @@ fn reported_luns(alloc: Global, luns: &[u8], cdb: [u8; 16]) -> Result<Done, Memo
     }
 }
 
-/// Returns whether the target answers a command for all its units.
-fn is_for_target(code: u8) -> bool
-    ensures { result ≡ is_row_of_target (row_of code) }
+/// Returns whether the target answers a command with this row for all its units.
+fn is_for_target(row: &Option<Row>) -> bool
+    ensures { result ≡ is_row_of_target row.now }
 {
-    match Row::of(code) {
+    match row {
         Some(row) => row.operation.is_of_target(),
         None => false,
     }
@@ -279,10 +278,11 @@ impl<S: Store> Units<S> {
         let Some(at) = self.position(lun) else {
             return without_unit(self.alloc, cdb);
         };
-        if is_for_target(cdb[0]) {
+        let row = Row::of(cdb[0]);
+        if is_for_target(&row) {
             return reported_luns(self.alloc, self.luns.as_slice(), cdb);
         }
         let unit = &mut self.units[at];
-        unit.perform_with(&mut self.used, nexus, cdb, data)
+        unit.perform_with(&mut self.used, nexus, row, cdb, data)
     }
 }

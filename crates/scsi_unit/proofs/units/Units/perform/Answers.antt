@@ -3,7 +3,7 @@ use Rattle.scsi_unit.proofs.Found.{none_answered, none_performed}
 use Rattle.std.proofs.Common.{◌≡◌, ℕ, ◌<◌, ◌∙◌, subst, set, true, false, length, refl, ap, sym}
 use Rattle.std.proofs.lemmas.Result.{IfOk-weaker, on_err_weaker}
 use Rattle.std.proofs.lemmas.List.{length-set, set-get_or}
-use Rattle.scsi_unit.specs.Identity.{is_for_target}
+use Rattle.scsi_unit.specs.Identity.{is_for_target, is_row_of_target}
 use Rattle.scsi_unit.specs.Units.{unit_of, numbers_of}
 use Rattle.scsi_unit.specs.Lun.{lun_number}
 use Rattle.scsi_unit.specs.State.{UnitState}
@@ -16,7 +16,7 @@ use Rattle.scsi_unit.proofs.units.Units.perform.Goals as goal
 
 pub returns-then-is_for_target-clause-answered : goal.returns-then-is_for_target-clause-answered
 returns-then-is_for_target-clause-answered g c =
-    let report : is_for_target c.args.cdb ≡ true = sym c.is_for_target.ensures ∙ c.if-is_for_target.true in
+    let report : is_for_target c.args.cdb ≡ true = sym (c.is_for_target.ensures ∙ ap is_row_of_target c.of-row.ensures) ∙ c.if-is_for_target.true in
     let known : c.as_slice.result.now ≡ numbers_of c.args.self.now = c.as_slice.ensures.value ∙ c.self.invariant ∙ ap numbers_of c.self.view_is in
     rw (← c.in-Some.ensures.value)
     (IfOk-weaker c.reported_luns.result _ _
@@ -51,7 +51,7 @@ index_mut-unit-requires g c = subst (λ (n : ℕ). c.in-Some.at < n) (sym (c.sel
 
 pub returns-clause-answered : goal.returns-clause-answered
 returns-clause-answered g c =
-    let other : is_for_target c.args.cdb ≡ false = sym c.is_for_target.ensures ∙ c.if-is_for_target.false in
+    let other : is_for_target c.args.cdb ≡ false = sym (c.is_for_target.ensures ∙ ap is_row_of_target c.of-row.ensures) ∙ c.if-is_for_target.false in
     rw (← c.in-Some.ensures.value, c.self.view_is)
     (IfOk-weaker c.perform_with.result _ _
     (λ done performed. unit_answered c.args.self.now c.args.nexus.now c.args.cdb
