@@ -19,7 +19,7 @@ use iscsi_pdu::{
     Answer, Frame, HEADER_LENGTH, Header, Opcode, Stamp, TaskFunction, TaskManagementResponse,
     TaskResult,
 };
-use iscsi_requests::{Aborted, Reach, Scope};
+use iscsi_requests::{Aborted, Reach};
 use std::alloc::Global;
 use std::marker::Model;
 use target_limits::Memory;
@@ -177,8 +177,8 @@ impl Session {
             orders.push_reserved(function);
             return Ok(Act::Taken);
         }
-        let response = self.function_result(&reach);
-        let numbers = self.end_tasks(&reach)?;
+        let (response, plugs) = self.judge_function(&reach);
+        let numbers = self.end_tasks(&reach, plugs)?;
         let stamp = Stamp {
             stat_sn: self.stat.next(),
             exp_cmd_sn: numbers.exp_cmd_sn,
@@ -189,14 +189,15 @@ impl Session {
         Ok(Act::Taken)
     }
 
-    /// Finishes the first request that is due, which is this function. Removes what it reaches, or plugs the number
-    /// that it refers to. Returns the command numbers as they are before the plug. If an allocation fails, nothing
+    /// Finishes the first request that is due, which is this function. Removes what it reaches or, if `plugs`, plugs the
+    /// number that it refers to. Returns the command numbers as they are before the plug. If an allocation fails, nothing
     /// changes.
-    fn end_tasks(&mut self, reach: &Reach) -> Result<CommandNumbers, Memory>
-        requires { 0 < length self.old.tasks.due }
+    fn end_tasks(&mut self, reach: &Reach, plugs: bool) -> Result<CommandNumbers, Memory>
+        requires due { 0 < length self.old.tasks.due }
+        requires vacant { IsTrue plugs → is_vacant self.old.tasks (ref_cmd_sn reach.now.function) ≡ true }
         ensures stands { IfOk result (λ numbers. (luns : List ℕ) (past : Past) (k : ℕ) (others : List ℕ) → Stands past self.old
             → due past ≡ k ∷ others → is_function_in (frame_of past.came k) ≡ true → reach.now ≡ own_reach luns (frame_of past.came k).header
-            → awaited past reach.now ≡ [] → (numbers ≡ order.numbers_of (numbers_in (ended luns k past))) × Stands (behind luns k past (ended luns k past)) self.new) }
+            → awaited past reach.now ≡ [] → plugs ≡ plugs_in past reach.now → (numbers ≡ order.numbers_of (numbers_in (ended luns k past))) × Stands (behind luns k past (ended luns k past)) self.new) }
         ensures fewer { OnOk result ((frame : pdu.Frame) (others : List pdu.Frame) → self.old.tasks.due ≡ frame ∷ others → is_function_in frame ≡ true
             → waiting self.new.tasks < waiting self.old.tasks) }
         ensures same { self.new ≡ record self.old { tasks = self.new.tasks; transfers = self.new.transfers; functions = self.new.functions } }
@@ -204,7 +205,7 @@ impl Session {
     {
         let function = &reach.function;
         let tag = function.initiator_task_tag();
-        if self.plugs(reach) {
+        if plugs {
             let numbers = self.tasks.plug_behind_first(function.ref_cmd_sn())?;
             self.functions.finish(tag);
             return Ok(numbers);
@@ -228,18 +229,6 @@ impl Session {
         some
     }
 
-    /// Returns whether a function plugs the number that it refers to: it is the ABORT TASK of a task that has not come.
-    #[tactic(auto, unfolding(iscsi_requests::specs::Functions::plugs))]
-    fn plugs(&self, reach: &Reach) -> bool
-        ensures past { (past : Past) → Stands past self.now → result ≡ plugs_in past reach.now }
-        ensures vacant { IsTrue result → is_vacant self.now.tasks (ref_cmd_sn reach.now.function) ≡ true }
-    {
-        match reach.scope() {
-            Scope::Task => matches!(self.abort_finds(reach), Aborted::Missing),
-            Scope::OwnTaskSet | Scope::TaskSet | Scope::AllTasks | Scope::NoTask => false,
-        }
-    }
-
     /// Returns what an ABORT TASK finds.
     fn abort_finds(&self, reach: &Reach) -> Aborted
         ensures past { (past : Past) → Stands past self.now → result ≡ abort_finds past reach.now }
@@ -261,13 +250,19 @@ impl Session {
         Aborted::Nothing
     }
 
-    /// Returns the response to a function (RFC 7143 §11.6.1).
-    #[tactic(auto, unfolding(iscsi_requests::specs::Functions::function_result))]
-    fn function_result(&self, reach: &Reach) -> TaskResult
-        ensures { (past : Past) → Stands past self.now → result ≡ function_result past reach.now }
+    /// Returns the response to a function (RFC 7143 §11.6.1), and whether it plugs the number that it refers to: it is the
+    /// ABORT TASK of a task that has not come.
+    #[tactic(auto, unfolding(iscsi_requests::specs::Functions::function_result, iscsi_requests::specs::Functions::plugs))]
+    fn judge_function(&self, reach: &Reach) -> (TaskResult, bool)
+        ensures response { (past : Past) → Stands past self.now → result.0 ≡ function_result past reach.now }
+        ensures plugs { (past : Past) → Stands past self.now → result.1 ≡ plugs_in past reach.now }
+        ensures vacant { IsTrue result.1 → is_vacant self.now.tasks (ref_cmd_sn reach.now.function) ≡ true }
     {
-        match reach.function.task_function() {
-            TaskFunction::AbortTask => abort_result(self.abort_finds(reach)),
+        let response = match reach.function.task_function() {
+            TaskFunction::AbortTask => {
+                let found = self.abort_finds(reach);
+                return (abort_result(found), matches!(found, Aborted::Missing));
+            }
             TaskFunction::AbortTaskSet
             | TaskFunction::ClearTaskSet
             | TaskFunction::LogicalUnitReset => reach.set_result(),
@@ -276,6 +271,7 @@ impl Session {
             TaskFunction::ClearAca | TaskFunction::TargetColdReset | TaskFunction::Other(_) => {
                 TaskResult::NotSupported
             }
-        }
+        };
+        (response, false)
     }
 }

@@ -31,12 +31,12 @@ returns-clause-acts c past k rest s is e =
     (sym (awaits_is past _ (reach_of luns k past) known) ∙ ap (λ (r : FunctionReach). awaits_in r c.self.inside.transfers.list) (sym reach)
     ∙ sym c.awaits.ensures ∙ c.if-awaits.false) in
     let after = behind luns k past (ended luns k past) in
-    let ends = c.in_ok-numbers.ensures.stands luns past k rest s is e reach (ap (awaited past) reach ∙ none) in
+    let ends = c.in_ok-numbers.ensures.stands luns past k rest s is e reach (ap (awaited past) reach ∙ none) (c.judge_function-response.ensures.plugs past s) in
     let there = seen c.self-2.view_is ends.1 in
     let stat_is = (parts after _ there).stat_is in
     let number = c.next.ensures.number (statuses after) stat_is ∙ ap stat_sn (statuses_behind luns k past (ended luns k past)) in
     let stamped = stamp_is (ended luns k past) c.next.result c.in_ok-numbers.numbers number ends.0 in
-    let result = c.function_result-response.result in
+    let result = c.judge_function-response.result.0 in
     let answer : c.answer_to.result ≡ function_answer (stamp (ended luns k past)) result c.frame.inside.header =
     c.answer_to.ensures.value ∙ ap (λ (n : Stamp). function_answer n result c.frame.inside.header) stamped in
     record {
@@ -46,7 +46,7 @@ returns-clause-acts c past k rest s is e =
       out = c.put.ensures.items ∙ ap (λ (bytes : List ℕ). bytes ++ spelling c.answer_to.result) c.in_ok-reserve.ensures.items
           ∙ ap (λ (a : Answer). c.args.out.now.items ++ spelling a) answer
           ∙ one_spelled c.args.out.now.items _ _ (function_same luns k past c.frame.inside.header result header
-          (c.function_result-response.ensures past s) e none);
+          (c.judge_function-response.ensures.response past s) e none);
       orders = grind (arith, function_ordered, c.frame.inside.header);
     }
 

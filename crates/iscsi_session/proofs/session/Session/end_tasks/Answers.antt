@@ -15,7 +15,7 @@ use Rattle.iscsi_session.proofs.session.Session.end_tasks.Goals as goal
 -- ---- a number is plugged
 
 pub returns-then-plugs-clause-stands : goal.returns-then-plugs-clause-stands
-returns-then-plugs-clause-stands c luns past k rest s is e same unasked =
+returns-then-plugs-clause-stands c luns past k rest s is e same unasked told =
     let known = subst (λ (x : SessionState). Stands past x) (sym c.self.view_is) s in
     let tasks = c.self.inside.tasks in
     let n = c.ref_cmd_sn.result in
@@ -27,11 +27,11 @@ returns-then-plugs-clause-stands c luns past k rest s is e same unasked =
     let tag = c.initiator_task_tag-tag.ensures ∙ ap initiator_task_tag header in
     let middle = (function_here past _ k rest known is frame left c.initiator_task_tag-tag.result c.finish.new.self e some refl tag c.finish.ensures).1 in
     let none : awaited past reach ≡ [] = ap (awaited past) (sym same) ∙ unasked in
-    let does : plugs past reach ≡ true = ap (plugs past) (sym same) ∙ sym (c.plugs.ensures.past past s) ∙ c.if-plugs.true in
+    let does : plugs past reach ≡ true = ap (plugs past) (sym same) ∙ sym told ∙ c.if-plugs.true in
     let ends = stands_unreached luns past _ k e none does middle in
     let number : n ≡ ref_cmd_sn frame.header = c.ref_cmd_sn.ensures ∙ ap ref_cmd_sn header in
     let free : is_vacant left n ≡ true =
-    grind (arith, vacant_still, c.ref_cmd_sn.ensures, c.reach.view_is, c.self.view_is, c.plugs.ensures.vacant, c.if-plugs.true) in
+    grind (arith, vacant_still, c.ref_cmd_sn.ensures, c.reach.view_is, c.self.view_is, c.requires.vacant, c.if-plugs.true) in
     let after = stands_plugged_behind luns past _ k n e does number free ends in
     let now : c.plug_behind_first.new.self ≡ takes_all (holding n plug left) = c.in_ok-numbers.ensures.ok ∙ ap (plugged_behind n tasks) some in
     (c.in_ok-numbers.ensures.numbers (numbers (ended luns k past)) frame (drop 1 tasks.due) some (window_stands (ended luns k past) _ ends), rw now after)
@@ -42,11 +42,11 @@ returns-then-plugs-clause-fewer c frame others is function = grind (arith, waiti
 -- ---- commands are removed
 
 pub returns-clause-stands : goal.returns-clause-stands
-returns-clause-stands c luns past k rest s is e same unasked =
+returns-clause-stands c luns past k rest s is e same unasked told =
     let known = subst (λ (x : SessionState). Stands past x) (sym c.self.view_is) s in
     let reach = reach_of luns k past in
     let header : c.reach.inside.function ≡ (frame_of past.came k).header = ap (λ (r : FunctionReach). r.function) (c.reach.view_is ∙ same) in
-    let some : 0 < length c.self.inside.tasks.due = omega (arith, c.requires, ap (λ (x : SessionState). length x.tasks.due) c.self.view_is) in
+    let some : 0 < length c.self.inside.tasks.due = omega (arith, c.requires.due, ap (λ (x : SessionState). length x.tasks.due) c.self.view_is) in
     let g = given_frame c.finish_due.result c.self.inside.tasks.due c.finish_due.ensures.some c.finish_due.ensures.same c.finish_due.ensures.none some in
     let tag = c.initiator_task_tag-tag.ensures ∙ ap initiator_task_tag header in
     let middle = (function_here past _ k rest known is g.0 c.finish_due.new.self c.initiator_task_tag-tag.result c.finish-2.new.self e g.1 g.2 tag
@@ -57,7 +57,7 @@ returns-clause-stands c luns past k rest s is e same unasked =
     ∙ ap (λ (r : FunctionReach). without r c.finish_due.new.self) same in
     let transfers : c.remove.new.self ≡ record c.self.inside.transfers { list = transfers_without reach c.self.inside.transfers.list } = c.remove.ensures
     ∙ ap (λ (r : FunctionReach). record c.self.inside.transfers { list = transfers_without r c.self.inside.transfers.list }) same in
-    let none : plugs past reach ≡ false = ap (plugs past) (sym same) ∙ sym (c.plugs.ensures.past past s) ∙ c.if-plugs.false in
+    let none : plugs past reach ≡ false = ap (plugs past) (sym same) ∙ sym told ∙ c.if-plugs.false in
     let there : Stands (ended luns k past) (record {
       params = c.self.inside.params;
       stat = c.self.inside.stat;
