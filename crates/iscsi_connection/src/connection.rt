@@ -18,7 +18,7 @@ ghost use Rattle.iscsi_login.specs.Login.{advanced, reply_of};
 ghost use Rattle.iscsi_session.specs.Requests.{begun as begun_past};
 ghost use Rattle.iscsi_session.specs.State.{remembered};
 ghost use Rattle.iscsi_connection.specs.Rooms.{LendsRoom};
-ghost use Rattle.iscsi_world.specs.HalfRead.{IsCounted, CanCount, NeedsNot, KeepsPiece};
+ghost use Rattle.iscsi_world.specs.HalfRead.{IsCounted, HoldsUnneeded, CanCount, NeedsNot, KeepsPiece};
 ghost use Rattle.iscsi_world.specs.History.{arrivals};
 ghost use Rattle.iscsi_world.specs.Machine.{LinkState, is_reading, is_logging_in, session_in_phase, free_link, opened_link, shut_link, begun_link, GivesFrame, IsAnswered, IsWithin, sent_link, is_settled, is_silent, most_waiting};
 ghost use Rattle.iscsi_world.specs.declared.phase.Phase.TheVariants.{Login as UnderWay};
@@ -45,7 +45,7 @@ const MOST_WAITING: usize = 1_048_576;
 
 /// A connection.
 pub struct Connection {
-    framer: Framer,
+    pub(crate) framer: Framer,
     pub(crate) phase: Phase,
     pub(crate) waiting: Outbox,
 }
@@ -204,6 +204,17 @@ impl Connection {
         requires { is_reading self.now.phase ≡ true }
         ensures { result ≡ true → CanCount self.now more }
     {
+        if more == 0 || more >= self.framer.want() {
+            return false;
+        }
+        self.holds_unneeded()
+    }
+
+    /// Returns whether the bytes begin with the header of a Data-Out whose data is not needed.
+    pub(crate) fn holds_unneeded(&self) -> bool
+        requires { is_reading self.now.phase ≡ true }
+        ensures { result ≡ true → HoldsUnneeded self.now }
+    {
         let Some(header) = self.framer.header() else {
             return false;
         };
@@ -211,9 +222,6 @@ impl Connection {
             return false;
         };
         if header.data_length() > MOST_DATA {
-            return false;
-        }
-        if more == 0 || more >= self.framer.want() {
             return false;
         }
         !self.needs(&header)

@@ -22,6 +22,7 @@
 
 mod connection;
 mod connections;
+mod forgetting;
 mod losing;
 mod number_set;
 mod session_calls;

@@ -6,7 +6,7 @@ ghost use Rattle.iscsi_pdu.specs.Frames.{has_frame, is_long};
 ghost use Rattle.iscsi_pdu.specs.Header.{header_length};
 ghost use Rattle.iscsi_login.specs.LoginState.{IsTargetBelow};
 ghost use Rattle.iscsi_target.specs.Feeding.{LendsRoomAt};
-ghost use Rattle.iscsi_world.specs.HalfRead.{KeepsPieceAt};
+ghost use Rattle.iscsi_world.specs.HalfRead.{KeepsPieceAt, ForgetsAt};
 ghost use Rattle.iscsi_world.specs.History.{arrivals};
 ghost use Rattle.iscsi_world.specs.Machine.{GivesFrame, link_at, with_link, is_logging_in, is_reading};
 ghost use Rattle.iscsi_world.specs.Serving.{TakesFrame, TakesOne, TakesAll, first_starved};
@@ -46,6 +46,19 @@ impl<S: Store> Target<S> {
     {
         let connection = self.connections.at_mut(c);
         connection.keep(piece, spares)
+    }
+
+    /// Forgets the data of a connection's half-read Data-Out if it is not needed.
+    pub(crate) fn forget_unneeded(&mut self, c: usize)
+        requires in_range { c < 64 }
+        requires part { has_frame (link_at self.old c).half ≡ false }
+        ensures forgets { ForgetsAt c self.old self.new }
+        ensures count { length self.old.links ≡ 64 }
+    {
+        if self.connections.at(c).can_forget() {
+            let connection = self.connections.at_mut(c);
+            connection.forget();
+        }
     }
 
     /// Lends the buffer of a connection's half-read PDU as [`Target::lend_room`] does, using spare buffers.

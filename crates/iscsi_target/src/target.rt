@@ -150,7 +150,9 @@ impl<S: Store> Target<S> {
         if let Err(Memory) = self.keep(c, piece) {
             return Err(self.starve(c));
         }
-        self.take_frames(c)
+        let taken = self.take_frames(c);
+        self.forget_unneeded(c);
+        taken
     }
 
     /// Lends the buffer of the PDU that is half read on a connection to a reader, who is to fill `room` bytes of it with

@@ -16,24 +16,30 @@ use Rattle.iscsi_pdu.proofs.DataOuts.{Alike, alike_frame, alike_framed, alike_da
 use Rattle.iscsi_world.specs.History.{arrivals}
 use Rattle.iscsi_world.specs.Life.{Life, Phase}
 use Rattle.iscsi_world.specs.World.{longer}
-use Rattle.iscsi_world.specs.HalfRead.{out_in, IsCounted, NeedsNot, CanCount, CountsPiece}
+use Rattle.iscsi_world.specs.HalfRead.{out_in, IsCounted, NeedsNot, HoldsUnneeded, CanCount, CountsPiece}
 use Rattle.iscsi_world.specs.Machine.{LinkState, is_reading}
 use Rattle.iscsi_login.specs.Directory.{KnownTargets}
 use Rattle.iscsi_world.specs.declared.phase.Phase as code
 use Rattle.iscsi_transfer.specs.Counted.{brought}
 use Rattle.iscsi_world.specs.Stands.{phase_for, needs_in, IsHalf, IsQuietIn}
 use Rattle.iscsi_world.proofs.Taking.{none_whole}
-use Rattle.iscsi_world.proofs.HalfRead.{like, counted, alike_long, long_more, IsUnneeded}
+use Rattle.iscsi_world.proofs.HalfRead.{like, counted, alike_long, long_more, short_frame, IsUnneeded}
 
 -- ---- as the code counts
 
-pub can_count_by : (framer header waiting : List ℕ) (phase : code.Phase) (more : ℕ) → is_reading phase ≡ true → header_length ≤ length framer
+pub unneeded_by : (framer header waiting : List ℕ) (phase : code.Phase) → is_reading phase ≡ true → header_length ≤ length framer
     → header ≡ take header_length framer → opcode_of (opcode_number header) ≡ opcodes.DataOut → data_length header ≤ most_data
-    → 0 < more → more < wanted framer → NeedsNot phase (brought header (data_length header))
-    → CanCount (record { half = if is_reading phase then framer else []; phase = phase; waiting = waiting }) more
-unfolding is_data_out missing
-can_count_by framer header waiting phase more reads_ whole is opcode short some few unneeded =
-    grind (arith, not_long, le-leb)
+    → NeedsNot phase (brought header (data_length header))
+    → HoldsUnneeded (record { half = if is_reading phase then framer else []; phase = phase; waiting = waiting })
+unfolding is_data_out
+unneeded_by framer header waiting phase reads_ whole is opcode short unneeded = grind (arith, not_long, le-leb)
+
+pub can_count_by : (link : LinkState) (more : ℕ) → HoldsUnneeded link → 0 < more → more < wanted link.half → CanCount link more
+unfolding missing
+can_count_by link more u some few = grind (arith, le-leb, is_data_out-header)
+
+pub can_forget_by : (link : LinkState) → HoldsUnneeded link → has_frame link.half ≡ false → CanCount link 0
+can_forget_by link u none = grind (arith, short_frame)
 
 counted_then : (x y z : List ℕ) → IsCounted x y → IsCounted y z → IsCounted x z
 counted_then x y z a b = record { out = b.out; header = a.header ∙ b.header; long = a.long ∙ b.long }

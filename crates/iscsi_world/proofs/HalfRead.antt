@@ -42,7 +42,7 @@ alike_long a b h = rw (h.long, alike_data_length a b h) refl
 
 -- ---- what becomes whole of it
 
-short_frame : (bytes : List ℕ) → is_data_out bytes ≡ true → has_frame bytes ≡ false → is_long bytes ≡ false → length bytes < frame_length bytes
+pub short_frame : (bytes : List ℕ) → is_data_out bytes ≡ true → has_frame bytes ≡ false → is_long bytes ≡ false → length bytes < frame_length bytes
 unfolding has_frame is_long
 short_frame bytes out none short = let whole = is_data_out-header bytes out in grind arith
 

@@ -49,6 +49,7 @@ pub mod Easing
 pub mod Wanting
 pub mod Fed
 pub mod Feeding
+pub mod Forgetting
 pub mod Tables
 pub mod Tracking
 pub mod Running

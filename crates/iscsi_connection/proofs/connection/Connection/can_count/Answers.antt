@@ -1,20 +1,16 @@
-use Rattle.std.proofs.Common.{ap, sym, ◌∙◌, subst, arith}
-use Rattle.iscsi_pdu.specs.Header.{data_length}
-use Rattle.iscsi_transfer.specs.Counted.{brought}
+use Rattle.std.proofs.Common.{◌≡◌, [], true, ap, sym, ◌∙◌, arith}
+use Rattle.iscsi_pdu.specs.Frames.{wanted}
 use Rattle.iscsi_world.specs.Machine.{LinkState, is_reading}
-use Rattle.iscsi_world.specs.HalfRead.{NeedsNot, CanCount}
-use Rattle.iscsi_world.proofs.Counting.{can_count_by, not_true}
+use Rattle.iscsi_world.proofs.Choices.{cond_true}
+use Rattle.iscsi_world.proofs.Counting.{can_count_by}
 use Rattle.iscsi_connection.proofs.connection.Connection.can_count.Goals as goal
 
 pub returns : goal.returns
-returns c = λ not_needed.
-    (let link = c.args.self.now in
+returns c = λ unneeded.
+    (let inside = c.self.inside in
     let view = c.self.view_is in
-    let phase = ap (λ (l : LinkState). l.phase) view in
-    let none = c.needs.ensures (not_true c.needs.result not_needed) in
-    subst (λ (l : LinkState). CanCount l c.args.more) view
-    (can_count_by c.self.inside.framer c.in-Some.header c.self.inside.waiting.items c.self.inside.phase c.args.more (ap is_reading phase ∙ c.requires)
-    c.in-Some.ensures.some.1 c.in-Some.ensures.some.0 (sym c.opcode.ensures ∙ c.in-DataOut.is)
-    (omega (arith, c.data_length.ensures, c.if-data_length-gt-MOST_DATA.false))
-    (omega (arith, c.if-more-eq0.false)) (omega (arith, c.want.ensures.value, c.if-more-want.false))
-    (subst (λ p. NeedsNot p (brought c.in-Some.header (data_length c.in-Some.header))) (sym phase) none)))
+    let reads : is_reading inside.phase ≡ true = ap (λ (l : LinkState). is_reading l.phase) view ∙ c.requires in
+    let half : inside.framer ≡ c.args.self.now.half =
+    sym (cond_true (is_reading inside.phase) inside.framer [] reads) ∙ ap (λ (l : LinkState). l.half) view in
+    can_count_by c.args.self.now c.args.more (c.holds_unneeded.ensures unneeded) (omega (arith, c.if-more-eq0.false))
+    (omega (arith, c.if-more-want.false, c.want.ensures.value, ap wanted half)))
