@@ -156,7 +156,7 @@ front_takes before piece front more bytes used part after f t =
           (front_brings bytes before (bytes ++ take used more) part after (front_data before piece front more bytes f) (omega (arith, long)) t.brings);
     }
 
-long_alike : (a b : List ℕ) → header_length ≤ length a → is_long (a ++ b) ≡ is_long a
+pub long_alike : (a b : List ℕ) → header_length ≤ length a → is_long (a ++ b) ≡ is_long a
 long_alike a b enough =
     elim (cases_Bool (is_long a)) [
       | inl long ↦ long_stays a b long ∙ sym long
@@ -181,7 +181,7 @@ front_long before piece front more bytes f =
       | inr enough ↦ ap is_long parts_are ∙ long_alike bytes more enough
     ]
 
-taken_in : (b : List ℕ) → header_length ≤ length b → is_long b ≡ false → data_length b ≤ most_data
+pub taken_in : (b : List ℕ) → header_length ≤ length b → is_long b ≡ false → data_length b ≤ most_data
 taken_in b header short =
     elim (cases_lt most_data (data_length b)) [
       | inl longer_in ↦ (let long = is_long-from b (record { header = header; longer = longer_in }) in absurd (cc (long, short)))

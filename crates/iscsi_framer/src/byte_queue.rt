@@ -66,6 +66,16 @@ impl ByteQueue {
         &self.bytes.as_slice()[self.taken..]
     }
 
+    /// Returns all bytes, or `None` if zeros are counted after them.
+    pub(crate) fn all_kept(&self) -> Option<&[u8]>
+        ensures { IfSome result (λ bytes. bytes.now ≡ self.now) }
+    {
+        if self.zeros > 0 {
+            return None;
+        }
+        Some(&self.bytes.as_slice()[self.taken..])
+    }
+
     /// Appends a piece. Makes room for `room` bytes if that is more than the piece; uses a spare buffer if the queue
     /// is empty.
     pub(crate) fn append(

@@ -3,9 +3,11 @@
 ghost use Rattle.std.specs.Prelude.{◌≡◌, ◌+◌, ◌<◌, ◌≤◌, ◌↔◌, ℕ, List, [], ◌∷◌, ◌++◌, length, take, drop, true, false, IsOk, IfOk, IfErr, IfSome, IfNone, OnOk, OnErr};
 ghost use Rattle.iscsi_pdu.specs.Parts.{is_data_out, HoldsOne, Takes};
 ghost use Rattle.std.specs.Result.{IsErrOf};
+ghost use Rattle.iscsi_framer.specs.Passing.{IsPassing};
 
 use crate::byte_queue::ByteQueue;
 use crate::frame_buffer::{FrameRoom, cut_front};
+use crate::passing::PassingDataOut;
 use arrayvec::ArrayVec;
 use data_parts::SpareBuffers;
 use iscsi_pdu::{Frame, HEADER_LENGTH, Header, MOST_DATA, Part, PduFault, padded};
@@ -122,6 +124,21 @@ impl Framer {
         ensures { self.new ≡ self.old ++ take (lent.from + count) lent.buffer.items }
     {
         self.behind.take_back(lent, count);
+    }
+
+    /// Takes the bytes of a half-read Data-Out, to count them and those after them. Returns `None`, and changes nothing,
+    /// if some are only counted here ([`take`](Framer::take)).
+    pub fn pass_over(&mut self) -> Option<PassingDataOut>
+        requires { IsPassing self.old }
+        ensures passing { IfSome result (λ p. p ≡ self.old) }
+        ensures rest { IfSome result (λ _. self.new ≡ []) }
+        ensures none { IfNone result (self.new ≡ self.old) }
+    {
+        let header = self.header()?;
+        let passing = PassingDataOut::new(header, self.behind.all_kept()?);
+        self.header.clear();
+        self.behind.clear();
+        Some(passing)
     }
 
     /// Takes the first frame from the front of the bytes. Returns `None` if the bytes are less than a frame.
@@ -321,6 +338,13 @@ impl Framer {
             }
         };
         whole.saturating_sub(had).max(1)
+    }
+
+    /// Returns whether there are no bytes.
+    pub fn is_empty(&self) -> bool
+        ensures { (result ≡ true) ↔ (self.now ≡ []) }
+    {
+        self.len() == 0
     }
 
     /// Returns the number of bytes.

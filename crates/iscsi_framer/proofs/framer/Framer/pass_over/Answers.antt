@@ -1,0 +1,16 @@
+use Rattle.std.proofs.Common.{ℕ, List, ◌++◌, sym, ap, ◌∙◌, subst}
+use Rattle.iscsi_framer.specs.Passing.{IsPassing}
+use Rattle.iscsi_framer.proofs.Counting.{all_pass}
+use Rattle.iscsi_framer.proofs.framer.Framer.pass_over.Goals as goal
+
+pub new-passing-requires : goal.new-passing-requires
+new-passing-requires c =
+    let same = all_pass c.self.inside.header.items c.self.inside.behind c.in_ok-header.header c.args.self.now c.self.invariant c.self.view_is
+    c.in_ok-header.ensures.some.1 c.in_ok-header.ensures.some.0 in
+    subst IsPassing (sym (ap (λ (x : List ℕ). c.in_ok-header.header ++ x) c.in_ok-all_kept.ensures ∙ same)) c.requires
+
+pub returns-clause-passing : goal.returns-clause-passing
+returns-clause-passing c =
+    let same = all_pass c.self.inside.header.items c.self.inside.behind c.in_ok-header.header c.args.self.now c.self.invariant c.self.view_is
+    c.in_ok-header.ensures.some.1 c.in_ok-header.ensures.some.0 in
+    c.new-passing.ensures ∙ ap (λ (x : List ℕ). c.in_ok-header.header ++ x) c.in_ok-all_kept.ensures ∙ same
