@@ -1,7 +1,7 @@
 -- Whether the data of a Data-Out that is on its way is needed.
-use Rattle.std.specs.Prelude.{◌≡◌, ℕ, length, Bool, ◌&&◌, ◌||◌, ◌==◌, is_none}
+use Rattle.std.specs.Prelude.{◌≡◌, ℕ, List, length, Bool, false, ◌&&◌, ◌||◌, ◌==◌, is_none}
 use Rattle.std.specs.List.{list_any}
-use Rattle.iscsi_pdu.specs.Header.{initiator_task_tag}
+use Rattle.iscsi_pdu.specs.Header.{initiator_task_tag, data_length, opcode_number}
 use Rattle.iscsi_pdu.specs.Frames.{Frame}
 use Rattle.iscsi_transfer.specs.WriteData.{fault_of}
 use Rattle.iscsi_requests.specs.declared.transfers.Transfer.{Transfer}
@@ -32,5 +32,15 @@ takes_out frame transfer = bears (initiator_task_tag frame.header) transfer && i
 abbrev pub drains_out : Frame → Drained → Bool
 drains_out frame drained = is_draining drained && takes_out frame drained.transfer
 
+abbrev pub takes_in : TransferList → Frame → Bool
+takes_in transfers frame = list_any (takes_out frame) transfers.list
+
 abbrev pub needs_in : TransferList → Frame → Bool
-needs_in transfers frame = list_any (takes_out frame) transfers.list || list_any (drains_out frame) transfers.drains
+needs_in transfers frame = takes_in transfers frame || list_any (drains_out frame) transfers.drains
+
+-- own: a Data-Out with this header, whose data no command that is not finished takes
+pub record IsUnread (transfers : TransferList) (header : List ℕ) (frame : Frame) : Type 0 where
+  pub header_is : frame.header ≡ header
+  pub long : length frame.body ≡ data_length header
+  pub out : opcode_number header ≡ 0x05
+  pub untaken : takes_in transfers frame ≡ false

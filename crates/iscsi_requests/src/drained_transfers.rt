@@ -1,11 +1,13 @@
 //! The data of removed SCSI Commands for which functions wait.
 
-ghost use Rattle.std.specs.Prelude.{◌≡◌, ◌↔◌, ◌++◌, ◌&&◌, ◌==◌, ◌<◌, ◌^◌, [], true, OnOk, OnErr};
+ghost use Rattle.std.specs.Prelude.{◌≡◌, ◌↔◌, ◌++◌, ◌&&◌, ◌==◌, ◌<◌, ◌^◌, [], length, true, OnOk, OnErr};
+ghost use Rattle.iscsi_pdu.specs.Frames.{Frame as FrameState};
+ghost use Rattle.iscsi_pdu.specs.Header.{data_length};
 ghost use Rattle.iscsi_transfer.specs.Counted.{brought};
 ghost use Rattle.std.specs.List.{list_any};
 ghost use Rattle.iscsi_requests.specs.declared.verdict.Verdict.TheVariants.{Feeding};
-ghost use Rattle.iscsi_requests.specs.Draining.{is_awaited, drained_for, awaited_in, awaits_in, is_draining, drain_with, drain_for, judged_drain, fed_drain, function_tag, lacks_for, telling_place, function_at, drains_without};
-ghost use Rattle.iscsi_requests.specs.Needed.{drains_out};
+ghost use Rattle.iscsi_requests.specs.Draining.{is_awaited, drained_for, awaited_in, awaits_in, is_draining, drain_with, drain_for, judged_drain, fed_drain, judged_in, fed_in, function_tag, lacks_for, telling_place, function_at, drains_without};
+ghost use Rattle.iscsi_requests.specs.Needed.{IsUnread, drains_out};
 ghost use Rattle.iscsi_requests.specs.State.{bears, transfers_without};
 
 use crate::abort_scope::Reach;
@@ -123,10 +125,20 @@ impl Transfers {
     pub(crate) fn judge_drained(&self, frame: &Frame) -> Verdict
         ensures { result ≡ judged_drain self.now.drains frame.now (drain_for frame.now self.now.drains) }
     {
-        let Some(place) = self.drain_of(frame.header.initiator_task_tag()) else {
+        self.judge_drained_by(&frame.header, frame.body.len())
+    }
+
+    /// Returns the verdict on a Data-Out whose tag belongs to no unfinished command, as [`Transfers::judge_drained`] does,
+    /// by its header and the number of bytes that it brings.
+    pub(crate) fn judge_drained_by(&self, header: &Header, size: usize) -> Verdict
+        requires { size < 2 ^ 63 }
+        ensures { (frame : FrameState) → frame.header ≡ header.now → length frame.body ≡ size
+            → result ≡ judged_drain self.now.drains frame (drain_for frame self.now.drains) }
+    {
+        let Some(place) = self.drain_of(header.initiator_task_tag()) else {
             return Verdict::Dropped;
         };
-        match self.drains[place].progress.fault_of(frame) {
+        match self.drains[place].progress.fault_by(header, size) {
             Some(_) => Verdict::Violating,
             None => Verdict::Feeding,
         }
@@ -137,10 +149,30 @@ impl Transfers {
         requires { judged_drain self.old.drains frame.now (drain_for frame.now self.old.drains) ≡ Feeding }
         ensures { self.new ≡ record self.old { drains = fed_drain self.old.drains frame.now (drain_for frame.now self.old.drains) } }
     {
-        let Some(place) = self.drain_of(frame.header.initiator_task_tag()) else {
+        self.feed_drained_by(&frame.header, frame.body.len());
+    }
+
+    /// Counts the data of a Data-Out with this header, of which only the header was kept. It has no fault, and its tag
+    /// belongs to no unfinished command.
+    pub fn count_drained(&mut self, header: &Header)
+        requires { judged_drain self.old.drains (brought header.now (data_length header.now))
+            (drain_for (brought header.now (data_length header.now)) self.old.drains) ≡ Feeding }
+        ensures { (frame : FrameState) → IsUnread self.old header.now frame → judged_in self.old frame ≡ Feeding
+            → self.new ≡ fed_in self.old frame }
+    {
+        self.feed_drained_by(header, header.data_length());
+    }
+
+    /// Counts the data of a Data-Out, `size` bytes. It has no fault, and its tag belongs to no unfinished command.
+    fn feed_drained_by(&mut self, header: &Header, size: usize)
+        requires { judged_drain self.old.drains (brought header.now size) (drain_for (brought header.now size) self.old.drains) ≡ Feeding }
+        ensures { self.new ≡ record self.old
+            { drains = fed_drain self.old.drains (brought header.now size) (drain_for (brought header.now size) self.old.drains) } }
+    {
+        let Some(place) = self.drain_of(header.initiator_task_tag()) else {
             return;
         };
-        self.drains[place].progress.accept(frame);
+        self.drains[place].progress.accept_by(header, size);
     }
 
     /// Returns whether a function is to wait for data of the commands that it reaches.

@@ -1,7 +1,8 @@
 //! The data that the initiator sends for the SCSI Commands of a session.
 
 ghost use Rattle.std.specs.Prelude.{◌≡◌, ◌++◌, ◌∷◌, ◌<◌, ◌^◌, List, [], None, length, remove, slice_get, OnOk, OnErr};
-ghost use Rattle.std.specs.List.{list_any};
+ghost use Rattle.iscsi_pdu.specs.Frames.{Frame as FrameState};
+ghost use Rattle.iscsi_pdu.specs.Header.{data_length};
 ghost use Rattle.iscsi_login.specs.Values.{AreInRange};
 ghost use Rattle.iscsi_transfer.specs.Counted.{brought};
 ghost use Rattle.iscsi_transfer.specs.Payload.{begun};
@@ -9,7 +10,7 @@ ghost use Rattle.iscsi_transfer.specs.WriteData.{command_fault, remembered as ta
 ghost use Rattle.iscsi_requests.specs.declared.transfers.Transfer.{Transfer};
 ghost use Rattle.iscsi_requests.specs.declared.verdict.Verdict.TheVariants.{Feeding};
 ghost use Rattle.iscsi_requests.specs.Draining.{judged_in, fed_in, is_live_in};
-ghost use Rattle.iscsi_requests.specs.Needed.{takes_out, needs_in};
+ghost use Rattle.iscsi_requests.specs.Needed.{IsUnread, takes_out, takes_in, needs_in};
 ghost use Rattle.iscsi_requests.specs.State.{no_transfers, place_with, immediate_transfers, whole_at, payload_at, removed_at, begun_transfer, reaches_some, transfers_without};
 
 use crate::abort_scope::Reach;
@@ -143,6 +144,18 @@ impl Transfers {
         }
     }
 
+    /// Returns the verdict on a Data-Out with this header, whose data no command that is not finished takes.
+    pub fn judge_unread(&self, header: &Header) -> Verdict
+        requires { data_length header.now < 2 ^ 63 }
+        ensures { (frame : FrameState) → IsUnread self.now header.now frame → result ≡ judged_in self.now frame }
+    {
+        if self.place_of(header.initiator_task_tag()).is_some() {
+            // The command does not take the Data-Out, so something is wrong with it.
+            return Verdict::Violating;
+        }
+        self.judge_drained_by(header, header.data_length())
+    }
+
     /// Returns whether a command that is not finished takes a Data-Out with this header and `size` bytes of data, or one
     /// whose data is drained.
     pub fn needs(&self, header: &Header, size: usize) -> bool
@@ -153,9 +166,9 @@ impl Transfers {
     }
 
     /// Returns whether a command that is not finished takes a Data-Out with this header and `size` bytes of data.
-    fn takes(&self, header: &Header, size: usize) -> bool
+    pub fn takes(&self, header: &Header, size: usize) -> bool
         requires { size < 2 ^ 63 }
-        ensures { result ≡ list_any (takes_out (brought header.now size)) self.now.list }
+        ensures { result ≡ takes_in self.now (brought header.now size) }
     {
         self.list
             .iter()

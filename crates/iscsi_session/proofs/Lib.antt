@@ -27,3 +27,4 @@ pub mod Calm
 pub mod Runs
 mod Stages
 pub mod Needed
+mod Unread

@@ -13,8 +13,8 @@ use Rattle.iscsi_requests.specs.Judging.{verdict, judged, judged_answers, violat
 use Rattle.iscsi_requests.specs.Transfers.{asking, asked_by, r2ts_by}
 use Rattle.iscsi_requests.specs.Functions.{drained_functions, answered_by, told_by}
 use Rattle.iscsi_requests.specs.State.{SessionState, Stands, IsLawful, remembered}
-use Rattle.iscsi_session.specs.Steps.{StepKind, Judge, Take, Step, step_at, Judging, Taking, Asking, Answering, is_serving, Work, reaches, take_step, judge, act, act_all, waiting_in, ask, tell, first_steps, ask_due, tell_due, taken_in, asked_in, served, one_by_one}
-use Rattle.iscsi_session.specs.Runs.{Output, output, Starts, Leaves, Runs, is_failed, Stops}
+use Rattle.iscsi_session.specs.Steps.{StepKind, Judge, Take, Ask, Tell, Step, step_at, Judging, Taking, Asking, Answering, is_serving, Work, reaches, take_step, judge, act, act_all, waiting_in, ask, tell, first_steps, ask_due, tell_due, taken_in, asked_in, served, one_by_one}
+use Rattle.iscsi_session.specs.Runs.{Output, output, Starts, Leaves, Runs, is_failed, Stops, Judges}
 use Rattle.iscsi_session.proofs.Steps.{judged_agrees, judged_same, turns_agree, taken_alike, asked_alike}
 use Rattle.iscsi_session.proofs.Runs.{Run, LeadsTo, runs_by, stands_of, starts_again, starts_reaching, leaves_nothing, leaves_then, leaves_answering, leaves_as, leaves_reaching, leaves_stopped, step_done, step_fails, first_stopped, stopped, same_place, same_step, other_turn, idle, runs_as, no_failure, runs_then, runs_ended}
 
@@ -225,12 +225,6 @@ StopsServing luns run old new before items = Stops is_serving (λ failed. (units
 
 -- ---- a frame is judged
 
-pub record Judges (v : Verdict) (frame : Frame) (old new : SessionState) (before waiting : Output) : Type 0 where
-  pub judged_is : (past : Past) → Stands past old → v ≡ verdict past frame
-  pub stands : (past : Past) → Stands past old → Stands (judged (verdict past frame) frame past) new
-  pub out : (past : Past) → Stands past old → waiting.bytes ≡ before.bytes ++ flat_map spelling (judged_answers (verdict past frame) past frame)
-  pub orders : waiting.orders ≡ before.orders
-
 pub judges : {v : Verdict} {frame : Frame} {old new : SessionState} {bytes items : List ℕ} {orders : List (List ℕ)}
     → ((past : Past) → Stands past old → v ≡ verdict past frame) → ((past : Past) → Stands past old → Stands (judged (verdict past frame) frame past) new)
     → ((past : Past) → Stands past old → items ≡ bytes ++ flat_map spelling (judged_answers (verdict past frame) past frame))
@@ -302,7 +296,7 @@ tells_nothing fails place work off = first_stopped fails (Answering place) tell 
 abbrev asking_in : Frame → Run
 asking_in frame fails place = asked_in fails place frame
 
-abbrev serving : Frame → Run
+abbrev pub serving : Frame → Run
 serving frame fails place = served fails place frame
 
 module _ (frame : Frame) {failed : Option (ℕ → Step)} {old new : SessionState} {before items : Output} {units : TargetUnits} where
@@ -338,3 +332,35 @@ taken_stops luns frame old new before items stops = record {
   of_kind = stops.of_kind;
   leads = λ units numbers. taken_ended frame (stops.leads units numbers);
 }
+
+-- ---- an allocation failed after a frame was judged, whatever that was and whatever waited before
+
+abbrev pub StopsJudged : List ℕ → SessionState → SessionState → List ℕ → List ℕ → List (List ℕ) → List (List ℕ) → Type 0
+StopsJudged luns middle new waiting items orders after = (v : Verdict) (frame : Frame) (old : SessionState) (bytes : List ℕ)
+    → Judges v frame old middle (output bytes orders) (output waiting orders) → v ≢ Violating
+    → StopsServing luns (serving frame) old new (output bytes orders) (output items after)
+
+module _ (luns : List ℕ) {middle new : SessionState} {waiting items : List ℕ} {orders after : List (List ℕ)} where
+  pub act_stops : (turn : ℕ) × ((units : TargetUnits) → luns ≡ numbers_of units.states
+      → Runs act_all (Some (λ place. Taking place turn)) false middle new (output waiting orders) (output items after) units units)
+      → StopsJudged luns middle new waiting items orders after
+  act_stops acts v frame old bytes judged on = taken_stops luns frame _ _ _ _ (taken_fails luns v frame judged on acts)
+
+  module _ {acted : SessionState} {sent : List ℕ}
+      (acts : (units : TargetUnits) → luns ≡ numbers_of units.states
+      → Runs act_all None true middle acted (output waiting orders) (output sent after) units units) where
+    pub ask_stops : ((ordered : List (List ℕ)) (units : TargetUnits)
+        → Runs ask_due (Some (λ place. Asking place)) false acted new (output sent ordered) (output items ordered) units units)
+        → StopsJudged luns middle new waiting items orders after
+    ask_stops asks v frame old bytes judged on = stops_at Ask 0 (λ place. refl) (λ units numbers.
+        asked_ended frame (asked_then frame (λ place. refl) (λ place turn. refl)
+        (taken_on v frame judged on (λ place. refl) (acts units numbers)) (asks after units)))
+
+    pub tell_stops : {asked : SessionState} {told : List ℕ} → ((ordered : List (List ℕ)) (units : TargetUnits)
+        → Runs ask_due None true acted asked (output sent ordered) (output told ordered) units units)
+        → ((ordered : List (List ℕ)) (units : TargetUnits)
+        → Runs tell_due (Some (λ place. Answering place)) false asked new (output told ordered) (output items ordered) units units)
+        → StopsJudged luns middle new waiting items orders after
+    tell_stops asks tells v frame old bytes judged on = stops_at Tell 0 (λ place. refl) (λ units numbers.
+        told_then frame (λ place. refl) (λ place turn. refl) (λ place. refl) (asked_then frame (λ place. refl) (λ place turn. refl)
+        (taken_on v frame judged on (λ place. refl) (acts units numbers)) (asks after units)) (tells after units))

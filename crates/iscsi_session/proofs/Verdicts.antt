@@ -43,7 +43,7 @@ pub record IsFree (past : Past) (frame : Frame) : Type 0 where
   pub tag : (is_command frame || is_function frame) ≡ true → is_live past (initiator_task_tag frame.header) ≡ false
   pub room : (is_command frame || is_function frame) ≡ true → is_immediate frame.header ≡ true → is_full past ≡ false
 
-data_not_accepted : (past : Past) (frame : Frame) (at : Option ℕ) → data_verdict past frame at ≡ Accepted → ⊥
+pub data_not_accepted : (past : Past) (frame : Frame) (at : Option ℕ) → data_verdict past frame at ≡ Accepted → ⊥
 data_not_accepted past frame None e = cc
 data_not_accepted past frame (Some k) e = grind arith
 

@@ -2,9 +2,12 @@
 use Rattle.std.specs.Prelude.{◌≡◌, ℕ, List, [], ◌∷◌, ◌++◌, flat_map, Bool, true, false, Option, Some, None, if◌then◌else◌, ⊤}
 use Rattle.scsi_unit.specs.Units.{UnitStates}
 use Rattle.iscsi_session.specs.Comings.{TargetUnits, CameAs}
+use Rattle.iscsi_pdu.specs.Frames.{Frame}
 use Rattle.iscsi_pdu.specs.Answer.{spelling}
 use Rattle.iscsi_pdu.specs.declared.answer.Answer.{Answer}
 use Rattle.iscsi_requests.specs.Requests.{Past, frame_of, stamp, finished}
+use Rattle.iscsi_requests.specs.declared.verdict.Verdict.{Verdict}
+use Rattle.iscsi_requests.specs.Judging.{verdict, judged, judged_answers}
 use Rattle.iscsi_session.specs.Acts.{ordered, acted, act_answers, ends}
 use Rattle.iscsi_session.specs.declared.act.Act.{Act}
 use Rattle.iscsi_session.specs.declared.act.Act.TheVariants.{Idle, Taken, Ended}
@@ -83,6 +86,13 @@ pub record Stops (is_kind : Step → Bool) (Leads : Option (ℕ → Step) → Ty
   pub leads : Leads (Some step)
 
 -- ---- one step
+
+-- A frame is judged to be this, and this is what that leaves.
+pub record Judges (v : Verdict) (frame : Frame) (old new : SessionState) (before waiting : Output) : Type 0 where
+  pub judged_is : (past : Past) → Stands past old → v ≡ verdict past frame
+  pub stands : (past : Past) → Stands past old → Stands (judged (verdict past frame) frame past) new
+  pub out : (past : Past) → Stands past old → waiting.bytes ≡ before.bytes ++ flat_map spelling (judged_answers (verdict past frame) past frame)
+  pub orders : waiting.orders ≡ before.orders
 
 -- the first of a line took a step, if there is one
 abbrev pub StepsFirst : (ℕ → Work → Work) → List ℕ → Work → Bool → SessionState → SessionState → Output → Output → TargetUnits → Type 0

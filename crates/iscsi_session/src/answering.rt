@@ -1,12 +1,13 @@
 //! Answering a command that is done.
 
-ghost use Rattle.std.specs.Prelude.{◌≡◌, ◌≤◌, ◌++◌, ◌∷◌, ℕ, List, drop, flat_map, length};
+ghost use Rattle.std.specs.Prelude.{◌≡◌, ◌≤◌, ◌++◌, ◌∷◌, ℕ, List, drop, false, flat_map, length};
 ghost use Rattle.scsi_unit.specs.DiskCommands.{most_given};
 ghost use Rattle.iscsi_pdu.specs.Answer.{spelling};
 ghost use Rattle.iscsi_pdu.specs.Frames as pdu;
 ghost use Rattle.iscsi_login.specs.Values.{AreInRange};
 ghost use Rattle.iscsi_requests.specs.Requests.{Past, queue};
 ghost use Rattle.iscsi_answers.specs.Room.{room_for};
+ghost use Rattle.iscsi_requests.specs.Needed.{takes_in};
 ghost use Rattle.iscsi_requests.specs.State.{Stands};
 ghost use Rattle.iscsi_session.specs.Runs.{AnswersAs};
 
@@ -37,6 +38,7 @@ impl Session {
             → AnswersAs done k past self.new out.old.items out.new.items }
         ensures grows { (more : List ℕ) × (out.new.items ≡ out.old.items ++ more) }
         ensures queue { self.new.tasks.queue ≡ drop 1 self.old.tasks.queue }
+        ensures takes { (frame : pdu.Frame) → takes_in self.old.transfers frame ≡ false → takes_in self.new.transfers frame ≡ false }
         ensures params { self.new.params ≡ self.old.params }
     {
         let Some(frame) = self.tasks.finish() else {

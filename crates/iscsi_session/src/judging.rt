@@ -1,14 +1,17 @@
 //! Judging a frame.
 
-ghost use Rattle.std.specs.Prelude.{◌≡◌, ◌≢◌, ◌||◌, is_some, ◌++◌, ◌∷◌, ℕ, List, [], true, false, flat_map, IfOk, OnOk, OnErr};
+ghost use Rattle.std.specs.Prelude.{◌≡◌, ◌≢◌, ◌≤◌, ◌||◌, is_some, ◌++◌, ◌∷◌, ℕ, List, [], true, false, flat_map, IfOk, OnOk, OnErr};
 ghost use Rattle.iscsi_pdu.specs.Answer.{spelling};
 ghost use Rattle.iscsi_pdu.specs.Frames as pdu;
-ghost use Rattle.iscsi_pdu.specs.Header.{initiator_task_tag};
+ghost use Rattle.iscsi_pdu.specs.Header.{data_length, initiator_task_tag, opcode_number};
+ghost use Rattle.iscsi_pdu.specs.Segment.{most_data};
 ghost use Rattle.iscsi_login.specs.Values.{AreInRange};
+ghost use Rattle.iscsi_transfer.specs.Counted.{brought};
 ghost use Rattle.iscsi_requests.specs.Requests.{Past, is_command as is_command_in, is_function as is_function_in, accepted, answering, stamp};
 ghost use Rattle.iscsi_requests.specs.Transfers.{command_with, fed};
 ghost use Rattle.iscsi_requests.specs.Judging.{verdict, request_verdict, is_refused, is_fresh, is_full, is_live, is_over, is_taken, is_faulty, task_verdict, judged, judged_answers, reject};
 ghost use Rattle.iscsi_requests.specs.Draining.{judged_in, is_live_in};
+ghost use Rattle.iscsi_requests.specs.Needed.{IsUnread, takes_in};
 ghost use Rattle.iscsi_requests.specs.State.{Stands, is_vacant_for, function_place, IsAcceptable, IsLawfulTask};
 
 use crate::rejecting::rejected;
@@ -51,6 +54,37 @@ impl Session {
         Ok(verdict)
     }
 
+    /// Checks a Data-Out with this header, of which only the header was kept: its data is that of no command that is not
+    /// finished. Counts its data if that is drained, and answers a rejected Data-Out at the end of `out`. If an
+    /// allocation fails, nothing changes.
+    pub(crate) fn receive_unread(
+        &mut self,
+        header: &Header,
+        out: &mut Outbox,
+    ) -> Result<Verdict, Memory>
+        requires out { opcode_number header.now ≡ 0x05 }
+        requires short { data_length header.now ≤ most_data }
+        requires untaken { takes_in self.old.transfers (brought header.now (data_length header.now)) ≡ false }
+        ensures verdict { IfOk result (λ v. (frame : pdu.Frame) → IsUnread self.old.transfers header.now frame
+            → (past : Past) → Stands past self.old → v ≡ verdict past frame) }
+        ensures stands { OnOk result ((frame : pdu.Frame) → IsUnread self.old.transfers header.now frame
+            → (past : Past) → Stands past self.old → Stands (judged (verdict past frame) frame past) self.new) }
+        ensures out { OnOk result ((frame : pdu.Frame) → IsUnread self.old.transfers header.now frame → (past : Past) → Stands past self.old
+            → out.new.items ≡ out.old.items ++ flat_map spelling (judged_answers (verdict past frame) past frame)) }
+        ensures grows { (more : List ℕ) × (out.new.items ≡ out.old.items ++ more) }
+        ensures params { self.new.params ≡ self.old.params }
+        ensures err { OnErr result (self.new ≡ self.old) }
+        ensures out_err { OnErr result (out.new.items ≡ out.old.items) }
+    {
+        let verdict = self.judge_unread(header);
+        match verdict {
+            Verdict::Feeding => self.count_drained(header),
+            Verdict::Rejected(reason) => self.reject(reason, *header, out)?,
+            Verdict::Accepted | Verdict::Ignored | Verdict::Dropped | Verdict::Violating => {}
+        }
+        Ok(verdict)
+    }
+
     /// Returns the verdict on a frame. In a discovery session most frames are refused.
     fn judge(&self, frame: &Frame) -> Verdict
         ensures verdict { (past : Past) → Stands past self.now → result ≡ verdict past frame.now }
@@ -59,18 +93,31 @@ impl Session {
         ensures lawful { result ≡ Verdict.Feeding
             → judged_in self.now.transfers frame.now ≡ Verdict.Feeding }
     {
-        if self.is_refused(frame) {
+        if self.is_refused(&frame.header) {
             return Verdict::Rejected(RejectReason::CommandNotSupported);
         }
         self.judge_request(frame)
     }
 
-    /// Returns whether the session is a discovery session, and does not serve this frame.
-    #[tactic(auto, unfolding(iscsi_requests::specs::Judging::is_refused))]
-    fn is_refused(&self, frame: &Frame) -> bool
-        ensures { result ≡ is_refused self.now.params frame.now }
+    /// Returns the verdict on a Data-Out with this header, whose data no command that is not finished takes.
+    fn judge_unread(&self, header: &Header) -> Verdict
+        requires { data_length header.now ≤ most_data }
+        ensures verdict { (frame : pdu.Frame) → IsUnread self.now.transfers header.now frame
+            → (past : Past) → Stands past self.now → result ≡ verdict past frame }
+        ensures lawful { result ≡ Verdict.Feeding → (frame : pdu.Frame) → IsUnread self.now.transfers header.now frame
+            → judged_in self.now.transfers frame ≡ Verdict.Feeding }
     {
-        let header = &frame.header;
+        if self.is_refused(header) {
+            return Verdict::Rejected(RejectReason::CommandNotSupported);
+        }
+        self.transfers.judge_unread(header)
+    }
+
+    /// Returns whether the session is a discovery session, and does not serve a frame with this header.
+    #[tactic(auto, unfolding(iscsi_requests::specs::Judging::is_refused))]
+    fn is_refused(&self, header: &Header) -> bool
+        ensures { (frame : pdu.Frame) → frame.header ≡ header.now → result ≡ is_refused self.now.params frame }
+    {
         if self.params.target.is_some() {
             return false;
         }
@@ -244,6 +291,19 @@ impl Session {
         ensures err { OnErr result (self.new ≡ self.old) }
     {
         self.transfers.take_data_out(frame)
+    }
+
+    /// Counts the data of a Data-Out with this header, of which only the header was kept. It has no fault, and its data is
+    /// drained.
+    fn count_drained(&mut self, header: &Header)
+        requires out { opcode_number header.now ≡ 0x05 }
+        requires untaken { takes_in self.old.transfers (brought header.now (data_length header.now)) ≡ false }
+        requires lawful { (frame : pdu.Frame) → IsUnread self.old.transfers header.now frame → judged_in self.old.transfers frame ≡ Verdict.Feeding }
+        ensures stands { (frame : pdu.Frame) → IsUnread self.old.transfers header.now frame → (past : Past) → Stands past self.old
+            → Stands (fed (command_with past (initiator_task_tag frame.header)) frame past) self.new }
+        ensures params { self.new.params ≡ self.old.params }
+    {
+        self.transfers.count_drained(header);
     }
 
     /// Answers a frame with a Reject. If an allocation fails, nothing changes.

@@ -12,6 +12,8 @@
 //! - [`Session::serve`] checks a frame, executes the requests that became ready, and sends any R2T that became due. A
 //!   Task Management function removes commands that are held, due or queued. An ABORT TASK may plug the number of a
 //!   command that has not come.
+//! - [`Session::serve_unread`] does the same for a Data-Out of which only the header was kept, since no command that is not
+//!   finished takes its data.
 //! - [`Session::settle`] performs the commands in the queue, up to the first whose data is not whole.
 //!
 //! What each call does is defined on the session's past (`iscsi_requests`). A past is a few plain lists, in which

@@ -1,16 +1,21 @@
 //! Serving a frame of a session, and performing the commands that were taken.
 
-ghost use Rattle.std.specs.Prelude.{◌≡◌, ◌<◌, ◌≤◌, ◌++◌, ℕ, List, [], None, Some, length, true, false, IfOk, OnOk, OnErr};
+ghost use Rattle.std.specs.Prelude.{◌≡◌, ◌≢◌, ◌<◌, ◌≤◌, ◌++◌, ℕ, List, [], None, Some, length, true, false, IfOk, OnOk, OnErr};
 ghost use Rattle.scsi_unit.specs.CameOut.{CameOut, AsDefined};
 ghost use Rattle.scsi_unit.specs.DiskCommands.{most_given};
 ghost use Rattle.scsi_unit.specs.Units.{numbers_of, AreSound, AreSure};
+ghost use Rattle.iscsi_pdu.specs.Frames as pdu;
+ghost use Rattle.iscsi_pdu.specs.Header.{data_length, opcode_number};
+ghost use Rattle.iscsi_pdu.specs.Segment.{most_data};
 ghost use Rattle.iscsi_login.specs.Values.{AreInRange};
-ghost use Rattle.iscsi_requests.specs.State.{is_waiting};
+ghost use Rattle.iscsi_transfer.specs.Counted.{brought};
+ghost use Rattle.iscsi_requests.specs.Needed.{takes_in};
+ghost use Rattle.iscsi_requests.specs.State.{SessionState, is_waiting};
 ghost use Rattle.iscsi_session.specs.Comings.{TargetUnits, CameAs};
 ghost use Rattle.iscsi_session.specs.Commands.{carried_out};
 ghost use Rattle.iscsi_session.specs.Steps.{Work, Asking, is_doing, is_serving, ready, finish, ask_due, served, settled};
 ghost use Rattle.iscsi_session.specs.Weight.{IsAtRest, Eases};
-ghost use Rattle.iscsi_session.specs.Runs.{output, Starts, Runs, Stops, StepsFirst, IsSettled};
+ghost use Rattle.iscsi_session.specs.Runs.{output, Starts, Runs, Stops, Judges, StepsFirst, IsSettled};
 
 use crate::session::Session;
 use bytes::BytesMut;
@@ -108,6 +113,62 @@ impl Session {
         if let Verdict::Violating = self.receive(frame, out)? {
             return Ok(false);
         }
+        self.serve_judged(luns, out, orders)
+    }
+
+    /// Serves a whole Data-Out of which only the header was kept, as [`Session::serve`] does. Its data is that of no
+    /// command that is not finished ([`Session::takes`]), so only its header and the length of its data matter.
+    pub fn serve_unread(
+        &mut self,
+        header: &Header,
+        luns: &[u8],
+        out: &mut Outbox,
+        orders: &mut Vec<Header>,
+    ) -> Result<bool, Memory>
+        requires values { AreInRange self.old.params.values }
+        requires out { opcode_number header.now ≡ 0x05 }
+        requires short { data_length header.now ≤ most_data }
+        requires untaken { takes_in self.old.transfers (brought header.now (data_length header.now)) ≡ false }
+        ensures ok { IfOk result (λ goes_on. (frame : pdu.Frame) → frame.header ≡ header.now → length frame.body ≡ data_length header.now
+            → (units : TargetUnits) → luns.now ≡ numbers_of units.states
+            → Runs (λ fails place. served fails place frame) None goes_on self.old self.new
+            (output out.old.items orders.old.items) (output out.new.items orders.new.items) units units) }
+        ensures err { OnErr result ((frame : pdu.Frame) → frame.header ≡ header.now → length frame.body ≡ data_length header.now
+            → Stops is_serving (λ failed. (units : TargetUnits) → luns.now ≡ numbers_of units.states
+            → Runs (λ fails place. served fails place frame) failed false self.old self.new
+            (output out.old.items orders.old.items) (output out.new.items orders.new.items) units units)) }
+        ensures grows { (more : List ℕ) × (out.new.items ≡ out.old.items ++ more) }
+        ensures idle { IfOk result (λ goes_on. goes_on ≡ true → self.new.tasks.due ≡ []) }
+        ensures params { self.new.params ≡ self.old.params }
+    {
+        if let Verdict::Violating = self.receive_unread(header, out)? {
+            return Ok(false);
+        }
+        self.serve_judged(luns, out, orders)
+    }
+
+    /// Serves a frame that was judged and is no violation: executes the requests that became ready, sends the R2Ts that
+    /// became due, and answers the function that waited for its data. Returns whether the session continues.
+    fn serve_judged(
+        &mut self,
+        luns: &[u8],
+        out: &mut Outbox,
+        orders: &mut Vec<Header>,
+    ) -> Result<bool, Memory>
+        ensures ok { IfOk result (λ goes_on. (v : Verdict) (frame : pdu.Frame) (old : SessionState) (bytes : List ℕ)
+            → Judges v frame old self.old (output bytes orders.old.items) (output out.old.items orders.old.items) → v ≢ Verdict.Violating
+            → (units : TargetUnits) → luns.now ≡ numbers_of units.states
+            → Runs (λ fails place. served fails place frame) None goes_on old self.new
+            (output bytes orders.old.items) (output out.new.items orders.new.items) units units) }
+        ensures err { OnErr result ((v : Verdict) (frame : pdu.Frame) (old : SessionState) (bytes : List ℕ)
+            → Judges v frame old self.old (output bytes orders.old.items) (output out.old.items orders.old.items) → v ≢ Verdict.Violating
+            → Stops is_serving (λ failed. (units : TargetUnits) → luns.now ≡ numbers_of units.states
+            → Runs (λ fails place. served fails place frame) failed false old self.new
+            (output bytes orders.old.items) (output out.new.items orders.new.items) units units)) }
+        ensures grows { (more : List ℕ) × (out.new.items ≡ out.old.items ++ more) }
+        ensures idle { IfOk result (λ goes_on. goes_on ≡ true → self.new.tasks.due ≡ []) }
+        ensures params { self.new.params ≡ self.old.params }
+    {
         if !self.act_all(luns, out, orders)? {
             return Ok(false);
         }
@@ -168,6 +229,7 @@ impl Session {
         ensures grows { (more : List ℕ) × (out.new.items ≡ out.old.items ++ more) }
         ensures eases { IsAtRest self.old → Eases self.old self.new out.old.items out.new.items }
         ensures params { self.new.params ≡ self.old.params }
+        ensures takes { (frame : pdu.Frame) → takes_in self.old.transfers frame ≡ false → takes_in self.new.transfers frame ≡ false }
     {
         while self.finish(alloc, out, units)? {}
         Ok(())
@@ -191,6 +253,7 @@ impl Session {
         ensures grows { (more : List ℕ) × (out.new.items ≡ out.old.items ++ more) }
         ensures eases { IsAtRest self.old → Eases self.old self.new out.old.items out.new.items }
         ensures params { self.new.params ≡ self.old.params }
+        ensures takes { (frame : pdu.Frame) → takes_in self.old.transfers frame ≡ false → takes_in self.new.transfers frame ≡ false }
         ensures waits { OnErr result (is_waiting self.old ≡ false) }
         ensures err { OnErr result (self.new ≡ self.old) }
         ensures out_err { OnErr result (out.new.items ≡ out.old.items) }

@@ -306,7 +306,7 @@ impl Progress {
         requires lawful { fault_in self.old out.now ≡ None }
         ensures { self.new ≡ blank (with_data self.old out.now) }
     {
-        self.take(&out.header, out.body.len());
+        self.accept_by(&out.header, out.body.len());
     }
 
     /// Counts the data of a Data-Out, `size` bytes. Which R2Ts are open stays the same.
@@ -328,9 +328,9 @@ impl Progress {
         };
     }
 
-    /// Accepts a Data-Out with `size` bytes, with which nothing is wrong. Its R2T is no longer open once all that it asked
-    /// for has come.
-    pub(crate) fn take(&mut self, header: &Header, size: usize)
+    /// Accepts a Data-Out of this command with which nothing is wrong, as [`Progress::accept`] does, by its header and the
+    /// number of bytes that it brings. Its R2T is no longer open once all that it asked for has come.
+    pub fn accept_by(&mut self, header: &Header, size: usize)
         requires lawful { fault_in self.old (brought header.now size) ≡ None }
         ensures { self.new ≡ blank (with_data self.old (brought header.now size)) }
     {

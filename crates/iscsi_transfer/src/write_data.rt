@@ -171,7 +171,7 @@ impl WriteData {
         let Frame { header, body } = out;
         let size = body.len();
         self.payload.push(body)?;
-        self.progress.take(&header, size);
+        self.progress.accept_by(&header, size);
         Ok(())
     }
 

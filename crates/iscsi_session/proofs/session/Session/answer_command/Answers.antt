@@ -8,7 +8,9 @@ use Rattle.iscsi_login.specs.declared.session_params.SessionParams.{SessionParam
 use Rattle.iscsi_requests.specs.Requests.{frame_of, stamp, finished}
 use Rattle.iscsi_answers.specs.Answers.{command_answers}
 use Rattle.iscsi_answers.specs.Room.{room_for}
-use Rattle.iscsi_requests.specs.State.{SessionState, removed_at, place_with}
+use Rattle.iscsi_requests.specs.Needed.{takes_in}
+use Rattle.iscsi_requests.specs.State.{SessionState, TransferList, removed_at, place_with}
+use Rattle.iscsi_requests.proofs.Unread.{untaken_removed}
 use Rattle.iscsi_pdu.specs.Header.{initiator_task_tag}
 use Rattle.iscsi_session.proofs.Parts.{parts}
 use Rattle.iscsi_session.proofs.Answered.{seen, done_here, some_queued}
@@ -47,3 +49,10 @@ returns-clause-answers c past k rest s is =
           ∙ ap (λ (x : Frame). items ++ flat_map spelling (command_answers now past.params.values x done)) f.0
           ∙ ap (λ (all : List Answer). items ++ flat_map spelling all) (answers_bare now past.params.values (frame_of past.came k) done);
     }
+
+pub returns-clause-takes : goal.returns-clause-takes
+returns-clause-takes c frame none =
+    let known = ap (λ (x : SessionState). takes_in x.transfers frame) c.self.view_is ∙ none in
+    ap (λ (x : SessionState). takes_in x.transfers frame) c.next_stamp-stamp.ensures.same
+    ∙ ap (λ (x : TransferList). takes_in x frame) c.finish-parts.ensures
+    ∙ untaken_removed c.self.inside.transfers (place_with c.initiator_task_tag.result c.self.inside.transfers.list) frame known

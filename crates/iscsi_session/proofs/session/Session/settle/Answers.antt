@@ -18,6 +18,7 @@ loop-init g c = record {
   grows = grows_none _;
   eases = λ r. eases_none _ _ r;
   params = refl;
+  takes = λ frame none. none;
 }
 
 pub returns-in_err-finish-clause-err : goal.returns-in_err-finish-clause-err
@@ -39,6 +40,7 @@ loop-preserved g c = record {
   grows = grows_then _ _ _ c.loop.invariant.grows c.in_ok-finish.ensures.grows;
   eases = λ r. (let first = c.loop.invariant.eases r in eases_then _ _ _ _ _ _ first (c.in_ok-finish.ensures.eases first.rests));
   params = c.in_ok-finish.ensures.params ∙ c.loop.invariant.params;
+  takes = λ frame none. c.in_ok-finish.ensures.takes frame (c.loop.invariant.takes frame none);
 }
 
 pub returns-clause-ok : goal.returns-clause-ok
@@ -67,3 +69,9 @@ returns-in_err-finish-clause-grows g c = grows_then _ _ _ c.loop.invariant.grows
 pub returns-in_err-finish-clause-eases : goal.returns-in_err-finish-clause-eases
 returns-in_err-finish-clause-eases g c = λ r.
     (let first = c.loop.invariant.eases r in eases_then _ _ _ _ _ _ first (c.in_err-finish.ensures.eases first.rests))
+
+pub returns-clause-takes : goal.returns-clause-takes
+returns-clause-takes g c frame none = c.finish.ensures.takes frame (c.loop.invariant.takes frame none)
+
+pub returns-in_err-finish-clause-takes : goal.returns-in_err-finish-clause-takes
+returns-in_err-finish-clause-takes g c frame none = c.finish.ensures.takes frame (c.loop.invariant.takes frame none)

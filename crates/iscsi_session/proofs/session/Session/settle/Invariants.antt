@@ -1,4 +1,6 @@
-use Rattle.std.proofs.Common.{◌≡◌, ◌++◌, ℕ, List, [], length}
+use Rattle.std.proofs.Common.{◌≡◌, ◌++◌, ℕ, List, [], length, false}
+use Rattle.iscsi_pdu.specs.Frames.{Frame}
+use Rattle.iscsi_requests.specs.Needed.{takes_in}
 use Rattle.scsi_unit.specs.Units.{AreSound, AreSure}
 use Rattle.iscsi_session.specs.Comings.{CameAs}
 use Rattle.iscsi_session.specs.Runs.{output}
@@ -17,6 +19,7 @@ invariant-loop g l = record {
   grows : (more : List ℕ) × (l.out.items ≡ l.initial.out.items ++ more);
   eases : IsAtRest l.initial.self → Eases l.initial.self l.self l.initial.out.items l.out.items;
   params : l.self.params ≡ l.initial.self.params;
+  takes : (frame : Frame) → takes_in l.initial.self.transfers frame ≡ false → takes_in l.self.transfers frame ≡ false;
 }
 
 -- each that is done is out of the queue

@@ -4,7 +4,7 @@ use Rattle.iscsi_transfer.specs.WriteData.{WriteDataState, bursts_in, filled}
 use Rattle.iscsi_transfer.proofs.Counting.{counts}
 use Rattle.iscsi_transfer.proofs.Inside.{filled_is, seen}
 use Rattle.iscsi_transfer.proofs.Open.{reached, left_open}
-use Rattle.iscsi_transfer.proofs.progress.Progress.take.Goals as goal
+use Rattle.iscsi_transfer.proofs.progress.Progress.accept_by.Goals as goal
 
 pub grow-requires-clause-numbered : goal.grow-requires-clause-numbered
 grow-requires-clause-numbered c =
