@@ -1,2 +1,3 @@
 mod NumberSet
 mod Marked
+mod Ahead

@@ -12,3 +12,5 @@ pub mod NumberSet
 pub mod Connections
 pub mod Lending
 pub mod Rooms
+pub mod Arriving
+pub mod Passing

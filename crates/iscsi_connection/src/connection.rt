@@ -1,10 +1,9 @@
 //! One connection: its bytes, its phase and its output that is still to be sent.
 
-ghost use Rattle.std.specs.Prelude.{◌≡◌, ◌+◌, ◌<◌, ◌≤◌, ◌++◌, [], None, true, false, length, take, nat_lt, IfOk, IfSome, IfNone, OnOk, OnErr};
+ghost use Rattle.std.specs.Prelude.{◌≡◌, ◌+◌, ◌<◌, ◌≤◌, ◌++◌, [], None, true, false, length, take, nat_lt, if◌then◌else◌, IfOk, IfSome, IfNone, OnOk, OnErr};
 ghost use Rattle.std.specs.Result.{IsErrOf};
-ghost use Rattle.iscsi_pdu.specs.Frames.{has_frame, is_long, frame_length, wanted};
+ghost use Rattle.iscsi_pdu.specs.Frames.{has_frame, is_long, wanted};
 ghost use Rattle.iscsi_pdu.specs.Header.{header_length, data_length};
-ghost use Rattle.iscsi_pdu.specs.Parts.{is_data_out};
 ghost use Rattle.iscsi_pdu.specs.Segment.{most_data};
 ghost use Rattle.iscsi_transfer.specs.Counted.{brought};
 ghost use Rattle.iscsi_pdu.specs.Answer.{spelling};
@@ -17,12 +16,13 @@ ghost use Rattle.iscsi_login.specs.LoginState.{LoginState, IsTargetBelow};
 ghost use Rattle.iscsi_login.specs.Login.{advanced, reply_of};
 ghost use Rattle.iscsi_session.specs.Requests.{begun as begun_past};
 ghost use Rattle.iscsi_session.specs.State.{remembered};
+ghost use Rattle.iscsi_connection.specs.Arriving.{rest_in, frame_of, IsUntaken, MayServe};
 ghost use Rattle.iscsi_connection.specs.Rooms.{LendsRoom};
-ghost use Rattle.iscsi_world.specs.HalfRead.{IsCounted, HoldsUnneeded, CanCount, NeedsNot, KeepsPiece};
 ghost use Rattle.iscsi_world.specs.History.{arrivals};
 ghost use Rattle.iscsi_world.specs.Machine.{LinkState, is_reading, is_logging_in, session_in_phase, free_link, opened_link, shut_link, begun_link, GivesFrame, IsAnswered, IsWithin, sent_link, is_settled, is_silent, most_waiting};
 ghost use Rattle.iscsi_world.specs.declared.phase.Phase.TheVariants.{Login as UnderWay};
 
+use crate::arriving::{Arriving, Taken};
 use bytes::BytesMut;
 use data_parts::SpareBuffers;
 use iscsi_framer::{FrameRoom, Framer};
@@ -45,7 +45,7 @@ const MOST_WAITING: usize = 1_048_576;
 
 /// A connection.
 pub struct Connection {
-    pub(crate) framer: Framer,
+    pub(crate) arriving: Arriving,
     pub(crate) phase: Phase,
     pub(crate) waiting: Outbox,
 }
@@ -56,35 +56,22 @@ impl Model for Connection {
 
     ghost Value = { LinkState };
 
-    ghost view = { λ l. record { half = if is_reading l.phase then l.framer else []; phase = l.phase; waiting = l.waiting.items } };
+    ghost use Rattle.iscsi_connection.specs.Arriving.{bytes_in, CanPass};
+
+    ghost view = { λ l. record { half = if is_reading l.phase then bytes_in l.arriving else []; phase = l.phase; waiting = l.waiting.items } };
+
+    ghost invariant = { λ l. CanPass l.phase l.arriving.passing };
 }
 
 // Dropped by a call of its own, so that code that drops a connection does not take its bytes and phase apart.
 impl Drop for Connection {
     fn drop(self) {
         let Connection {
-            framer: _framer,
+            arriving: _arriving,
             phase: _phase,
             waiting: _waiting,
         } = self;
     }
-}
-
-/// Counts a piece of a half-read Data-Out, and forgets the bytes before it.
-fn count(framer: &mut Framer, piece: &[u8]) -> Result<(), Memory>
-    requires out { is_data_out framer.old ≡ true }
-    requires part { length framer.old + length piece.now < frame_length framer.old }
-    ensures { OnOk result (IsCounted framer.new (framer.old ++ piece.now)) }
-{
-    let mut done = 0;
-    while done < piece.len() {
-        // The framer allocates nothing for it.
-        let Ok((used, _)) = framer.take(&piece[done..]) else {
-            return Err(Memory);
-        };
-        done += used;
-    }
-    Ok(())
 }
 
 // The drop of a session or a phase is long wherever it stands, so each stands in a function of its own.
@@ -114,7 +101,7 @@ impl Connection {
         ensures { result ≡ free_link }
     {
         Connection {
-            framer: Framer::new(alloc),
+            arriving: Arriving::new(alloc),
             phase: Phase::Free,
             waiting: Outbox::new(alloc),
         }
@@ -126,7 +113,7 @@ impl Connection {
         ensures { result ≡ opened_link c }
     {
         Connection {
-            framer: Framer::new(alloc),
+            arriving: Arriving::new(alloc),
             phase: Phase::Login(Login::new(alloc, c)),
             waiting: Outbox::new(alloc),
         }
@@ -147,21 +134,14 @@ impl Connection {
         self.phase.change(Phase::Closing);
     }
 
-    /// Keeps a further piece of the connection's bytes. Of a half-read Data-Out whose data is not needed, only the number
-    /// of bytes is kept. If an allocation fails, other bytes may be kept than before.
+    /// Keeps a further piece of the connection's bytes. Of a half-read Data-Out that is only counted ([`Connection::forget`]),
+    /// the number of bytes is kept. If an allocation fails, other bytes may be kept than before.
     pub fn keep(&mut self, piece: &[u8], spares: &mut SpareBuffers) -> Result<(), Memory>
         requires { is_reading self.old.phase ≡ true }
-        ensures ok { OnOk result (KeepsPiece piece.now self.old self.new) }
+        ensures ok { OnOk result (self.new ≡ record self.old { half = self.old.half ++ piece.now }) }
         ensures err { OnErr result (self.new ≡ record self.old { half = self.new.half }) }
     {
-        if self.can_count(piece.len()) {
-            return count(&mut self.framer, piece);
-        }
-        // The framer reports no other fault here.
-        if self.framer.feed_with(piece, spares).is_err() {
-            return Err(Memory);
-        }
-        Ok(())
+        self.arriving.keep(piece, spares)
     }
 
     /// Lends the buffer of a half-read PDU to a reader, who is to fill `room` bytes of it. Until it is taken back only the
@@ -175,7 +155,7 @@ impl Connection {
         if !self.keeps_data() {
             return None;
         }
-        self.framer.lend_room(room, spares)
+        self.arriving.lend_room(room, spares)
     }
 
     /// Takes back the buffer of a half-read PDU, of which the reader has filled `count` bytes.
@@ -185,71 +165,59 @@ impl Connection {
         requires within { lent.from + count ≤ length lent.buffer.items }
         ensures { self.new ≡ record self.old { half = self.old.half ++ take (lent.from + count) lent.buffer.items } }
     {
-        self.framer.take_room(lent, count);
+        self.arriving.take_room(lent, count);
     }
 
     /// Returns whether a PDU is half read whose data is to be kept.
     fn keeps_data(&self) -> bool {
-        let Some(header) = self.framer.header() else {
+        let Some(header) = self.arriving.header() else {
             return false;
         };
         if header.data_length() > MOST_DATA {
             return false;
         }
-        header.opcode() != Opcode::DataOut || self.needs(&header)
+        header.opcode() != Opcode::DataOut || self.takes(&header)
     }
 
-    /// Returns whether a Data-Out is half read whose data is not needed, and is not whole with `more` bytes.
-    fn can_count(&self, more: usize) -> bool
-        requires { is_reading self.now.phase ≡ true }
-        ensures { result ≡ true → CanCount self.now more }
-    {
-        if more == 0 || more >= self.framer.want() {
-            return false;
-        }
-        self.holds_unneeded()
-    }
-
-    /// Returns whether the bytes begin with the header of a Data-Out whose data is not needed.
-    pub(crate) fn holds_unneeded(&self) -> bool
-        requires { is_reading self.now.phase ≡ true }
-        ensures { result ≡ true → HoldsUnneeded self.now }
-    {
-        let Some(header) = self.framer.header() else {
-            return false;
-        };
-        let Opcode::DataOut = header.opcode() else {
-            return false;
-        };
-        if header.data_length() > MOST_DATA {
-            return false;
-        }
-        !self.needs(&header)
-    }
-
-    /// Returns whether the data of a Data-Out with this header is needed.
-    fn needs(&self, header: &Header) -> bool
+    /// Returns whether a command that is not finished takes a Data-Out with this header.
+    pub(crate) fn takes(&self, header: &Header) -> bool
         requires { data_length header.now ≤ most_data }
-        ensures { result ≡ false → NeedsNot self.now.phase (brought header.now (data_length header.now)) }
+        ensures { result ≡ false → IsUntaken self.now.phase (brought header.now (data_length header.now)) }
     {
         match &self.phase {
-            Phase::FullFeature(session) => session.needs(header),
+            Phase::FullFeature(session) => session.takes(header),
             Phase::Free | Phase::Login(_) | Phase::Closing => false,
         }
     }
 
-    /// Takes the first whole frame from the front of the bytes. Returns `None` if no frame is whole yet.
-    pub fn next_frame(&mut self) -> Result<Option<Frame>, PduFault>
+    /// Takes the first whole PDU, with all bytes after it, which [`Connection::put_back`] puts back. Returns `None` if no PDU
+    /// is whole yet.
+    pub fn next_frame(&mut self) -> Result<Option<Taken>, PduFault>
         requires { is_reading self.old.phase ≡ true }
-        ensures given { IfOk result (λ o. IfSome o (λ f. GivesFrame f self.old.half self.new.half)) }
+        ensures given { IfOk result (λ o. IfSome o (λ t. GivesFrame (frame_of t.arrived) self.old.half (rest_in t.rest))) }
         ensures same { self.new ≡ record self.old { half = self.new.half } }
+        ensures left { IfOk result (λ o. IfSome o (λ _. self.new.half ≡ [])) }
+        ensures serves { IfOk result (λ o. IfSome o (λ t. MayServe self.old.phase t.arrived)) }
         ensures none { IfOk result (λ o. IfNone o (arrivals self.old.half ≡ [])) }
         ensures waits { IfOk result (λ o. IfNone o (self.new ≡ self.old)) }
         ensures too_long { IsErrOf result PduFault.TooLong → is_long self.old.half ≡ true }
         ensures memory { IsErrOf result PduFault.Memory → has_frame self.old.half ≡ true }
         ensures err { OnErr result (self.new ≡ self.old) }
     {
-        self.framer.next()
+        self.arriving.next()
+    }
+
+    /// Puts the bytes after a PDU that was taken back, if the connection is still read.
+    pub fn put_back(&mut self, rest: Option<Framer>)
+        requires { self.old.half ≡ [] }
+        ensures { self.new ≡ record self.old { half = if is_reading self.old.phase then rest_in rest else [] } }
+    {
+        let Some(rest) = rest else {
+            return;
+        };
+        if self.phase.reads() {
+            self.arriving.put_back(rest);
+        }
     }
 
     /// Queues an answer. If an allocation fails, nothing changes.
@@ -422,6 +390,6 @@ impl Connection {
         requires { is_reading self.now.phase ≡ true }
         ensures { result ≡ wanted self.now.half }
     {
-        self.framer.want()
+        self.arriving.want()
     }
 }

@@ -1,53 +1,56 @@
-//! The data of a half-read Data-Out is forgotten if nobody needs it.
+//! Of a half-read Data-Out that nobody needs only the header and the number of bytes are kept.
 
-ghost use Rattle.std.specs.Prelude.{◌≡◌, ◌<◌, [], true, false, length};
-ghost use Rattle.iscsi_pdu.specs.Frames.{has_frame, is_long, frame_length};
-ghost use Rattle.iscsi_pdu.specs.Parts.{is_data_out};
-ghost use Rattle.iscsi_world.specs.HalfRead.{IsCounted, CanCount, KeepsPiece};
+ghost use Rattle.std.specs.Prelude.{◌≡◌, ◌≤◌, length, take, true, false};
+ghost use Rattle.iscsi_pdu.specs.Frames.{has_frame};
+ghost use Rattle.iscsi_pdu.specs.Header.{header_length, data_length};
+ghost use Rattle.iscsi_pdu.specs.Segment.{most_data};
+ghost use Rattle.iscsi_framer.specs.Passing.{IsPassing};
+ghost use Rattle.iscsi_world.specs.HalfRead.{out_in};
 ghost use Rattle.iscsi_world.specs.Machine.{is_reading};
+ghost use Rattle.iscsi_connection.specs.Arriving.{IsUntaken};
 
 use crate::connection::Connection;
-use iscsi_framer::Framer;
-use iscsi_pdu::padded;
-
-/// Forgets the data of a half-read Data-Out.
-fn forget_data(framer: &mut Framer)
-    requires out { is_data_out framer.old ≡ true }
-    requires short { is_long framer.old ≡ false }
-    requires part { length framer.old < frame_length framer.old }
-    ensures { IsCounted framer.new framer.old }
-{
-    // The framer allocates nothing for it, and nothing becomes whole.
-    let _ = framer.take(&[]);
-}
+use iscsi_pdu::{Header, MOST_DATA, padded};
 
 impl Connection {
-    /// Returns whether data of a half-read Data-Out has come that is not needed.
+    /// Returns whether bytes have come after the header of a half-read Data-Out that no unfinished command takes.
     pub fn can_forget(&self) -> bool
         requires { has_frame self.now.half ≡ false }
         ensures reads { result ≡ true → is_reading self.now.phase ≡ true }
-        ensures part { result ≡ true → CanCount self.now 0 }
+        ensures passing { result ≡ true → IsPassing self.now.half }
+        ensures untaken { result ≡ true → IsUntaken self.now.phase (out_in self.now.half) }
     {
-        if !self.phase.reads() || !self.has_begun() {
+        if !self.phase.reads() {
             return false;
         }
-        self.holds_unneeded()
+        match self.arriving.header() {
+            Some(header) => self.has_begun(header) && !self.takes(&header),
+            None => false,
+        }
     }
 
-    /// Forgets the data of a half-read Data-Out. Its header and the number of its bytes are kept.
+    /// Returns whether this is the header of a Data-Out, and bytes have come after it.
+    fn has_begun(&self, header: Header) -> bool
+        requires reads { is_reading self.now.phase ≡ true }
+        requires header { header ≡ take header_length self.now.half }
+        requires there { header_length ≤ length self.now.half }
+        requires part { has_frame self.now.half ≡ false }
+        ensures passing { result ≡ true → IsPassing self.now.half }
+        ensures short { result ≡ true → data_length header ≤ most_data }
+    {
+        let data = header.data_length();
+        header.is_data_out()
+            && data <= MOST_DATA
+            && self.want() < header.additional_length() + padded(data)
+    }
+
+    /// Counts the bytes of a half-read Data-Out from now on. None of them is kept.
     pub fn forget(&mut self)
         requires reads { is_reading self.old.phase ≡ true }
-        requires part { CanCount self.old 0 }
-        ensures { KeepsPiece [] self.old self.new }
+        requires passing { IsPassing self.old.half }
+        requires untaken { IsUntaken self.old.phase (out_in self.old.half) }
+        ensures { self.new ≡ self.old }
     {
-        forget_data(&mut self.framer);
-    }
-
-    /// Returns whether bytes have come after the first header.
-    fn has_begun(&self) -> bool {
-        let Some(header) = self.framer.header() else {
-            return false;
-        };
-        self.framer.want() < header.additional_length() + padded(header.data_length())
+        self.arriving.pass_over();
     }
 }

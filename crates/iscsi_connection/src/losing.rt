@@ -1,6 +1,8 @@
 //! A session loses commands to the function of another session (RFC 7143 §11.5.1). Nothing here allocates.
 
-ghost use Rattle.std.specs.Prelude.{◌≡◌, ℕ, List, [], None, true};
+ghost use Rattle.std.specs.Prelude.{◌≡◌, ℕ, List, [], None, true, false};
+ghost use Rattle.iscsi_pdu.specs.Frames.{Frame};
+ghost use Rattle.iscsi_session.specs.Needed.{takes_in};
 ghost use Rattle.iscsi_pdu.specs.Header.{lun_field};
 ghost use Rattle.scsi_unit.specs.Units.{AreSound, AreSure};
 ghost use Rattle.iscsi_session.specs.Comings.{Coming, lend};
@@ -33,6 +35,7 @@ pub(crate) fn lose<S: Store>(session: &mut Session, units: &mut Units<S>, functi
     ensures sure { AreSure units.old → AreSure units.new }
     ensures eases { (waiting : List ℕ) → IsAtRest session.old → Eases session.old session.new waiting waiting }
     ensures params { session.new.params ≡ session.old.params }
+    ensures takes { (frame : Frame) → takes_in session.old.transfers frame ≡ false → takes_in session.new.transfers frame ≡ false }
 {
     let has_lost = session.remove(&Reach {
         function: *function,

@@ -5,4 +5,5 @@ pub use Rattle.iscsi_world.proofs.Keeping
 pub use Rattle.iscsi_world.proofs.Reflected
 pub use Rattle.iscsi_world.proofs.Standing
 mod Rooms
+mod Pieces
 mod Rows

@@ -1,5 +1,5 @@
 -- The buffer of a half-read PDU is taken back.
-use Rattle.std.proofs.Common.{◌≡◌, ℕ, ◌+◌, ◌<◌, List, ◌++◌, length, take, drop, true, not, refl, sym, ap, ◌∙◌, inl, append_assoc, append-nil}
+use Rattle.std.proofs.Common.{◌≡◌, ℕ, ◌+◌, ◌<◌, List, ◌++◌, length, take, drop, true, not, refl, sym, ap, ◌∙◌, append_assoc, append-nil}
 use Rattle.std.proofs.Math.Seq.{take-add}
 use Rattle.std.proofs.lemmas.List.{get_or-set_same, length-set, set-get_or, set-set}
 use Rattle.iscsi_framer.specs.declared.frame_buffer.FrameRoom.{FrameRoom}
@@ -7,7 +7,7 @@ use Rattle.iscsi_connection.specs.Rooms.{filled_in}
 use Rattle.iscsi_world.specs.Machine.{LinkState, Machine, link_at, with_link, free_link, is_free, is_open_at, is_reading}
 use Rattle.iscsi_world.specs.declared.phase.Phase.{Phase}
 use Rattle.iscsi_world.specs.declared.phase.Phase.TheVariants.{Free, Login, FullFeature, Closing}
-use Rattle.iscsi_world.specs.HalfRead.{KeepsPieceAt}
+use Rattle.iscsi_world.specs.Serving.{kept_piece}
 use Rattle.iscsi_target.specs.Feeding.{LacksRoom}
 
 open_phase : (phase : Phase) → is_reading phase ≡ true → not (is_free phase) ≡ true
@@ -38,23 +38,12 @@ filled_target before now mid c lent half lacks is =
     ∙ ap (λ links. record before { links = links }) (set-set before.links c (link_at now c) (record (link_at before c) { half = half }))
 
 -- a piece was filled in
-pub kept_in_room : (before now mid : Machine) (c : ℕ) (lent : FrameRoom) (count : ℕ) → c < length before.links → LacksRoom c lent before now
+pub kept_in_room : (before now mid : Machine) (c : ℕ) (lent : FrameRoom) (count : ℕ) → LacksRoom c lent before now
     → mid ≡ with_link now c (record (link_at now c) { half = (link_at now c).half ++ take (lent.from + count) lent.buffer.items })
-    → KeepsPieceAt c (filled_in lent count) before mid
-kept_in_room before now mid c lent count lt lacks is =
-    let half = (link_at before c).half ++ filled_in lent count in
-    let link : LinkState = record (link_at before c) { half = half } in
-    let filled : mid ≡ with_link before c link =
-    filled_target before now mid c lent half lacks
-    (is ∙ ap (λ (x : List ℕ). with_link now c (record (link_at now c) { half = x })) (half_filled before now c lent count lacks)) in
-    let there : link_at mid c ≡ link = ap (λ (m : Machine). link_at m c) filled ∙ get_or-set_same before.links c link free_link lt in
-    record {
-      is = filled ∙ ap (with_link before c) (sym there);
-      keeps = record {
-        same = there ∙ ap (λ (x : List ℕ). record (link_at before c) { half = x }) (sym (ap (λ (l : LinkState). l.half) there));
-        half = inl (ap (λ (l : LinkState). l.half) there);
-      };
-    }
+    → mid ≡ kept_piece c (filled_in lent count) before
+kept_in_room before now mid c lent count lacks is =
+    filled_target before now mid c lent ((link_at before c).half ++ filled_in lent count) lacks
+    (is ∙ ap (λ (x : List ℕ). with_link now c (record (link_at now c) { half = x })) (half_filled before now c lent count lacks))
 
 -- as many connections as before
 pub lacking_links : (before now : Machine) (c : ℕ) (lent : FrameRoom) → LacksRoom c lent before now → length now.links ≡ length before.links

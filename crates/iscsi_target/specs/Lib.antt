@@ -31,7 +31,6 @@ pub use Rattle.iscsi_world.specs.Output
 pub use Rattle.iscsi_world.specs.Machine
 pub use Rattle.iscsi_world.specs.SessionCalls
 pub use Rattle.iscsi_world.specs.Bounded
-pub use Rattle.iscsi_world.specs.HalfRead
 pub use Rattle.iscsi_world.specs.Stands
 pub use Rattle.iscsi_world.specs.Serving
 pub use Rattle.iscsi_world.specs.Isolation

@@ -5,28 +5,28 @@ ghost use Rattle.std.specs.Result.{IsErrOf};
 ghost use Rattle.iscsi_pdu.specs.Frames.{has_frame, is_long};
 ghost use Rattle.iscsi_pdu.specs.Header.{header_length};
 ghost use Rattle.iscsi_login.specs.LoginState.{IsTargetBelow};
+ghost use Rattle.iscsi_connection.specs.Arriving.{frame_of, rest_in, MayServe};
 ghost use Rattle.iscsi_target.specs.Feeding.{LendsRoomAt};
-ghost use Rattle.iscsi_world.specs.HalfRead.{KeepsPieceAt, ForgetsAt};
 ghost use Rattle.iscsi_world.specs.History.{arrivals};
 ghost use Rattle.iscsi_world.specs.Machine.{GivesFrame, link_at, with_link, is_logging_in, is_reading};
-ghost use Rattle.iscsi_world.specs.Serving.{TakesFrame, TakesOne, TakesAll, first_starved};
+ghost use Rattle.iscsi_world.specs.Serving.{TakesFrame, TakesOne, TakesAll, first_starved, kept_piece, put_back};
 
 use crate::serve::earlier_of;
 use crate::target::Target;
 use data_parts::SpareBuffers;
-use iscsi_framer::FrameRoom;
-use iscsi_pdu::{Frame, Opcode, PduFault};
+use iscsi_connection::{Arrived, Taken};
+use iscsi_framer::{FrameRoom, Framer};
+use iscsi_pdu::{Opcode, PduFault};
 use iscsi_world::{Phase, Starved};
 use media_store::Store;
 use target_limits::Memory;
 
 impl<S: Store> Target<S> {
-    /// Keeps a further piece of a connection's bytes, or their number. If an allocation fails, other bytes may be kept
-    /// than before.
+    /// Keeps a further piece of a connection's bytes. If an allocation fails, other bytes may be kept than before.
     pub(crate) fn keep(&mut self, c: usize, piece: &[u8]) -> Result<(), Memory>
         requires in_range { c < 64 }
         requires reads { is_reading (link_at self.old c).phase ≡ true }
-        ensures ok { OnOk result (KeepsPieceAt c piece.now self.old self.new) }
+        ensures ok { OnOk result (self.new ≡ kept_piece c piece.now self.old) }
         ensures err { OnErr result (self.new ≡ with_link self.old c (record (link_at self.old c) { half = (link_at self.new c).half })) }
     {
         let target = self.home(c);
@@ -40,7 +40,7 @@ impl<S: Store> Target<S> {
     fn keep_with(&mut self, c: usize, piece: &[u8], spares: &mut SpareBuffers) -> Result<(), Memory>
         requires in_range { c < 64 }
         requires reads { is_reading (link_at self.old c).phase ≡ true }
-        ensures ok { OnOk result (KeepsPieceAt c piece.now self.old self.new) }
+        ensures ok { OnOk result (self.new ≡ kept_piece c piece.now self.old) }
         ensures err { OnErr result (self.new ≡ with_link self.old c (record (link_at self.old c) { half = (link_at self.new c).half })) }
         ensures count { length self.old.links ≡ 64 }
     {
@@ -52,7 +52,7 @@ impl<S: Store> Target<S> {
     pub(crate) fn forget_unneeded(&mut self, c: usize)
         requires in_range { c < 64 }
         requires part { has_frame (link_at self.old c).half ≡ false }
-        ensures forgets { ForgetsAt c self.old self.new }
+        ensures same { self.new ≡ self.old }
         ensures count { length self.old.links ≡ 64 }
     {
         if self.connections.at(c).can_forget() {
@@ -120,12 +120,14 @@ impl<S: Store> Target<S> {
         units.return_buffers(spares);
     }
 
-    /// Takes the first whole frame of a connection from the front of its bytes.
-    fn next_frame(&mut self, c: usize) -> Result<Option<Frame>, PduFault>
+    /// Takes the first whole PDU of a connection, with all bytes after it, which [`Target::put_back`] puts back.
+    fn next_frame(&mut self, c: usize) -> Result<Option<Taken>, PduFault>
         requires in_range { c < 64 }
         requires reads { is_reading (link_at self.old c).phase ≡ true }
-        ensures given { IfOk result (λ o. IfSome o (λ f. GivesFrame f (link_at self.old c).half (link_at self.new c).half)) }
+        ensures given { IfOk result (λ o. IfSome o (λ t. GivesFrame (frame_of t.arrived) (link_at self.old c).half (rest_in t.rest))) }
         ensures same { self.new ≡ with_link self.old c (record (link_at self.old c) { half = (link_at self.new c).half }) }
+        ensures left { IfOk result (λ o. IfSome o (λ _. (link_at self.new c).half ≡ [])) }
+        ensures serves { IfOk result (λ o. IfSome o (λ t. MayServe (link_at self.old c).phase t.arrived)) }
         ensures none { IfOk result (λ o. IfNone o (arrivals (link_at self.old c).half ≡ [])) }
         ensures waits { IfOk result (λ o. IfNone o (self.new ≡ self.old)) }
         ensures too_long { IsErrOf result PduFault.TooLong → is_long (link_at self.old c).half ≡ true }
@@ -135,6 +137,17 @@ impl<S: Store> Target<S> {
     {
         let connection = self.connections.at_mut(c);
         connection.next_frame()
+    }
+
+    /// Puts the bytes after a PDU that was taken back, if the connection is still read.
+    fn put_back(&mut self, c: usize, rest: Option<Framer>)
+        requires in_range { c < 64 }
+        requires none { (link_at self.old c).half ≡ [] }
+        ensures back { self.new ≡ put_back c (rest_in rest) self.old }
+        ensures count { length self.old.links ≡ 64 }
+    {
+        let connection = self.connections.at_mut(c);
+        connection.put_back(rest);
     }
 
     /// Takes all whole frames of a connection in order. Stops if the connection closes.
@@ -164,7 +177,11 @@ impl<S: Store> Target<S> {
         ensures whole { IfNone result (arrivals (link_at self.old c).half ≡ []) }
     {
         match self.next_frame(c) {
-            Ok(Some(frame)) => Some(self.take_frame(c, frame)),
+            Ok(Some(Taken { arrived, rest })) => {
+                let taken = self.take_frame(c, arrived);
+                self.put_back(c, rest);
+                Some(taken)
+            }
             Ok(None) => None,
             Err(PduFault::TooLong) => {
                 self.close(c);
@@ -174,32 +191,37 @@ impl<S: Store> Target<S> {
         }
     }
 
-    /// Takes one frame of a connection, by its phase. If an allocation fails, the connection is closed, as if just
-    /// before one of the frame's steps.
-    fn take_frame(&mut self, c: usize, frame: Frame) -> Result<(), Starved>
+    /// Takes one PDU of a connection, by its phase. If an allocation fails, the connection is closed, as if just before one
+    /// of the steps that the PDU sets off.
+    fn take_frame(&mut self, c: usize, arrived: Arrived) -> Result<(), Starved>
         requires in_range { c < 64 }
         requires reads { is_reading (link_at self.old c).phase ≡ true }
-        ensures { TakesFrame c frame (first_starved result) self.old self.new }
+        requires alone { (link_at self.old c).half ≡ [] }
+        requires serves { MayServe (link_at self.old c).phase arrived }
+        ensures { TakesFrame c (frame_of arrived) (first_starved result) self.old self.new }
     {
         match self.connections.at(c).phase() {
             Phase::Free | Phase::Closing => Ok(()),
-            Phase::Login(_) => self.enter(c, &frame),
-            Phase::FullFeature(_) => self.serve(c, frame),
+            Phase::Login(_) => self.enter(c, &arrived),
+            Phase::FullFeature(_) => self.serve(c, arrived),
         }
     }
 
-    /// Takes a frame before full feature phase: a Login request is answered, any other frame is a violation.
+    /// Takes a PDU before full feature phase: a Login request is answered, any other PDU is a violation.
     #[tactic(auto, unfolding(iscsi_world::specs::World::is_login))]
-    fn enter(&mut self, c: usize, frame: &Frame) -> Result<(), Starved>
+    fn enter(&mut self, c: usize, arrived: &Arrived) -> Result<(), Starved>
         requires in_range { c < 64 }
         requires logs_in { is_logging_in (link_at self.old c).phase ≡ true }
-        ensures { TakesFrame c frame.now (first_starved result) self.old self.new }
+        requires serves { MayServe (link_at self.old c).phase arrived.now }
+        ensures { TakesFrame c (frame_of arrived.now) (first_starved result) self.old self.new }
     {
-        if frame.header.opcode() == Opcode::Login {
-            return match self.log_in(c, frame) {
-                Ok(()) => Ok(()),
-                Err(Memory) => Err(self.starve(c)),
-            };
+        if let Arrived::Whole(frame) = arrived {
+            if frame.header.opcode() == Opcode::Login {
+                return match self.log_in(c, frame) {
+                    Ok(()) => Ok(()),
+                    Err(Memory) => Err(self.starve(c)),
+                };
+            }
         }
         self.close(c);
         Ok(())

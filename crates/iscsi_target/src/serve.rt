@@ -2,6 +2,7 @@
 //! its target have taken are done.
 
 ghost use Rattle.std.specs.Prelude.{◌≡◌, ◌<◌, [], Some, true, length};
+ghost use Rattle.iscsi_connection.specs.Arriving.{frame_of, MayServe};
 ghost use Rattle.iscsi_login.specs.LoginState.{IsTargetBelow};
 ghost use Rattle.scsi_unit.specs.Units.{numbers_of};
 ghost use Rattle.iscsi_world.specs.World.{units_at};
@@ -11,7 +12,8 @@ ghost use Rattle.iscsi_world.specs.SessionCalls.{ServesSession, SettlesSession, 
 
 use crate::target::Target;
 use crate::task_management::luns_of;
-use iscsi_pdu::{Frame, Header};
+use iscsi_connection::Arrived;
+use iscsi_pdu::Header;
 use iscsi_world::Starved;
 use media_store::Store;
 use target_limits::Memory;
@@ -86,41 +88,45 @@ impl<S: Store> Target<S> {
         connection.settle(self.alloc, units)
     }
 
-    /// Serves a frame of a session: it is judged and acts, and then its target's sessions are settled. If an
+    /// Serves a PDU of a session: it is judged and acts, and then its target's sessions are settled. If an
     /// allocation fails, that connection is closed, as if just before one of the frame's steps.
-    pub(crate) fn serve(&mut self, c: usize, frame: Frame) -> Result<(), Starved>
+    pub(crate) fn serve(&mut self, c: usize, arrived: Arrived) -> Result<(), Starved>
         requires in_range { c < 64 }
         requires session { is_in_session (link_at self.old c).phase ≡ true }
-        ensures { TakesFrame c frame (first_starved result) self.old self.new }
+        requires alone { (link_at self.old c).half ≡ [] }
+        requires serves { MayServe (link_at self.old c).phase arrived }
+        ensures { TakesFrame c (frame_of arrived) (first_starved result) self.old self.new }
     {
         let target = self.target_at(c);
         let mut orders = Vec::new(self.alloc);
-        let goes_on = self.serve_session(c, target, frame, &mut orders);
+        let goes_on = self.serve_session(c, target, arrived, &mut orders);
         let served = self.end_unless(c, goes_on);
         self.carry_out_for(c, target, orders.as_slice());
         let settled = self.settle_for(target);
         earlier_of(served, settled)
     }
 
-    /// Judges a frame, and lets the requests act that it lets be taken. Returns whether the session goes on.
+    /// Judges a PDU, and lets the requests act that it lets be taken. Returns whether the session goes on.
     fn serve_session(
         &mut self,
         c: usize,
         target: Option<usize>,
-        frame: Frame,
+        arrived: Arrived,
         orders: &mut Vec<Header>,
     ) -> Result<bool, Memory>
         requires in_range { c < 64 }
         requires own { target ≡ target_in (link_at self.old c).phase }
+        requires alone { (link_at self.old c).half ≡ [] }
+        requires serves { MayServe (link_at self.old c).phase arrived }
         requires fresh { orders.old.items ≡ [] }
         ensures changes { self.new ≡ with_link self.old c (link_at self.new c) }
-        ensures calls { ServesSession result frame (numbers_of (units_at target self.old.units)) orders.new.items
+        ensures calls { ServesSession result (frame_of arrived) (numbers_of (units_at target self.old.units)) orders.new.items
             (link_at self.old c) (link_at self.new c) }
         ensures below { IsTargetBelow (length self.old.units) target }
         ensures count { length self.old.links ≡ 64 }
     {
         let luns = luns_of(self.units.as_slice(), target);
         let connection = self.connections.at_mut(c);
-        connection.serve(frame, luns, orders)
+        connection.serve(arrived, luns, orders)
     }
 }

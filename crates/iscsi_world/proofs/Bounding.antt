@@ -14,9 +14,6 @@ adds_none n link r = record { fits = omega arith; rests = r }
 pub adds_then : (n m : ℕ) (old middle new : LinkState) → AddsAtMost n old middle → AddsAtMost m middle new → AddsAtMost (n + m) old new
 adds_then n m old middle new a b r = grind arith
 
-pub adds_more : (n m : ℕ) (old new : LinkState) → n ≤ m → AddsAtMost n old new → AddsAtMost m old new
-adds_more n m old new le a r = let one = (a r).fits in record { fits = omega (arith, le, one); rests = (a r).rests }
-
 -- ---- a connection closes
 
 pub waiting_least : (waiting : ℕ) (phase : Phase) → waiting ≤ weight_in waiting phase

@@ -1,22 +1,22 @@
 -- A whole event of bytes keeps the code where the World is.
-use Rattle.std.proofs.Common.{◌≡◌, ◌≢◌, ℕ, ◌+◌, ◌<◌, ◌≤◌, List, [], ◌∷◌, ◌++◌, length, Bool, true, false, Option, Some, None, refl, sym, ap, ◌∙◌, subst, arith, inl, inr}
+use Rattle.std.proofs.Common.{◌≡◌, ◌≢◌, ℕ, ◌+◌, ◌<◌, List, [], ◌∷◌, ◌++◌, length, Bool, true, false, Option, Some, None, refl, sym, ap, ◌∙◌, subst, arith, inl, inr}
 use Rattle.std.specs.Prelude.{All, Result, Ok, Err, OnOk, IfErr}
 use Rattle.std.specs.List.{fold, enumerate_from}
 use Rattle.std.proofs.lemmas.Bool.Decides.{eqb_tells}
 use Rattle.std.proofs.lemmas.List.{append-nil, get_or-set_same, set-set, drop_all}
 use Rattle.std.proofs.lemmas.List.FromFn.{length-enumerate_from}
-use Rattle.iscsi_pdu.specs.Frames.{Frame, rest, is_long}
+use Rattle.iscsi_pdu.specs.Frames.{rest, is_long}
 use Rattle.iscsi_pdu.proofs.Cuts.{rest_in_pieces}
 use Rattle.scsi_unit.specs.Units.{UnitStates, AreSound}
+use Rattle.iscsi_login.specs.Directory.{KnownTargets}
 use Rattle.iscsi_session.specs.Comings.{Coming, AreAhead, ArePlain, IsCalm}
 use Rattle.iscsi_session.proofs.Came.{plain_ahead, ahead_self}
-use Rattle.iscsi_world.specs.History.{Bytes, Arriving, AtEnd, Point, Mark, History, Arrival, arrivals, new_arrivals, plain, marked, connection_limit}
+use Rattle.iscsi_world.specs.History.{Bytes, Arriving, AtEnd, Point, Mark, History, Arrival, arrivals, new_arrivals, happening, plain, marked, connection_limit}
 use Rattle.iscsi_world.specs.Life.{Life, reads}
 use Rattle.iscsi_world.specs.World.{Setting, World, present, changed, reads_life, is_marked, close, reaching, take_step, arrive, brought, longer, bring, begun_event, world}
-use Rattle.iscsi_world.specs.Machine.{LinkState, Machine, IsSound, IsSoundAt, WhereSound, Feeds, link_at, with_link, closed, is_reading, is_open_at}
-use Rattle.iscsi_world.specs.HalfRead.{KeepsPiece, KeepsPieceAt}
-use Rattle.iscsi_world.specs.Stands.{link_of, needs, IsHalf, IsQuiet, IsShort, IsStarved, StandsAt, Stands, StandsAfter, stand_in, are_reached, Begins}
-use Rattle.iscsi_world.specs.Serving.{Serves, first_starved, with_half, is_among, reached_since, TakesAll}
+use Rattle.iscsi_world.specs.Machine.{Machine, IsSound, IsSoundAt, WhereSound, Feeds, link_at, with_link, closed, is_reading, is_open_at}
+use Rattle.iscsi_world.specs.Stands.{link_of, half_of, IsShort, IsStarved, StandsAt, Stands, StandsAfter, stand_in, are_reached, Begins}
+use Rattle.iscsi_world.specs.Serving.{Serves, first_starved, with_half, kept_piece, is_among, reached_since, TakesAll}
 use Rattle.iscsi_world.specs.declared.fault.Starved.{Starved}
 use Rattle.iscsi_world.proofs.Arrivals.{new_is}
 use Rattle.iscsi_world.proofs.Moving.{own_self, changes_feeds}
@@ -24,29 +24,20 @@ use Rattle.iscsi_world.proofs.Reflected.{sound_back}
 use Rattle.iscsi_world.proofs.Marks.{mark_at, marked_one, marked_none, unmarked}
 use Rattle.iscsi_world.proofs.Walks.{any_arrivals, on-arrivals}
 use Rattle.iscsi_world.proofs.Keeping.{Prolongs, Stays, goes, on-close, on-reaching, on-then, on-same}
-use Rattle.iscsi_world.proofs.Linked.{reads_there, some_reads, closes, present-close, serves_as, serves_reaching, present-reaching}
+use Rattle.iscsi_world.proofs.Linked.{reads_there, some_reads, half_there, count_there, closes, present-close, serves_as, serves_reaching, present-reaching}
 use Rattle.iscsi_world.proofs.Comings.{comings_changed}
-use Rattle.iscsi_world.proofs.Fed.{piece_came, came_here, came_other, longer_serves, fed_of, fed_arrivals, fed_left, short_of}
-use Rattle.iscsi_world.proofs.Counting.{counted_none}
-use Rattle.iscsi_world.proofs.Easing.{Eases, arrivals_ease, closing_eases}
-use Rattle.iscsi_world.proofs.Standing.{fresh, present-begun, present-fresh, stands_as, serving, link_stands, is_open_there}
+use Rattle.iscsi_world.proofs.Fed.{piece_came, came_here, came_other, longer_serves, halves_came}
+use Rattle.iscsi_world.proofs.Standing.{fresh, halves_of, present-begun, present-fresh, stands_as, machine_same, serving, is_open_there}
 use Rattle.iscsi_world.proofs.Frames.{idle_step, unmarked_step, marked_step, reached_first}
 use Rattle.iscsi_world.proofs.Doing.{reached_both}
-use Rattle.iscsi_world.proofs.Taking.{halving, rehalved, halves_idle, half_twice, idle_all, serves_halves}
+use Rattle.iscsi_world.proofs.Taking.{halving, halved_link, rehalved, halves_idle, half_twice, idle_all, serves_halves}
 
 -- ---- between two events again
 
-still_none : (a b : Bool) → (a ≡ true → b ≡ true) → b ≡ false → a ≡ false
-still_none a b eases none = grind arith
-
--- what is kept of a present life that stayed, and whose needs did not grow
-kept_on : (before after : Option Life) (half : List ℕ) → Stays before after → ((out : Frame) → needs after out ≡ true → needs before out ≡ true)
-    → IsHalf before half → IsHalf after half
-kept_on None None half s eases kept = tt
-kept_on None (Some y) half s eases kept = absurd s
-kept_on (Some x) None half s eases kept = tt
-kept_on (Some x) (Some y) half s eases (inl all) = inl (all ∙ ap rest (sym s.0))
-kept_on (Some x) (Some y) half s eases (inr counted) = grind arith
+-- what is kept of a life that stayed
+half_kept : (directory : KnownTargets) (sent : ℕ) (before after : Option Life) → Stays before after
+    → link_of directory sent (half_of before) after ≡ link_of directory sent (half_of after) after
+half_kept directory sent before after s = grind arith
 
 short_kept : (before after : Option Life) → Stays before after → IsShort before → IsShort after
 short_kept before after s h = grind arith
@@ -56,18 +47,19 @@ here_short : (bytes : List ℕ) (x : Life) (after : Option Life) → x.bytes ≡
 here_short bytes x after e s short = grind arith
 
 -- where the World that the arrivals made of the longer one is served, it is stood at
-pub stands_again : (s : Setting) (sent : ℕ → ℕ) (w v : World) (machine now : Machine) (comings : List Coming) (c : ℕ) (piece left_ : List ℕ) (life : Life)
-    → c < connection_limit → (h : StandsAt s sent w machine) → present c w ≡ Some life
-    → Prolongs (piece_came comings c piece w) v → Eases c (piece_came comings c piece w) v → IsHalf (present c v) left_
+stands_again : (s : Setting) (sent : ℕ → ℕ) (w v : World) (machine now : Machine) (comings : List Coming) (c : ℕ) (piece : List ℕ) (life : Life)
+    → StandsAt s sent w machine → present c w ≡ Some life → Prolongs (piece_came comings c piece w) v
     → (reads_life (present c v) ≡ true → is_long (rest (life.bytes ++ piece)) ≡ false)
-    → Serves s sent (with_half c left_ h.half) v now → StandsAt s sent v now
-stands_again s sent w v machine now comings c piece left_ life lt h at goes eases keeps short serves =
+    → Serves s sent (with_half c (rest (life.bytes ++ piece)) (halves_of w)) v now → StandsAt s sent v now
+stands_again s sent w v machine now comings c piece life h at goes short serves =
+    let v0 = piece_came comings c piece w in
     let here : Stays (Some (longer piece life)) (present c v) = grind (arith, came_here) in
     let other : (d : ℕ) → d ≢ c → Stays (present d w) (present d v) = grind (arith, came_other) in
+    let came = serves_halves s sent (with_half c (rest (life.bytes ++ piece)) (halves_of w)) (halves_of v0) v now
+    (halves_came comings c piece w life at) serves in
     record {
-      half = with_half c left_ h.half;
-      is = serves.is;
-      kept = grind (arith, kept_on, came_other);
+      is = came.is ∙ sym (machine_same s sent sent (halves_of v0) (halves_of v) v v refl (λ d below.
+          sym (half_kept s.directory (sent d) (present d v0) (present d v) (goes.stays d))));
       answered = serves.answered;
       quiet = serves.quiet;
       short = λ d below. elim (eqb_tells d c) [
@@ -75,14 +67,6 @@ stands_again s sent w v machine now comings c piece left_ life lt h at goes ease
         | inr differ ↦ short_kept (present d w) (present d v) (other d differ.1) (h.short d below)
       ];
     }
-
--- all bytes are kept of what came
-all_kept : (bytes : List ℕ) (x : Life) (after : Option Life) → x.bytes ≡ bytes → Stays (Some x) after → IsHalf after (rest bytes)
-all_kept bytes x after e s = grind arith
-
-pub all_here : (comings : List Coming) (c : ℕ) (piece : List ℕ) (w v : World) (life : Life) → present c w ≡ Some life
-    → Prolongs (piece_came comings c piece w) v → IsHalf (present c v) (rest (life.bytes ++ piece))
-all_here comings c piece w v life at goes = grind (arith, came_here)
 
 -- ---- the event's end
 
@@ -92,8 +76,6 @@ record Ended (s : Setting) (sent : ℕ → ℕ) (half : ℕ → List ℕ) (marks
   is : take_step marks c AtEnd (λ u. u) v ≡ last
   serves : Serves s sent half last machine
   goes : Prolongs v last
-  reads_same : reads_life (present c last) ≡ reads_life (present c v)
-  same : (d : ℕ) → present d last ≡ present d v
 
 ended_by : (b : Bool) (s : Setting) (sent : ℕ → ℕ) (half : ℕ → List ℕ) (marks : List Mark) (c : ℕ) (v : World) (machine : Machine)
     → reads_life (present c v) ≡ b → is_marked marks c AtEnd ≡ false → Serves s sent half v machine
@@ -103,34 +85,29 @@ ended_by true s sent half marks c v machine r free h = record {
   is = unmarked_step marks c AtEnd (λ u. u) v r free;
   serves = serves_reaching s sent half v machine c (AtEnd ∷ []) h;
   goes = on-reaching c (AtEnd ∷ []) v;
-  reads_same = ap reads_life (present-reaching c c (AtEnd ∷ []) v);
-  same = λ d. present-reaching d c (AtEnd ∷ []) v;
 }
 ended_by false s sent half marks c v machine r free h = record {
   last = v;
   is = idle_step marks c AtEnd (λ u. u) v r;
   serves = h;
   goes = on-same v;
-  reads_same = refl;
-  same = λ d. refl;
 }
 
 -- ---- the event
 
 -- a connection that reads, and a piece that it keeps
-pub record Fed (s : Setting) (sent : ℕ → ℕ) (w : World) (machine first : Machine) (c : ℕ) (piece : List ℕ) : Type 0 where
-  pub in_range : c < connection_limit
-  pub stands : StandsAt s sent w machine
-  pub reads_so : is_reading (link_at machine c).phase ≡ true
-  pub is : first ≡ with_link machine c (record (link_at machine c) { half = (link_at first c).half })
-  pub keeps : KeepsPiece piece (link_at machine c) (link_at first c)
+record Fed (s : Setting) (sent : ℕ → ℕ) (w : World) (machine first : Machine) (c : ℕ) (piece : List ℕ) : Type 0 where
+  in_range : c < connection_limit
+  stands : StandsAt s sent w machine
+  reads_so : is_reading (link_at machine c).phase ≡ true
+  is : first ≡ kept_piece c piece machine
 
 -- what the event makes of both
-pub record Came (s : Setting) (sent : ℕ → ℕ) (w : World) (comings : List Coming) (c : ℕ) (piece : List ℕ) (starved : Option ℕ) (now : Machine) : Type 0 where
-  pub marks : List Mark
-  pub first : Begins starved marks
-  pub reached : are_reached marks (bring s marks c piece (begun_event comings w)) ≡ true
-  pub stands : StandsAt s sent (bring s marks c piece (begun_event comings w)) now
+record Came (s : Setting) (sent : ℕ → ℕ) (w : World) (comings : List Coming) (c : ℕ) (piece : List ℕ) (starved : Option ℕ) (now : Machine) : Type 0 where
+  marks : List Mark
+  first : Begins starved marks
+  reached : are_reached marks (bring s marks c piece (begun_event comings w)) ≡ true
+  stands : StandsAt s sent (bring s marks c piece (begun_event comings w)) now
 
 brings : (s : Setting) (marks : List Mark) (comings : List Coming) (c : ℕ) (piece : List ℕ) (w : World) (life : Life) → present c w ≡ Some life
     → is_long (rest life.bytes) ≡ false
@@ -148,54 +125,43 @@ reached_event : (marks : List Mark) (comings : List Coming) (c : ℕ) (piece : L
 unfolding changed
 reached_event marks comings c piece w v h = h
 
-pub comes : (s : Setting) (sent : ℕ → ℕ) (w : World) (machine first now : Machine) (comings : List Coming) (c : ℕ) (piece : List ℕ) (starved : Option ℕ)
+comes : (s : Setting) (sent : ℕ → ℕ) (w : World) (machine first now : Machine) (comings : List Coming) (c : ℕ) (piece : List ℕ) (starved : Option ℕ)
     → Fed s sent w machine first c piece → (takes : TakesAll c starved first now) → AreAhead takes.takes.came comings
     → Came s sent w comings c piece starved now
 comes s sent w machine first now comings c piece starved f takes ahead =
-    let half = f.stands.half in
+    let half = halves_of w in
     let serves = serving s sent w machine f.stands in
     let there = some_reads (present c w) (sym (reads_there s sent half w machine c f.in_range serves) ∙ f.reads_so) in
     let life = there.0 in
     let short = short_there (present c w) life there.1 (f.stands.short c f.in_range) there.2 in
-    let kept : IsHalf (Some life) (half c) = subst (λ (o : Option Life). IsHalf o (half c)) there.1 (f.stands.kept c f.in_range) in
-    let link = link_stands s sent w machine c f.in_range f.stands ∙ ap (λ (o : Option Life). link_of s.directory (sent c) (half c) o) there.1 in
-    let old_half : (link_at machine c).half ≡ half c = grind arith in
-    let now_half = (link_at first c).half in
-    let fed = fed_of s.directory life piece (half c) (link_at machine c) (link_at first c) (ap (λ (l : LinkState). l.phase) link)
-    (subst IsQuiet there.1 (f.stands.quiet c f.in_range)) old_half kept f.keeps in
     let n = length (arrivals life.bytes) in
     let marks = takes.takes.failed n in
-    let bytes = now_half in
-    let serves_first = serves_as s sent (with_half c bytes half) w _ first f.is (rehalved s sent half w machine c bytes f.in_range f.reads_so serves) in
+    let bytes : List ℕ = (link_at first c).half in
+    let all_bytes : bytes ≡ rest life.bytes ++ piece = grind (arith, halved_link, half_there, count_there) in
+    let more : List ℕ = (link_at machine c).half ++ piece in
+    let kept = with_half c more half in
+    let serves_first = serves_as s sent kept w _ first f.is (rehalved s sent half w machine c more f.in_range f.reads_so serves) in
     let v0 = piece_came comings c piece w in
-    let serves_came = longer_serves s sent (with_half c bytes half) w first comings c piece life f.in_range there.1 serves_first in
-    let at = takes.takes.stands s sent (with_half c bytes half) v0 n marks (λ mark is. refl)
-    (subst (AreAhead takes.takes.came) (sym (comings_changed (longer piece) c (begun_event comings w))) ahead) serves_came in
-    let left_ = rest (link_at first c).half in
-    let all = enumerate_from n (arrivals (link_at first c).half) in
+    let at = takes.takes.stands s sent kept v0 n marks (λ mark is. refl)
+    (subst (AreAhead takes.takes.came) (sym (comings_changed (longer piece) c (begun_event comings w))) ahead)
+    (longer_serves s sent kept w first comings c piece life f.in_range there.1 serves_first) in
+    let left_ = rest bytes in
+    let all = enumerate_from n (arrivals bytes) in
     let v = fold (arrive s marks c) v0 all in
-    let serves_v = serves_halves s sent (with_half c left_ (with_half c bytes half)) (with_half c left_ half) v now (half_twice c bytes left_ half) at.0 in
-    let free : is_marked marks c AtEnd ≡ false = unmarked (is_among (length (arrivals (link_at first c).half)) n) marks (mark_at c AtEnd)
-    (takes.takes.of_kind n) refl in
-    let e = ended_by (reads_life (present c v)) s sent (with_half c left_ half) marks c v now refl free serves_v in
-    let whole : bring s marks c piece (begun_event comings w) ≡ e.last =
-    brings s marks comings c piece w life there.1 short ∙ ap (take_step marks c AtEnd (λ u. u))
-    (sym (fed_arrivals s marks comings c n piece (half c) now_half w life there.1 short kept fed)) ∙ e.is in
-    let followed = on-then v0 v e.last (on-arrivals (goes s marks c) v0 all (any_arrivals c all)) e.goes in
-    let eased : Eases c v0 e.last = subst (Eases c v0) e.is (arrivals_ease s marks c v0 all) in
-    let stays : Stays (Some (longer piece life)) (present c e.last) = subst (λ (o : Option Life). Stays o (present c e.last))
-    (came_here comings c piece w life there.1) (followed.stays c) in
-    let none_came : arrivals now_half ≡ [] → present c e.last ≡ Some (longer piece life) = grind (arith, came_here) in
-    let left = fed_left life (half c) piece now_half short kept fed in
-    let keeps : IsHalf (present c e.last) left_ = grind (arith, rest_in_pieces) in
+    let serves_v = serves_halves s sent (with_half c left_ kept) (with_half c left_ half) v now (half_twice c more left_ half) at.0 in
+    let free : is_marked marks c AtEnd ≡ false = unmarked (is_among (length (arrivals bytes)) n) marks (mark_at c AtEnd) (takes.takes.of_kind n) refl in
+    let e = ended_by (reads_life (present c v)) s sent (with_half c left_ half) marks c v now (refl {a = reads_life (present c v)}) free serves_v in
+    let whole : bring s marks c piece (begun_event comings w) ≡ e.last = grind (arith, brings, e.is) in
+    let left : left_ ≡ rest (life.bytes ++ piece) = grind (arith, rest_in_pieces) in
+    let walked = on-arrivals (goes s marks c) v0 all (any_arrivals c all) in
     record {
       marks = marks;
       first = takes.takes.first n;
-      reached = ap (are_reached marks) whole ∙ reached_event marks comings c piece w e.last
-          (let more = reached_both marks [] v0 v e.last (on-arrivals (goes s marks c) v0 all (any_arrivals c all)) e.goes at.1 refl in rw append-nil at more);
-      stands = rw whole (stands_again s sent w e.last machine now comings c piece left_ life f.in_range f.stands there.1 followed eased keeps
-          (λ r. ap is_long (rest_in_pieces life.bytes piece) ∙ short_of (longer piece life) now_half (rest life.bytes ++ piece) left_ left
-          (takes.short (reads_there s sent (with_half c left_ half) v now c f.in_range serves_v ∙ sym e.reads_same ∙ r))) e.serves);
+      reached = rw whole (reached_event marks comings c piece w e.last
+          (let more = reached_both marks [] v0 v e.last walked e.goes at.1 (refl {a = true}) in rw append-nil at more));
+      stands = rw whole (stands_again s sent w e.last machine now comings c piece life f.stands there.1 (on-then v0 v e.last walked e.goes)
+          (λ r. ap is_long (sym left) ∙ takes.short (rw (reads_there s sent (with_half c left_ half) e.last now c f.in_range e.serves) r))
+          (subst (λ (l : List ℕ). Serves s sent (with_half c l half) e.last now) left e.serves));
     }
 
 -- ---- the piece could not be kept
@@ -219,11 +185,11 @@ starves_by s c n v0 life (arrival ∷ all) at r =
     ap (λ (u : World). take_step marks c AtEnd (λ x. x) (fold (arrive s marks c) u (enumerate_from (n + 1) all))) one
     ∙ ap (take_step marks c AtEnd (λ x. x)) (idle_all s marks c v (enumerate_from (n + 1) all) idle_) ∙ idle_step marks c AtEnd (λ x. x) v idle_
 
-pub comes_starved : (s : Setting) (sent : ℕ → ℕ) (w : World) (machine now : Machine) (c : ℕ) (piece : List ℕ) → c < connection_limit
+comes_starved : (s : Setting) (sent : ℕ → ℕ) (w : World) (machine now : Machine) (c : ℕ) (piece : List ℕ) → c < connection_limit
     → StandsAt s sent w machine → is_reading (link_at machine c).phase ≡ true → now ≡ closed machine c
     → Came s sent w [] c piece (Some c) now
 comes_starved s sent w machine now c piece lt stands r is =
-    let half = stands.half in
+    let half = halves_of w in
     let serves = serving s sent w machine stands in
     let there = some_reads (present c w) (sym (reads_there s sent half w machine c lt serves) ∙ r) in
     let life = there.0 in
@@ -237,7 +203,6 @@ comes_starved s sent w machine now c piece lt stands r is =
     let at_v : present c v ≡ Some (longer piece life) = present-reaching c c (point ∷ []) v0 ∙ came_here [] c piece w life there.1 in
     let serves_v = serves_reaching s sent half v0 machine c (point ∷ []) (longer_serves s sent half w machine [] c piece life lt there.1 serves) in
     let shut_ : reads_life (present c (close c v)) ≡ false = ap reads_life (present-close c v (longer piece life) at_v) in
-    let goes_on = on-then v0 v (close c v) (on-reaching c (point ∷ []) v0) (on-close c v) in
     let left_ = rest (life.bytes ++ piece) in
     let last = halves_idle s sent half (close c v) now c left_ shut_ (serves_as s sent half (close c v) (closed machine c) now is
     (closes s sent half v machine c (longer piece life) lt serves_v at_v)) in
@@ -247,8 +212,8 @@ comes_starved s sent w machine now c piece lt stands r is =
       marks = marks;
       first = refl;
       reached = ap (are_reached marks) whole ∙ reached_event marks [] c piece w (close c v) (reached_first c point v0);
-      stands = rw whole (stands_again s sent w (close c v) machine now [] c piece left_ life lt stands there.1 goes_on (closing_eases s marks c (point ∷ []) v0)
-          (all_here [] c piece w (close c v) life there.1 goes_on) (λ e. absurd (cc (e, shut_))) last);
+      stands = rw whole (stands_again s sent w (close c v) machine now [] c piece life stands there.1
+          (on-then v0 v (close c v) (on-reaching c (point ∷ []) v0) (on-close c v)) (λ e. absurd (cc (e, shut_))) last);
     }
 
 -- ---- bytes for a connection that does not read, and an empty piece
@@ -258,7 +223,7 @@ pub comes_idle : (s : Setting) (sent : ℕ → ℕ) (w : World) (machine : Machi
     → StandsAt s sent (bring s [] c piece (fresh w)) machine
 unfolding bring
 comes_idle s sent w machine c piece lt stands open_ r =
-    let half = stands.half in
+    let half = halves_of w in
     let there = is_open_there s sent w machine c lt stands open_ in
     let life = there.0 in
     let v0 = piece_came [] c piece w in
@@ -269,8 +234,7 @@ comes_idle s sent w machine c piece lt stands open_ r =
     let left_ = rest (life.bytes ++ piece) in
     let whole : take_step [] c AtEnd (λ u. u) (fold (arrive s [] c) v0 (brought (present c (fresh w)) piece)) ≡ v0 =
     ap (take_step [] c AtEnd (λ u. u)) (idle_all s [] c v0 (brought (present c (fresh w)) piece) idle0) ∙ idle_step [] c AtEnd (λ u. u) v0 idle0 in
-    rw whole (stands_again s sent w v0 machine machine [] c piece left_ life lt stands there.1 (on-same v0) (λ d out differ some. some)
-    (all_here [] c piece w v0 life there.1 (on-same v0)) (λ e. absurd (cc (e, idle0)))
+    rw whole (stands_again s sent w v0 machine machine [] c piece life stands there.1 (on-same v0) (λ e. absurd (cc (e, idle0)))
     (halves_idle s sent half v0 machine c left_ idle0 (longer_serves s sent half w machine [] c piece life lt there.1 serves)))
 
 nothing_new : (bytes : List ℕ) → new_arrivals bytes [] ≡ []
@@ -281,70 +245,64 @@ pub comes_empty : (s : Setting) (sent : ℕ → ℕ) (w : World) (machine : Mach
     → is_open_at machine c ≡ true → StandsAt s sent (bring s [] c [] (fresh w)) machine
 unfolding bring
 comes_empty s sent w machine c lt stands open_ =
-    let half = stands.half in
+    let half = halves_of w in
     let there = is_open_there s sent w machine c lt stands open_ in
     let life = there.0 in
     let v0 = piece_came [] c [] w in
-    let serves = longer_serves s sent half w machine [] c [] life lt there.1 (serving s sent w machine stands) in
+    let serves = serving s sent w machine stands in
     let none : brought (present c (fresh w)) [] ≡ [] = ap (λ (o : Option Life). brought o []) (present-fresh c w ∙ there.1) ∙ nothing_new life.bytes in
-    let e = ended_by (reads_life (present c v0)) s sent half [] c v0 machine refl (marked_none c AtEnd) serves in
+    let e = ended_by (reads_life (present c v0)) s sent half [] c v0 machine (refl {a = reads_life (present c v0)}) (marked_none c AtEnd)
+    (longer_serves s sent half w machine [] c [] life lt there.1 serves) in
     let whole : take_step [] c AtEnd (λ u. u) (fold (arrive s [] c) v0 (brought (present c (fresh w)) [])) ≡ e.last =
     ap (λ (l : List (ℕ × Arrival)). take_step [] c AtEnd (λ u. u) (fold (arrive s [] c) v0 l)) none ∙ e.is in
-    let left_ = half c in
-    let own : (d : ℕ) → half d ≡ with_half c left_ half d = grind arith in
-    let here = came_here [] c [] w life there.1 in
-    let same_reads : reads_life (present c v0) ≡ reads life.phase = ap reads_life here in
-    let kept : IsHalf (Some life) left_ = subst (λ (o : Option Life). IsHalf o left_) there.1 (stands.kept c lt) in
-    let keeps : IsHalf (present c e.last) left_ = subst (λ (o : Option Life). IsHalf o left_) (sym (e.same c ∙ here)) (rw (append-nil life.bytes) kept) in
-    rw whole (stands_again s sent w e.last machine machine [] c [] left_ life lt stands there.1 e.goes
-    (λ d out differ some. ap (λ (o : Option Life). needs o out) (sym (e.same d)) ∙ some) keeps
-    (λ r. rw (append-nil life.bytes) ((subst IsShort there.1 (stands.short c lt)) (sym same_reads ∙ sym e.reads_same ∙ r)))
+    let left_ = rest (life.bytes ++ []) in
+    let own : (d : ℕ) → half d ≡ with_half c left_ half d = grind (arith, append-nil) in
+    rw whole (stands_again s sent w e.last machine machine [] c [] life stands there.1 e.goes
+    (λ r. rw (append-nil life.bytes) (short_there (present c w) life there.1 (stands.short c lt) (ap reads_life (sym there.1)
+    ∙ sym (reads_there s sent half w machine c lt serves) ∙ reads_there s sent half e.last machine c lt e.serves ∙ r)))
     (serves_halves s sent half (with_half c left_ half) e.last machine own e.serves))
 
 -- ---- as the code has it
 
-abbrev pub kept_as : Machine → ℕ → List ℕ → Machine
-kept_as machine c half = with_link machine c (record (link_at machine c) { half = half })
-
-pub kept_is : (machine first : Machine) (c : ℕ) (piece : List ℕ) → KeepsPieceAt c piece machine first → first ≡ kept_as machine c (link_at first c).half
-kept_is machine first c piece k = k.is ∙ ap (with_link machine c) k.keeps.same
-
--- it closes as it would have before
-pub closed_kept : (machine : Machine) (c : ℕ) (half : List ℕ) → c < length machine.links → closed (kept_as machine c half) c ≡ closed machine c
+-- it closes as it would have before, whatever it keeps
+pub closed_kept : (machine : Machine) (c : ℕ) (half : List ℕ) → c < length machine.links
+    → closed (with_link machine c (record (link_at machine c) { half = half })) c ≡ closed machine c
 unfolding closed
 closed_kept machine c half lt = grind (arith, get_or-set_same, set-set)
 
--- no more is whole than if all of it had been kept
-pub fed_few : (machine first : Machine) (c : ℕ) (piece : List ℕ) → KeepsPieceAt c piece machine first
-    → length (arrivals (link_at first c).half) ≤ length (arrivals ((link_at machine c).half ++ piece))
-fed_few machine first c piece k = grind (arith, counted_none)
+pub kept_feeds : (machine first : Machine) (c : ℕ) (piece : List ℕ) → c < length machine.links → is_reading (link_at machine c).phase ≡ true
+    → first ≡ kept_piece c piece machine → Feeds c machine first
+kept_feeds machine first c piece lt r is = search (arith, is, changes_feeds, halving, own_self)
 
-pub kept_feeds : (machine first : Machine) (c : ℕ) (half : List ℕ) → c < length machine.links → is_reading (link_at machine c).phase ≡ true
-    → first ≡ kept_as machine c half → Feeds c machine first
-kept_feeds machine first c half lt r is = search (arith, is, changes_feeds, halving, own_self)
-
-pub kept_reads : (machine first : Machine) (c : ℕ) (half : List ℕ) → c < length machine.links → is_reading (link_at machine c).phase ≡ true
-    → first ≡ kept_as machine c half → is_reading (link_at first c).phase ≡ true
-kept_reads machine first c half lt r is = grind (arith, get_or-set_same)
+pub kept_reads : (machine first : Machine) (c : ℕ) (piece : List ℕ) → c < length machine.links → is_reading (link_at machine c).phase ≡ true
+    → first ≡ kept_piece c piece machine → is_reading (link_at first c).phase ≡ true
+kept_reads machine first c piece lt r is = grind (arith, get_or-set_same)
 
 stands_after : (s : Setting) (sent : ℕ → ℕ) (h : History) (now : Machine) (comings : List Coming) (c : ℕ) (piece : List ℕ) (starved : Option ℕ)
     → (IsSound now → ArePlain comings) → ((target : ℕ) → IsSoundAt target now → IsCalm target comings)
     → Came s sent (world s h) comings c piece starved now → StandsAfter s sent h (Bytes c piece) starved now
-stands_after s sent h now comings c piece starved plain_ calm k = grind (arith, stands_as)
+stands_after s sent h now comings c piece starved plain_ calm k = record {
+  marks = k.marks;
+  comings = comings;
+  first = k.first;
+  reached = k.reached;
+  plain = plain_;
+  calm = calm;
+  stands = stands_as s sent now h (happening k.marks comings (Bytes c piece)) _ refl k.stands;
+}
 
 plain_marks : (s : Setting) (sent : ℕ → ℕ) (h : History) (now : Machine) (c : ℕ) (piece : List ℕ) → Came s sent (world s h) [] c piece None now
     → Stands s sent now (h ++ plain (Bytes c piece) ∷ [])
-plain_marks s sent h now c piece k = grind (arith, stands_as)
+plain_marks s sent h now c piece k = stands_as s sent now h (plain (Bytes c piece)) _ refl
+    (subst (λ (marks : List Mark). StandsAt s sent (bring s marks c piece (fresh (world s h))) now) k.first k.stands)
 
 starved_marks : (s : Setting) (sent : ℕ → ℕ) (h : History) (now : Machine) (c d : ℕ) (piece : List ℕ) → Came s sent (world s h) [] c piece (Some d) now
     → (marks : List Mark) × IsStarved s (world s h) (Bytes c piece) d marks × Stands s sent now (h ++ marked marks (Bytes c piece) ∷ [])
-starved_marks s sent h now c d piece k = grind (arith, stands_as)
+starved_marks s sent h now c d piece k =
+    (k.marks, record { first = k.first; reached = k.reached }, stands_as s sent now h (marked k.marks (Bytes c piece)) _ refl k.stands)
 
 module _ (machine first now : Machine) (c : ℕ) (piece : List ℕ) (lt : c < connection_limit)
-    (reads_so : is_reading (link_at machine c).phase ≡ true) (keeps : KeepsPieceAt c piece machine first) where
-  is : first ≡ kept_as machine c (link_at first c).half
-  is = kept_is machine first c piece keeps
-
+    (reads_so : is_reading (link_at machine c).phase ≡ true) (is : first ≡ kept_piece c piece machine) where
   first_sound : (starved : Option ℕ) → TakesAll c starved first now → IsSound now → IsSound machine
   first_sound starved takes sound = subst (λ (us : List UnitStates). All AreSound us) (ap (λ (m : Machine). m.units) is)
       (sound_back first now takes.leaves.back sound)
@@ -354,7 +312,7 @@ module _ (machine first now : Machine) (c : ℕ) (piece : List ℕ) (lt : c < co
       → AreAhead takes.takes.came comings → Stands s sent machine h → Came s sent (world s h) comings c piece starved now
   came_any s sent h comings starved takes ahead at =
       comes s sent (world s h) machine first now comings c piece starved
-      (record { in_range = lt; stands = at; reads_so = reads_so; is = is; keeps = keeps.keeps }) takes ahead
+      (record { in_range = lt; stands = at; reads_so = reads_so; is = is }) takes ahead
 
   -- where all units are sound after it, no store failed
   came : (s : Setting) (sent : ℕ → ℕ) (h : History) (starved : Option ℕ) → TakesAll c starved first now

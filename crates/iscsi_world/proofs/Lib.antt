@@ -43,13 +43,10 @@ pub mod Heavier
 pub mod Carrying
 pub mod Standing
 pub mod Taking
-pub mod HalfRead
-pub mod Counting
-pub mod Easing
+pub mod PutBack
 pub mod Wanting
 pub mod Fed
 pub mod Feeding
-pub mod Forgetting
 pub mod Tables
 pub mod Tracking
 pub mod Running

@@ -14,7 +14,7 @@ use Rattle.iscsi_world.specs.Output.{out_now, outputs}
 use Rattle.iscsi_world.specs.Machine.{LinkState, Machine, link_at, is_free, is_open_at}
 use Rattle.iscsi_world.specs.Stands.{link_of, Stands, with_sent}
 use Rattle.iscsi_world.specs.Runs.{MayCome, RowState, open_row, row_of, finished, is_on, ended, has, IsFree, AreDistinct, Runs}
-use Rattle.iscsi_world.proofs.Standing.{present_open, stands_sent, link_stands, waits_there}
+use Rattle.iscsi_world.proofs.Standing.{halves_of, present_open, stands_sent, link_stands, waits_there}
 use Rattle.iscsi_world.proofs.Linked.{out-ended}
 use Rattle.iscsi_world.proofs.Tables.{among-gone, among-gone_other}
 use Rattle.iscsi_world.proofs.Keeping.{world-push, rows_in, rows-bring}
@@ -103,7 +103,7 @@ is_open : (s : Setting) (machine : Machine) (rows : List RowState) (before : Lis
     → Runs s machine rows before history → c < connection_limit → is_open_at machine c ≡ is_among c before
 is_open s machine rows before history c r lt =
     ap (λ (l : LinkState). not (is_free l.phase)) (link_stands s (λ k. 0) (world s history) machine c lt r.stands)
-    ∙ open_in s.directory 0 (r.stands.half c) c (world s history) (present c (world s history)) refl
+    ∙ open_in s.directory 0 (halves_of (world s history) c) c (world s history) (present c (world s history)) refl
     ∙ sym (has_row s machine rows before history r c) ∙ r.tracks c
 
 -- ---- the beginning

@@ -6,7 +6,9 @@ use Rattle.std.specs.List.{fold, enumerate_from}
 use Rattle.std.proofs.lemmas.List.{append-nil, length-append, set-get_or, get_or-set_same}
 use Rattle.iscsi_pdu.specs.Frames.{Frame, frames, rest, is_long, has_frame, first_frame, frame_length}
 use Rattle.iscsi_pdu.proofs.Frames.{no_frame, frames_none, rest_none, frames_step, rest_step, drop_shorter}
-use Rattle.iscsi_pdu.proofs.Cuts.{long_is_no_frame}
+use Rattle.iscsi_pdu.specs.Parts.{is_data_out}
+use Rattle.iscsi_pdu.proofs.Cuts.{frames_in_pieces, long_is_no_frame}
+use Rattle.iscsi_pdu.proofs.DataOuts.{is_data_out-header}
 use Rattle.iscsi_world.specs.History.{Arriving, Mark, Arrival, Whole, TooLong, arrivals, connection_limit}
 use Rattle.iscsi_world.specs.World.{Setting, World, present, reads_life, close, reaching, arrive}
 use Rattle.iscsi_world.specs.Machine.{LinkState, Machine, Feeds, link_at, with_link, is_reading, closed, free_link, shut_link, GivesFrame}
@@ -60,6 +62,23 @@ long_some : (half : List ℕ) → is_long half ≡ true → 0 < length half
 long_some [] long = absurd (cc (long, nothing_long))
 long_some (b ∷ half) long = omega arith
 
+-- of a Data-Out that is not whole yet there is less than its frame has
+pub short_frame : (bytes : List ℕ) → is_data_out bytes ≡ true → has_frame bytes ≡ false → is_long bytes ≡ false → length bytes < frame_length bytes
+unfolding has_frame is_long
+short_frame bytes out none short = let whole = is_data_out-header bytes out in grind arith
+
+-- what is left after frames begins with none
+pub rest_no_frame : (bytes : List ℕ) → has_frame (rest bytes) ≡ false
+rest_no_frame bytes =
+    let cut : frames bytes ≡ frames bytes ++ frames (rest bytes) =
+    ap frames (sym (append-nil bytes)) ∙ frames_in_pieces bytes [] ∙ ap (λ (l : List ℕ). frames bytes ++ frames l) (append-nil (rest bytes)) in
+    let long = ap (λ l. length l) cut in
+    grind (arith, frames_step, length-append)
+
+-- so does what a connection has of it
+pub none_left : (bytes : List ℕ) (link : LinkState) → KeepsHalf (rest bytes) link → has_frame link.half ≡ false
+none_left bytes link kept = grind (arith, rest_no_frame, no_frame)
+
 -- ---- it is taken
 
 pub halving : (link : LinkState) (more : List ℕ) → is_reading link.phase ≡ true → Changes link (record link { half = more })
@@ -73,7 +92,7 @@ closed_idle : (machine : Machine) (c : ℕ) → c < length machine.links → is_
 unfolding closed
 closed_idle machine c lt = ap (λ (l : LinkState). is_reading l.phase) (get_or-set_same machine.links c (shut_link (link_at machine c)) free_link lt)
 
-halved_link : (old given : Machine) (c : ℕ) (half : List ℕ) → c < connection_limit → length old.links ≡ connection_limit
+pub halved_link : (old given : Machine) (c : ℕ) (half : List ℕ) → c < connection_limit → length old.links ≡ connection_limit
     → given ≡ with_link old c (record (link_at old c) { half = half }) → link_at given c ≡ record (link_at old c) { half = half }
 halved_link old given c half lt count is = grind (arith, get_or-set_same)
 

@@ -1,30 +1,26 @@
 -- A piece of no more bytes than are wanted brings one frame at most, and each connection stays as light as it may be.
 use Rattle.std.proofs.Common.{◌≡◌, ℕ, ◌+◌, ◌*◌, ◌<◌, ◌≤◌, List, [], ◌++◌, length, drop, get_or, Bool, true, false, ltb, Option, refl, sym, ap, ◌∙◌, subst, arith, inl, inr, append-nil}
 use Rattle.std.proofs.lemmas.Bool.Decides.{eqb_tells}
-use Rattle.std.proofs.lemmas.List.{length-append, length-drop, get_or_append_left, nil_from_length}
+use Rattle.std.proofs.lemmas.List.{length-append, length-drop, nil_from_length}
 use Rattle.iscsi_pdu.specs.Header.{header_length}
-use Rattle.iscsi_pdu.specs.Frames.{Frame, frames, rest, has_frame, is_long, first_frame, frame_length, missing, wanted}
+use Rattle.iscsi_pdu.specs.Frames.{has_frame, is_long, first_frame, frame_length, missing, wanted}
 use Rattle.iscsi_pdu.proofs.Frames.{has_frame-from, is_long-from, frame_length-header, frames_step, rest_step}
-use Rattle.iscsi_pdu.proofs.Cuts.{frames_in_pieces}
+use Rattle.iscsi_pdu.proofs.Cuts.{frame_length-append}
 use Rattle.iscsi_login.specs.Directory.{KnownTargets}
 use Rattle.scsi_unit.specs.Units.{UnitStates}
 use Rattle.iscsi_session.specs.Weight.{request_weight}
 use Rattle.iscsi_session.proofs.AtRest.{few_pending}
 use Rattle.iscsi_world.specs.History.{arrivals, connection_limit}
 use Rattle.iscsi_world.specs.Machine.{LinkState, Machine, link_at, with_link, free_link, shut_link, opened_link, sent_link, closed, new_machine, is_reading, is_closing, most_waiting, want_of}
-use Rattle.iscsi_world.specs.Serving.{KeepsHalf, TakesAll}
+use Rattle.iscsi_world.specs.Serving.{KeepsHalf, TakesAll, kept_piece}
 use Rattle.iscsi_world.specs.Bounded.{most_weight, weight_in, Rests, WeighsAtMost, IsBounded, Bounded, AddsAtMost, CallsKeepBounded}
 use Rattle.iscsi_world.specs.declared.phase.Phase.{Phase}
 use Rattle.iscsi_world.proofs.Lending.{none_linked}
 use Rattle.iscsi_world.proofs.Moving.{link_set, link_other, closed_count}
-use Rattle.iscsi_world.proofs.Taking.{none_whole, some_whole, long_whole, no_bytes, nothing_by, short_by}
-use Rattle.iscsi_world.proofs.Bounding.{adds_shut, adds_more}
+use Rattle.iscsi_world.proofs.Taking.{none_whole, rest_no_frame, some_whole, long_whole, no_bytes, nothing_by, short_by}
+use Rattle.iscsi_world.proofs.Bounding.{adds_shut}
 
 -- ---- frames
-
-frame_length-append : (a b : List ℕ) → header_length ≤ length a → frame_length (a ++ b) ≡ frame_length a
-unfolding frame_length
-frame_length-append a b h = grind (arith, get_or_append_left)
 
 -- no more bytes than their first frame has
 few_whole : (bytes : List ℕ) → length bytes ≤ frame_length bytes → length (arrivals bytes) ≤ 1
@@ -46,23 +42,6 @@ pub wanted_few : (half piece : List ℕ) → has_frame half ≡ false → is_lon
 unfolding missing
 wanted_few half piece none short le =
     grind (arith, unfinished_frame, few_whole, length-append, frame_length-append, frame_length-header)
-
--- what is left after frames begins with none
-rest_no_frame : (bytes : List ℕ) → has_frame (rest bytes) ≡ false
-rest_no_frame bytes = by_frame (has_frame (rest bytes)) refl
-  where
-    cut : frames bytes ≡ frames bytes ++ frames (rest bytes)
-    cut = ap frames (sym (append-nil bytes)) ∙ frames_in_pieces bytes [] ∙ ap (λ (l : List ℕ). frames bytes ++ frames l) (append-nil (rest bytes))
-
-    by_frame : (b : Bool) → has_frame (rest bytes) ≡ b → has_frame (rest bytes) ≡ false
-    by_frame true e =
-        absurd (omega (
-          arith,
-          ap (λ (l : List Frame). length l) cut,
-          length-append (frames bytes) (frames (rest bytes)),
-          ap (λ (l : List Frame). length l) (frames_step (rest bytes) e),
-        ))
-    by_frame false e = e
 
 -- ---- what a connection keeps between two events
 
@@ -98,26 +77,22 @@ other_partial : (b : Bool) (old new : LinkState) → is_reading old.phase ≡ b 
 other_partial b old new reads_ keeps still none = grind (arith, kept_partial)
 
 -- a piece that is no longer than what is wanted, and what is whole is taken
-pub fed_bounded : (old kept new : Machine) (c : ℕ) (piece half : List ℕ) (starved : Option ℕ) → c < length old.links
-    → is_reading (link_at old c).phase ≡ true
-    → kept ≡ with_link old c (record (link_at old c) { half = half }) → length (arrivals half) ≤ length (arrivals ((link_at old c).half ++ piece))
-    → TakesAll c starved kept new → length piece ≤ want_of (link_at old c) → Bounded old → Bounded new
-fed_bounded old kept new c piece half starved lt reads_ is few takes le bounded d = elim (eqb_tells d c) [
+pub fed_bounded : (old kept new : Machine) (c : ℕ) (piece : List ℕ) (starved : Option ℕ) → c < length old.links → is_reading (link_at old c).phase ≡ true
+    → kept ≡ kept_piece c piece old → TakesAll c starved kept new → length piece ≤ want_of (link_at old c) → Bounded old → Bounded new
+fed_bounded old kept new c piece starved lt reads_ is takes le bounded d = elim (eqb_tells d c) [
   | inl same ↦
-      let bytes = (link_at kept c).half in
-      let link = record (link_at old c) { half = half } in
+      let link = record (link_at old c) { half = (link_at old c).half ++ piece } in
       let there : link_at kept c ≡ link = ap (λ (m : Machine). link_at m c) is ∙ link_set old old.units c link lt in
       let P : LinkState → Type 0 = λ l. AddsAtMost (length (arrivals l.half)) l (link_at new c) in
       subst (λ (k : ℕ). IsBounded (link_at new k)) (sym same.1) (record {
         weighs = weighs_by (ltb most_waiting (length (link_at old c).waiting)) (link_at old c) (link_at new c) piece refl
             (partial_of (link_at old c).half (bounded c).partial)
             (reading_no_closing (link_at old c).phase reads_) le
-            (adds_more (length (arrivals half)) (length (arrivals ((link_at old c).half ++ piece))) (link_at old c) (link_at new c) few
-            (subst P there takes.leaves.loads)) (bounded c).weighs;
+            (subst P there takes.leaves.loads) (bounded c).weighs;
         partial = grind (arith, kept_partial, none_whole, rest_no_frame);
       })
   | inr differ ↦
-      let link = record (link_at old c) { half = half } in
+      let link = record (link_at old c) { half = (link_at old c).half ++ piece } in
       let there : link_at kept d ≡ link_at old d = ap (λ (m : Machine). link_at m d) is ∙ link_other old old.units c d link differ.1 in
       record {
         weighs = grind arith;
@@ -128,7 +103,7 @@ fed_bounded old kept new c piece half starved lt reads_ is few takes le bounded 
 
 -- ---- the other calls
 
-pub with_bounded : (machine : Machine) (c : ℕ) (link : LinkState) → c < length machine.links → Bounded machine → IsBounded link
+with_bounded : (machine : Machine) (c : ℕ) (link : LinkState) → c < length machine.links → Bounded machine → IsBounded link
     → Bounded (with_link machine c link)
 with_bounded machine c link lt bounded w d = elim (eqb_tells d c) [
   | inl same ↦ subst (λ (k : ℕ). IsBounded (link_at (with_link machine c link) k)) (sym same.1)

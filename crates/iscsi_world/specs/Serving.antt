@@ -1,5 +1,5 @@
 -- While frames are taken, the code stands where the World does: the effect of each call on both.
-use Rattle.std.specs.Prelude.{◌≡◌, ◌≢◌, ℕ, ◌+◌, ◌<◌, List, [], ◌∷◌, length, drop, Bool, true, false, if◌then◌else◌, ◌&&◌, not, ◌==◌, nat_lt, Option, Some, None, Result, Ok, Err, ⊤}
+use Rattle.std.specs.Prelude.{◌≡◌, ◌≢◌, ℕ, ◌+◌, ◌<◌, List, [], ◌∷◌, ◌++◌, length, drop, Bool, true, false, if◌then◌else◌, ◌&&◌, not, ◌==◌, nat_lt, Option, Some, None, Result, Ok, Err, ⊤}
 use Rattle.std.specs.List.{list_all, fold, enumerate_from}
 use Rattle.iscsi_pdu.specs.Frames.{Frame, rest, is_long}
 use Rattle.iscsi_pdu.specs.Header.{header_length}
@@ -8,7 +8,7 @@ use Rattle.iscsi_session.specs.Comings.{Coming, AreAhead, ArePlain, IsCalm}
 use Rattle.iscsi_session.specs.Steps.{Step, is_doing, is_serving}
 use Rattle.iscsi_world.specs.History.{Point, Arriving, Before, AtEnd, Mark, is_within, Arrival, Whole, arrivals, connection_limit}
 use Rattle.iscsi_world.specs.World.{Setting, World, present, is_marked, arrive, settle_one, settle, settle_for}
-use Rattle.iscsi_world.specs.Machine.{LinkState, Machine, IsSound, IsSoundAt, ReflectsSoundness, IsSure, Feeds, KeepsApart, KeepsPart, link_at, is_reading, is_closing, closed}
+use Rattle.iscsi_world.specs.Machine.{LinkState, Machine, IsSound, IsSoundAt, ReflectsSoundness, IsSure, Feeds, KeepsApart, KeepsPart, link_at, with_link, is_reading, is_closing, closed}
 use Rattle.iscsi_world.specs.Bounded.{AddsAtMost}
 use Rattle.iscsi_world.specs.Stands.{IsQuiet, IsSent, Begins, machine_with, stand_in}
 use Rattle.iscsi_world.specs.declared.fault.Starved.{Starved}
@@ -153,6 +153,14 @@ pub record TakesFrame (c : ℕ) (frame : Frame) (starved : Option ℕ) (given af
 -- one connection keeps other bytes
 abbrev pub with_half : ℕ → List ℕ → (ℕ → List ℕ) → ℕ → List ℕ
 with_half c bytes half d = if d == c then bytes else half d
+
+-- a connection keeps a further piece
+abbrev pub kept_piece : ℕ → List ℕ → Machine → Machine
+kept_piece c piece machine = with_link machine c (record (link_at machine c) { half = (link_at machine c).half ++ piece })
+
+-- the bytes of a connection are put back, if it is still read
+abbrev pub put_back : ℕ → List ℕ → Machine → Machine
+put_back c more machine = with_link machine c (record (link_at machine c) { half = if is_reading (link_at machine c).phase then more else [] })
 
 -- the effect of n frames of a connection on every target, and what they add to the weight of the connections
 pub record Leaves (c n : ℕ) (starved : Option ℕ) (old new : Machine) : Type 0 where

@@ -1,7 +1,6 @@
 -- When the code stands where the World does: what the code remembers is a function of the past.
-use Rattle.std.specs.Prelude.{◌≡◌, ◌⊎◌, ℕ, ◌+◌, ◌<◌, ◌≤◌, List, [], ◌∷◌, ◌++◌, length, drop, map, Bool, true, false, ◌==◌, Option, Some, None, if◌then◌else◌, ⊤}
-use Rattle.iscsi_pdu.specs.Frames.{Frame, rest, is_long}
-use Rattle.iscsi_session.specs.Needed.{is_needed}
+use Rattle.std.specs.Prelude.{◌≡◌, ℕ, ◌+◌, ◌<◌, ◌≤◌, List, [], ◌∷◌, ◌++◌, length, drop, map, Bool, true, false, ◌==◌, Option, Some, None, if◌then◌else◌, ⊤}
+use Rattle.iscsi_pdu.specs.Frames.{rest, is_long}
 use Rattle.iscsi_login.specs.Login.{remembered}
 use Rattle.iscsi_session.specs.State.{IsLawful, remembered as session_remembered}
 use Rattle.iscsi_login.specs.Directory.{KnownTargets}
@@ -11,7 +10,6 @@ use Rattle.iscsi_world.specs.Life.{Life, Phase, LoggingIn, FullFeature, Closing,
 use Rattle.iscsi_world.specs.World.{Setting, World, present, happen, begun_event, world}
 use Rattle.iscsi_world.specs.Output.{out_now}
 use Rattle.iscsi_world.specs.Machine.{Machine, LinkState, IsSound, IsSoundAt, free_link}
-use Rattle.iscsi_world.specs.HalfRead.{out_in, IsCounted}
 use Rattle.iscsi_world.specs.declared.phase.Phase as code
 use Rattle.iscsi_world.specs.declared.phase.Phase.TheVariants as phases
 
@@ -41,27 +39,13 @@ machine_with s sent half w = record {
   links = map (λ c. link_of s.directory (sent c) (half c) (present c w)) connections;
 }
 
--- ---- what is kept of a PDU that is half read
+-- the bytes that are no whole frame yet
+abbrev pub half_of : Option Life → List ℕ
+half_of None = []
+half_of (Some life) = rest life.bytes
 
--- the data of this Data-Out is needed
-abbrev pub needs_in : Phase → Frame → Bool
-needs_in LoggingIn out = false
-needs_in (FullFeature session) out = is_needed session out
-needs_in Closing out = false
-needs_in Over out = false
-
-abbrev pub needs : Option Life → Frame → Bool
-needs None out = false
-needs (Some life) out = needs_in life.phase out
-
--- own: all bytes are kept, or only so much of a Data-Out whose data is not needed
-abbrev pub AreKept : Option Life → List ℕ → List ℕ → Type 0
-AreKept life bytes half = (half ≡ bytes) ⊎ ((needs life (out_in bytes) ≡ false) × IsCounted half bytes)
-
--- the bytes that are no whole frame yet are kept so
-abbrev pub IsHalf : Option Life → List ℕ → Type 0
-IsHalf None half = ⊤
-IsHalf (Some life) half = AreKept (Some life) (rest life.bytes) half
+abbrev pub machine_of : Setting → (ℕ → ℕ) → World → Machine
+machine_of s sent w = machine_with s sent (λ c. half_of (present c w)) w
 
 -- ---- what is true of each life between two events, whatever the history
 
@@ -86,10 +70,7 @@ IsSent sent w = (c : ℕ) → c < connection_limit → sent c ≤ length (out_no
 
 -- The code stands where this World does, after `sent c` bytes of the present life of connection c were sent.
 pub record StandsAt (s : Setting) (sent : ℕ → ℕ) (w : World) (machine : Machine) : Type 0 where
-  -- what each connection keeps of a PDU that is half read
-  pub half : ℕ → List ℕ
-  pub is : machine ≡ machine_with s sent half w
-  pub kept : (c : ℕ) → c < connection_limit → IsHalf (present c w) (half c)
+  pub is : machine ≡ machine_of s sent w
   pub answered : IsSent sent w
   pub quiet : (c : ℕ) → c < connection_limit → IsQuiet (present c w)
   pub short : (c : ℕ) → c < connection_limit → IsShort (present c w)

@@ -7,7 +7,7 @@ use Rattle.iscsi_target.specs.Life.{Life, Phase, LoggingIn, FullFeature, Closing
 use Rattle.iscsi_target.specs.World.{Setting, World, present, world}
 use Rattle.iscsi_target.specs.Output.{out_now}
 use Rattle.iscsi_target.specs.Machine.{Machine, LinkState, link_at, is_open_at, is_closing}
-use Rattle.iscsi_target.specs.Stands.{link_of, phase_for, StandsAt}
+use Rattle.iscsi_target.specs.Stands.{link_of, half_of, phase_for, StandsAt}
 use Rattle.iscsi_target.proofs.Lives.{present-end, present-end_other}
 use Rattle.iscsi_target.proofs.Standing.{is_free_there, is_open_there, link_stands, waits_there, fresh, present-fresh}
 use Rattle.iscsi_target.proofs.Keeping.{world-push}
@@ -37,7 +37,7 @@ closing_of directory sent half (Some life) = closing_in directory life life.phas
 pub closing_same : (s : Setting) (sent : ℕ → ℕ) (w : World) (machine : Machine) (c : ℕ) → c < connection_limit → StandsAt s sent w machine
     → is_closing (link_at machine c).phase ≡ is_closed (present c w)
 closing_same s sent w machine c lt h =
-    ap (λ (link : LinkState). is_closing link.phase) (link_stands s sent w machine c lt h) ∙ closing_of s.directory (sent c) (h.half c) (present c w)
+    ap (λ (link : LinkState). is_closing link.phase) (link_stands s sent w machine c lt h) ∙ closing_of s.directory (sent c) (half_of (present c w)) (present c w)
 
 pub waiting_same : (s : Setting) (sent : ℕ → ℕ) (w : World) (machine : Machine) (c : ℕ) → c < connection_limit → StandsAt s sent w machine
     → (link_at machine c).waiting ≡ unsent sent w c

@@ -26,6 +26,7 @@ returns-then-has_lost g c =
       eases = λ waiting r. removing_eases _ c.args.session.now c.remove-has_lost.new.self waiting c.remove-has_lost.ensures.stands r;
       sure = λ sure. subst AreSure (sym told) (told_sure function c.params.result.now.nexus c.args.units.now sure);
       params = c.remove-has_lost.ensures.params;
+      takes = c.remove-has_lost.ensures.takes;
     }
 
 -- it lost none

@@ -1,20 +1,18 @@
-use Rattle.std.proofs.Common.{◌≡◌, ◌<◌, List, [], length, true, None, refl, sym, ap, ◌∙◌, subst, arith, rules}
-use Rattle.std.specs.Prelude.{All}
+use Rattle.std.proofs.Common.{◌≡◌, ◌<◌, [], length, true, None, refl, sym, ap, ◌∙◌, subst, arith, rules}
 use Rattle.std.proofs.lemmas.Bool.{eqb-true}
 use Rattle.std.proofs.lemmas.List.{nil_from_length}
-use Rattle.scsi_unit.specs.Units.{UnitStates, AreSure}
-use Rattle.iscsi_world.specs.History.{Bytes}
 use Rattle.iscsi_world.specs.Machine.{Machine, ReflectsSoundness, link_at, closed, is_closing, is_reading}
-use Rattle.iscsi_world.specs.Serving.{first_starved}
 use Rattle.iscsi_world.specs.World.{world}
-use Rattle.iscsi_world.proofs.Apart.{part_none, part_as, part_closed, part_halved, part_then}
-use Rattle.iscsi_world.proofs.Feeding.{comes_idle, comes_empty, all_came, ok_came, err_came, none_after, starved_after, starved_came, kept_is, closed_kept, fed_few, kept_feeds, kept_reads}
-use Rattle.iscsi_world.proofs.Forgetting.{none_left, ok_forgotten, err_forgotten, after_forgotten, back_forgotten, sure_forgotten, feeds_forgotten, part_forgotten, closing_forgotten, bounded_forgotten}
-use Rattle.iscsi_world.proofs.Moving.{own_self, closed_closing, closing_if, closed_moves, feeds_then, moves_as}
+use Rattle.iscsi_world.proofs.Apart.{part_none, part_as, part_closed}
+use Rattle.iscsi_world.proofs.Feeding.{comes_idle, comes_empty, none_after, starved_after, starved_came, closed_kept}
+use Rattle.iscsi_world.proofs.Moving.{own_self, closed_closing, closed_moves, moves_as}
 use Rattle.iscsi_world.proofs.Reflected.{sound_back}
-use Rattle.iscsi_world.proofs.Sound.{closed_back, at_as, at_units, closed_sure, sure_as}
+use Rattle.iscsi_world.proofs.Sound.{closed_back, at_as, closed_sure, sure_as}
 use Rattle.iscsi_world.proofs.Standing.{stands_as}
-use Rattle.iscsi_world.proofs.Wanting.{fed_bounded, closed_bounded, bounded_as}
+use Rattle.iscsi_world.proofs.Taking.{none_left}
+use Rattle.iscsi_world.proofs.Wanting.{closed_bounded, bounded_as}
+use Rattle.iscsi_target.proofs.Pieces.{takes_piece}
+use Rattle.iscsi_target.specs.Feeding.{TakesPiece}
 use Rattle.iscsi_target.proofs.target.Target.feed.Goals as goal
 
 pub returns-then-is_empty-clause-stands : goal.returns-then-is_empty-clause-stands
@@ -77,95 +75,37 @@ returns-in-Err g c =
       idle = search rules;
     }
 
--- ---- it was kept, its frames were taken, and what is left was forgotten if it is not needed
-
-pub forget_unneeded-requires-clause-part : goal.forget_unneeded-requires-clause-part
-forget_unneeded-requires-clause-part g c =
-    let link = link_at c.take_frames-taken.new.self c.args.c in
-    none_left (is_reading link.phase) (link_at c.keep.new.self c.args.c).half link refl c.take_frames-taken.ensures.takes.kept
-
-pub returns-clause-came : goal.returns-clause-came
-returns-clause-came g c = λ s sent h at.
-    (let taken = c.take_frames-taken in
-    after_forgotten taken.new.self c.forget_unneeded.new.self c.args.c c.requires.in_range c.forget_unneeded.ensures.forgets s sent h
-    (Bytes c.args.c c.args.piece.now) (first_starved taken.result)
-    (all_came c.args.self.now c.keep.new.self taken.new.self c.args.c c.args.piece.now c.requires.in_range
-    (sym c.reads.ensures.value ∙ c.if-not-reads.false) c.in_default.ensures.ok taken.result taken.ensures.takes s sent h at))
-
-pub returns-clause-stands : goal.returns-clause-stands
-returns-clause-stands g c =
-    let taken = c.take_frames-taken in
-    ok_forgotten taken.new.self c.forget_unneeded.new.self c.args.c c.requires.in_range c.forget_unneeded.ensures.forgets c.args.self.now
-    (Bytes c.args.c c.args.piece.now) taken.result
-    (ok_came c.args.self.now c.keep.new.self taken.new.self c.args.c c.args.piece.now c.requires.in_range
-    (sym c.reads.ensures.value ∙ c.if-not-reads.false) c.in_default.ensures.ok taken.result taken.ensures.takes)
-
-pub returns-clause-starved : goal.returns-clause-starved
-returns-clause-starved g c =
-    let taken = c.take_frames-taken in
-    err_forgotten taken.new.self c.forget_unneeded.new.self c.args.c c.requires.in_range c.forget_unneeded.ensures.forgets c.args.self.now
-    (Bytes c.args.c c.args.piece.now) taken.result
-    (err_came c.args.self.now c.keep.new.self taken.new.self c.args.c c.args.piece.now c.requires.in_range
-    (sym c.reads.ensures.value ∙ c.if-not-reads.false) c.in_default.ensures.ok taken.result taken.ensures.takes)
-
-pub returns-clause-each : goal.returns-clause-each
-returns-clause-each g c = λ target sound.
-    (let taken = c.take_frames-taken in
-    at_units c.keep.new.self.units c.args.self.now target (ap (λ (m : Machine). m.units) c.in_default.ensures.ok.is)
-    (taken.ensures.takes.leaves.back target
-    (back_forgotten taken.new.self c.forget_unneeded.new.self c.args.c c.forget_unneeded.ensures.forgets target sound)))
-
-pub returns-clause-sure : goal.returns-clause-sure
-returns-clause-sure g c = λ sure.
-    (let taken = c.take_frames-taken in
-    sure_forgotten taken.new.self c.forget_unneeded.new.self c.args.c c.forget_unneeded.ensures.forgets
-    (taken.ensures.takes.leaves.sure
-    (subst (λ (u : List UnitStates). All AreSure u) (sym (ap (λ (m : Machine). m.units) c.in_default.ensures.ok.is)) sure)))
-
-pub returns-clause-feeds : goal.returns-clause-feeds
-returns-clause-feeds g c =
-    let lt : c.args.c < length c.args.self.now.links = (let below = c.requires.in_range in omega (arith, c.reads.ensures.count)) in
-    let taken = c.take_frames-taken in
-    let there : c.args.c < length taken.new.self.links = (let below = c.requires.in_range in omega (arith, c.forget_unneeded.ensures.count)) in
-    feeds_forgotten c.args.self.now taken.new.self c.forget_unneeded.new.self c.args.c there c.forget_unneeded.ensures.forgets
-    (feeds_then c.args.c c.args.self.now c.keep.new.self taken.new.self
-    (kept_feeds c.args.self.now c.keep.new.self c.args.c _ lt (sym c.reads.ensures.value ∙ c.if-not-reads.false)
-    (kept_is c.args.self.now c.keep.new.self c.args.c c.args.piece.now c.in_default.ensures.ok)) taken.ensures.takes.leaves.feeds)
-
-pub returns-clause-closing : goal.returns-clause-closing
-returns-clause-closing g c =
-    let taken = c.take_frames-taken in
-    let there : c.args.c < length taken.new.self.links = (let below = c.requires.in_range in omega (arith, c.forget_unneeded.ensures.count)) in
-    closing_forgotten taken.new.self c.forget_unneeded.new.self c.args.c taken.result there c.forget_unneeded.ensures.forgets
-    (closing_if taken.result taken.new.self taken.ensures.takes.leaves.closing)
-
-pub returns-clause-part : goal.returns-clause-part
-returns-clause-part g c =
-    let lt : c.args.c < length c.args.self.now.links = (let below = c.requires.in_range in omega (arith, c.reads.ensures.count)) in
-    let taken = c.take_frames-taken in
-    let there : c.args.c < length taken.new.self.links = (let below = c.requires.in_range in omega (arith, c.forget_unneeded.ensures.count)) in
-    part_forgotten c.args.self.now taken.new.self c.forget_unneeded.new.self c.args.c there c.forget_unneeded.ensures.forgets
-    (part_then c.args.c c.args.self.now c.keep.new.self taken.new.self
-    (kept_reads c.args.self.now c.keep.new.self c.args.c _ lt (sym c.reads.ensures.value ∙ c.if-not-reads.false)
-    (kept_is c.args.self.now c.keep.new.self c.args.c c.args.piece.now c.in_default.ensures.ok))
-    (part_as c.args.c c.args.self.now _ c.keep.new.self
-    (kept_is c.args.self.now c.keep.new.self c.args.c c.args.piece.now c.in_default.ensures.ok) (part_halved c.args.self.now c.args.c _ lt))
-    taken.ensures.takes.leaves.part)
-
 pub returns-then-is_empty-clause-part : goal.returns-then-is_empty-clause-part
 returns-then-is_empty-clause-part g c = part_none c.args.c c.args.self.now
 
 pub returns-then-not-reads-clause-part : goal.returns-then-not-reads-clause-part
 returns-then-not-reads-clause-part g c = part_none c.args.c c.args.self.now
 
--- ---- no connection makes the target hold too much
+-- ---- it was kept, its frames were taken, and what is not needed of the rest is forgotten
 
-pub returns-clause-bounded : goal.returns-clause-bounded
-returns-clause-bounded g c = λ le bounded.
-    (let lt : c.args.c < length c.args.self.now.links = (let below = c.requires.in_range in omega (arith, c.reads.ensures.count)) in
+pub forget_unneeded-requires-clause-part : goal.forget_unneeded-requires-clause-part
+forget_unneeded-requires-clause-part g c =
+    none_left (link_at c.keep.new.self c.args.c).half (link_at c.take_frames-taken.new.self c.args.c) c.take_frames-taken.ensures.takes.kept
+
+pub returns : goal.returns
+returns g c =
     let taken = c.take_frames-taken in
-    let there : c.args.c < length taken.new.self.links = (let below = c.requires.in_range in omega (arith, c.forget_unneeded.ensures.count)) in
-    bounded_forgotten taken.new.self c.forget_unneeded.new.self c.args.c there c.forget_unneeded.ensures.forgets
-    (fed_bounded c.args.self.now c.keep.new.self taken.new.self c.args.c c.args.piece.now _ _ lt (sym c.reads.ensures.value ∙ c.if-not-reads.false)
-    (kept_is c.args.self.now c.keep.new.self c.args.c c.args.piece.now c.in_default.ensures.ok)
-    (fed_few c.args.self.now c.keep.new.self c.args.c c.args.piece.now c.in_default.ensures.ok) taken.ensures.takes le bounded))
+    let old = c.args.self.now in
+    let new = c.forget_unneeded.new.self in
+    let lt : c.args.c < length old.links = (let below = c.requires.in_range in omega (arith, c.reads.ensures.count)) in
+    let takes : TakesPiece c.args.c c.args.piece.now taken.result old new = subst (TakesPiece c.args.c c.args.piece.now taken.result old)
+    (sym c.forget_unneeded.ensures.same) (takes_piece old c.keep.new.self taken.new.self c.args.c c.args.piece.now taken.result c.requires.in_range lt
+    (sym c.reads.ensures.value ∙ c.if-not-reads.false) c.in_default.ensures.ok taken.ensures.takes) in
+    record {
+      stands = takes.stands;
+      starved = takes.starved;
+      came = takes.came;
+      each = takes.each;
+      sure = takes.sure;
+      feeds = takes.feeds;
+      part = takes.part;
+      closing = takes.closing;
+      bounded = takes.bounded;
+      empty = search rules;
+      idle = search rules;
+    }

@@ -13,6 +13,7 @@ use Rattle.iscsi_world.proofs.Heavier.{apart_next}
 use Rattle.iscsi_world.proofs.Moving.{moves_then, moves_starved, ended_units}
 use Rattle.iscsi_world.proofs.SessionCalls.{session_in, is_called, link_only, serves_takes, called_moves, ended_moves, ended_called_apart, ended_adds}
 use Rattle.iscsi_world.proofs.Within.{within_then}
+use Rattle.iscsi_connection.specs.Arriving.{frame_of}
 use Rattle.iscsi_target.proofs.target.Target.serve.Goals as goal
 
 pub carry_out_for-requires : goal.carry_out_for-requires
@@ -54,7 +55,7 @@ returns g c =
     let rest = within_then own None later ended carried after c.carry_out_for.ensures.stays c.settle_for-settled.ensures.stays in
     record {
       takes = does_starved _ _ _ _ _ _ _ (ap (λ (o : Option ℕ). first_of o later) (sym c.end_unless-served.ensures.value) ∙ sym c.earlier_of.ensures)
-          (serves_takes call.result call.new.orders.items c.args.frame c.args.c own given middle ended after later k call.ensures.changes l
+          (serves_takes call.result call.new.orders.items (frame_of c.args.arrived) c.args.c own given middle ended after later k call.ensures.changes l
           c.end_unless-served.ensures.same (rest.moves 0).back
           (finishes c.args.c own call.new.orders.items later ended carried after (c.settle_for-settled.ensures.stays.moves 0).back carries
           c.settle_for-settled.ensures.settles));

@@ -1,18 +1,23 @@
-use Rattle.std.proofs.Common.{refl, sym, ap, ◌∙◌}
-use Rattle.iscsi_world.specs.Machine.{Machine, closed, GivesFrame}
-use Rattle.iscsi_world.proofs.Taking.{halved_reads, takes_frame, takes_long, takes_none, takes_as}
+use Rattle.std.proofs.Common.{◌≡◌, ℕ, List, [], refl, sym, ap, ◌∙◌}
+use Rattle.iscsi_world.specs.Machine.{Machine, closed, link_at, with_link, GivesFrame}
+use Rattle.iscsi_world.proofs.PutBack.{takes_arrived}
+use Rattle.iscsi_world.proofs.Taking.{takes_long, takes_none, takes_as}
+use Rattle.iscsi_connection.specs.Arriving.{frame_of, rest_in}
 use Rattle.iscsi_target.proofs.target.Target.take_next.Goals as goal
-
-pub take_frame-requires-clause-reads : goal.take_frame-requires-clause-reads
-take_frame-requires-clause-reads g c = halved_reads c.args.self.now c.next_frame.new.self c.args.c _ c.requires.in_range c.next_frame.ensures.count
-    c.next_frame.ensures.same c.requires.reads
 
 pub returns-in-Ok-Some-clause-takes : goal.returns-in-Ok-Some-clause-takes
 returns-in-Ok-Some-clause-takes g c =
-    let gives : GivesFrame c.in-Ok-Some.frame _ _ = rw c.in-Ok-Some.field-0-is at c.in-Ok-Some.ensures.given in
-    takes_frame c.args.self.now c.next_frame.new.self c.take_frame.new.self c.args.c c.in-Ok-Some.frame _ c.requires.in_range
-    c.next_frame.ensures.count c.requires.reads gives
-    c.next_frame.ensures.same c.take_frame.ensures
+    let old = c.args.self.now in
+    let given = c.next_frame.new.self in
+    let taken = c.take_frame-taken.new.self in
+    let gives : GivesFrame (frame_of c.in-Ok-Some.field-0-0.arrived) (link_at old c.args.c).half (rest_in c.in-Ok-Some.field-0-0.rest) =
+    rw c.in-Ok-Some.field-0-is at c.in-Ok-Some.ensures.given in
+    let left : (link_at given c.args.c).half ≡ [] = rw c.in-Ok-Some.field-0-is at c.in-Ok-Some.ensures.left in
+    takes_arrived old given taken c.put_back.new.self c.args.c (frame_of c.in-Ok-Some.field-0-0.arrived) (rest_in c.in-Ok-Some.field-0-0.rest)
+    _ c.requires.in_range
+    c.next_frame.ensures.count c.put_back.ensures.count c.requires.reads gives
+    (c.next_frame.ensures.same ∙ ap (λ (bytes : List ℕ). with_link old c.args.c (record (link_at old c.args.c) { half = bytes })) left)
+    c.take_frame-taken.ensures c.put_back.ensures.back
 
 pub returns-in-Err-TooLong-clause-takes : goal.returns-in-Err-TooLong-clause-takes
 returns-in-Err-TooLong-clause-takes g c =
