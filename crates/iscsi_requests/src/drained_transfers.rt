@@ -7,7 +7,7 @@ ghost use Rattle.iscsi_transfer.specs.Counted.{brought};
 ghost use Rattle.std.specs.List.{list_any};
 ghost use Rattle.iscsi_requests.specs.declared.verdict.Verdict.TheVariants.{Feeding};
 ghost use Rattle.iscsi_requests.specs.Draining.{is_awaited, drained_for, awaited_in, awaits_in, is_draining, drain_with, drain_for, judged_drain, fed_drain, judged_in, fed_in, function_tag, lacks_for, telling_place, function_at, drains_without};
-ghost use Rattle.iscsi_requests.specs.Needed.{IsUnread, drains_out};
+ghost use Rattle.iscsi_requests.specs.Needed.{IsUnread};
 ghost use Rattle.iscsi_requests.specs.State.{bears, transfers_without};
 
 use crate::abort_scope::Reach;
@@ -73,14 +73,6 @@ impl DrainedTransfer {
         self.is_draining() && self.header.initiator_task_tag() == tag
     }
 
-    /// Returns whether a Data-Out with this header and `size` bytes of data is for this data, and an R2T is open.
-    pub(crate) fn takes(&self, header: &Header, size: usize) -> bool
-        requires { size < 2 ^ 63 }
-        ensures { result ≡ drains_out (brought header.now size) self.now }
-    {
-        self.drains(header.initiator_task_tag()) && self.progress.fault_by(header, size).is_none()
-    }
-
     /// Returns whether the function with this tag waits for this data.
     fn is_for(&self, tag: u32) -> bool
         ensures { result ≡ (function_tag self.now == tag) }
@@ -102,16 +94,6 @@ impl Transfers {
         ensures { (result ≡ true) ↔ (self.now.drains ≡ []) }
     {
         self.drains.is_empty()
-    }
-
-    /// Returns whether a Data-Out with this header and `size` bytes of data is for data that is drained.
-    pub(crate) fn drains_more(&self, header: &Header, size: usize) -> bool
-        requires { size < 2 ^ 63 }
-        ensures { result ≡ list_any (drains_out (brought header.now size)) self.now.drains }
-    {
-        self.drains
-            .iter()
-            .any(|drained| drained.takes(header, size))
     }
 
     /// Returns where the data of the command with this tag is drained.

@@ -10,7 +10,7 @@ ghost use Rattle.iscsi_transfer.specs.WriteData.{command_fault, remembered as ta
 ghost use Rattle.iscsi_requests.specs.declared.transfers.Transfer.{Transfer};
 ghost use Rattle.iscsi_requests.specs.declared.verdict.Verdict.TheVariants.{Feeding};
 ghost use Rattle.iscsi_requests.specs.Draining.{judged_in, fed_in, is_live_in};
-ghost use Rattle.iscsi_requests.specs.Needed.{IsUnread, takes_out, takes_in, needs_in};
+ghost use Rattle.iscsi_requests.specs.Needed.{IsUnread, takes_out, takes_in};
 ghost use Rattle.iscsi_requests.specs.State.{no_transfers, place_with, immediate_transfers, whole_at, payload_at, removed_at, begun_transfer, reaches_some, transfers_without};
 
 use crate::abort_scope::Reach;
@@ -154,15 +154,6 @@ impl Transfers {
             return Verdict::Violating;
         }
         self.judge_drained_by(header, header.data_length())
-    }
-
-    /// Returns whether a command that is not finished takes a Data-Out with this header and `size` bytes of data, or one
-    /// whose data is drained.
-    pub fn needs(&self, header: &Header, size: usize) -> bool
-        requires { size < 2 ^ 63 }
-        ensures { result ≡ needs_in self.now (brought header.now size) }
-    {
-        self.takes(header, size) || self.drains_more(header, size)
     }
 
     /// Returns whether a command that is not finished takes a Data-Out with this header and `size` bytes of data.

@@ -26,5 +26,4 @@ pub mod Came
 pub mod Calm
 pub mod Runs
 mod Stages
-pub mod Needed
 mod Unread

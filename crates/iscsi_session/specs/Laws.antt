@@ -1,12 +1,11 @@
 -- Laws of every past that the steps of a session can reach.
-use Rattle.std.specs.Prelude.{◌≡◌, All, ℕ, ◌<◌, ◌^◌, List, [], ◌∷◌, ◌++◌, Bool, true, false, None}
-use Rattle.iscsi_pdu.specs.Header.{cmd_sn, opcode_number}
+use Rattle.std.specs.Prelude.{◌≡◌, All, ℕ, ◌<◌, ◌^◌, List, [], ◌∷◌, ◌++◌, Bool, true, None}
+use Rattle.iscsi_pdu.specs.Header.{cmd_sn}
 use Rattle.iscsi_pdu.specs.Frames.{Frame}
 use Rattle.iscsi_login.specs.declared.session_params.SessionParams.{SessionParams}
 use Rattle.iscsi_requests.specs.Requests.{Request, Past, begun, left, commands, others, taken, due, queue, unfinished, stamp, moved, finished, removing}
 use Rattle.iscsi_requests.specs.Transfers.{asks_of, asking, r2ts_of, asked}
 use Rattle.iscsi_requests.specs.Functions.{drained_functions}
-use Rattle.iscsi_requests.specs.Needed.{is_needed, AreAlike}
 use Rattle.iscsi_requests.specs.State.{AreDistinct, IsLawful}
 use Rattle.iscsi_session.specs.Steps.{Step, Work, served, ready, settled}
 
@@ -71,14 +70,3 @@ pub record NothingStaysDue : Type 0 where
       → NothingIsDue (settled fails place work).past
   pub removed : (names : List ℕ) (past : Past) → NothingIsDue past → NothingIsDue (removing names past)
   pub discovery : (past : Past) → IsLawful past → NothingIsDue past → past.params.target ≡ None → ready past ≡ []
-
--- RFC 7143 §11.7: where the data of a Data-Out is not needed, its header and the length of its data decide all
-abbrev pub UnneededDataIsUnread : Type 0
-UnneededDataIsUnread = (fails : Step → Bool) (place : ℕ) (one other : Frame) (work : Work) → AreAlike one other
-    → opcode_number one.header ≡ 0x05 → is_needed work.past one ≡ false → served fails place other work ≡ served fails place one work
-
--- Nothing that other sessions do makes data needed: commands are done, or removed.
-pub record OthersNeedNoData : Type 0 where
-  pub settled : (fails : Step → Bool) (place : ℕ) (frame : Frame) (work : Work)
-      → is_needed (settled fails place work).past frame ≡ true → is_needed work.past frame ≡ true
-  pub removed : (names : List ℕ) (frame : Frame) (past : Past) → is_needed (removing names past) frame ≡ true → is_needed past frame ≡ true

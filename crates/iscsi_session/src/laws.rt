@@ -1,6 +1,6 @@
 //! Laws of every past that the steps of a session can reach. The functions do nothing: their contracts are the laws.
 
-ghost use Rattle.iscsi_session.specs.Laws.{TakenOnce, FinishedAsTaken, DueInOrder, DoneInOrder, StepsAreLawful, R2tsAreSentAtOnce, NothingStaysDue, UnneededDataIsUnread, OthersNeedNoData};
+ghost use Rattle.iscsi_session.specs.Laws.{TakenOnce, FinishedAsTaken, DueInOrder, DoneInOrder, StepsAreLawful, R2tsAreSentAtOnce, NothingStaysDue};
 
 /// States that each request is taken once, and that requests are executed in the order in which they were taken. SCSI
 /// Commands are finished in that order as they are done, and all other requests as they are executed.
@@ -29,12 +29,4 @@ pub fn r2ts_are_sent_at_once()
 #[tactic(auto, using(crate::proofs::Due::nothing_stays_due))]
 pub fn nothing_stays_due()
     ensures { NothingStaysDue }
-{}
-
-/// States that a Data-Out whose data is not needed is served by its header and the length of its data. What other
-/// sessions do makes no data needed.
-#[tactic(auto, using(crate::proofs::Needed::unneeded_data_is_unread, crate::proofs::Needed::others_need_no_data))]
-pub fn unneeded_data_is_not_read()
-    ensures unread { UnneededDataIsUnread }
-    ensures others { OthersNeedNoData }
 {}

@@ -5,7 +5,7 @@ ghost use Rattle.iscsi_pdu.specs.Header.{data_length};
 ghost use Rattle.iscsi_pdu.specs.Segment.{most_data};
 ghost use Rattle.iscsi_pdu.specs.declared.answer.Answer.{Answer};
 ghost use Rattle.iscsi_transfer.specs.Counted.{brought};
-ghost use Rattle.iscsi_requests.specs.Needed.{is_needed, takes_in};
+ghost use Rattle.iscsi_requests.specs.Needed.{takes_in};
 ghost use Rattle.iscsi_requests.specs.Requests.{Past, begun, bearing, stamp, answering};
 ghost use Rattle.iscsi_requests.specs.State.{remembered, Stands, whole_at, place_for, is_waiting};
 
@@ -120,15 +120,6 @@ impl Session {
         } else {
             None
         }
-    }
-
-    /// Returns whether the data of a Data-Out with this header is needed: a command that is not finished takes it, or one
-    /// whose data is drained. Of any other Data-Out the header and the length of its data decide all (RFC 7143 §11.7).
-    pub fn needs(&self, header: &Header) -> bool
-        requires { data_length header.now ≤ most_data }
-        ensures { (past : Past) → Stands past self.now → result ≡ is_needed past (brought header.now (data_length header.now)) }
-    {
-        self.transfers.needs(header, header.data_length())
     }
 
     /// Returns whether a command that is not finished takes a Data-Out with this header.
