@@ -192,10 +192,6 @@ only_one [] piece is one = absurd cc
 only_one (x ∷ []) piece is one = let same : x ≡ piece = cc in ap (λ (p : Piece). p ∷ []) same
 only_one (x ∷ y ∷ xs) piece is one = absurd (omega arith)
 
-body_of : (fields : DataInFields) (numbers : Stamp) (frame : Frame) (sent : List ℕ) (piece : Piece)
-    → answers.DataIn fields ≡ data_in numbers frame sent (0, piece) → fields.body ≡ part_of sent piece
-body_of fields numbers frame sent piece made = cc
-
 -- it carries the whole data
 pub one_answer : (numbers : Stamp) (values : Values) (frame : Frame) (sent : List ℕ) (piece : Piece) (fields : DataInFields) (items : List ℕ)
     → AreInRange values → slice_get (sent_pieces values sent) 0 ≡ Some piece → length (sent_pieces values sent) ≡ 1

@@ -14,10 +14,9 @@ use Rattle.iscsi_transfer.specs.Counted.{brought}
 use Rattle.iscsi_framer.specs.Passing.{IsPassing}
 use Rattle.std.specs.Prelude.{Result, Ok, Err, is_ok, OnOk, OnErr, IfOk, IfSome}
 use Rattle.iscsi_login.specs.declared.session_params.SessionParams.{SessionParams}
-use Rattle.iscsi_session.specs.Needed.{takes_in}
+use Rattle.iscsi_session.specs.Unread.{takes_in}
 use Rattle.iscsi_session.specs.Requests.{begun, unfinished, left}
 use Rattle.iscsi_session.specs.State.{SessionState, remembered, transfers_of}
-use Rattle.iscsi_world.specs.HalfRead.{out_in}
 use Rattle.iscsi_world.specs.History.{arrivals}
 use Rattle.iscsi_world.specs.Machine.{GivesFrame}
 use Rattle.iscsi_world.specs.declared.phase.Phase.{Phase}
@@ -25,7 +24,7 @@ use Rattle.iscsi_world.specs.declared.phase.Phase.TheVariants.{FullFeature}
 use Rattle.iscsi_world.proofs.Taking.{none_whole}
 use Rattle.iscsi_world.proofs.Taking.{short_frame}
 use Rattle.iscsi_pdu.specs.declared.fault.PduFault.{PduFault}
-use Rattle.iscsi_connection.specs.Arriving.{ArrivingState, bytes_in, rest_in, CanPass, IsUntaken, IsOfPassing, MayServe}
+use Rattle.iscsi_connection.specs.Arriving.{rest_in, CanPass, IsUntaken, IsOfPassing, MayServe, out_in}
 use Rattle.iscsi_connection.specs.declared.arriving.Arrived.{Arrived}
 use Rattle.iscsi_connection.specs.declared.arriving.Arrived.TheVariants.{Whole, Passed}
 use Rattle.iscsi_connection.specs.declared.arriving.Taken.{Taken}
@@ -37,33 +36,33 @@ use Rattle.iscsi_connection.specs.Passing.{IsInFront}
 ends_there : (p : List ℕ) → IsPassing p → has_frame p ≡ true → length p ≡ frame_length p
 ends_there p passing whole = (let enough = (has_frame-true p whole).whole in let within = passing.within in omega (arith, enough, within))
 
-pub behind_it : (p behind : List ℕ) → IsPassing p → has_frame p ≡ true → drop (frame_length (p ++ behind)) (p ++ behind) ≡ behind
-behind_it p behind passing whole = (let long = ends_there p passing whole in
-    behind-append p behind whole ∙ ap (λ (l : List ℕ). l ++ behind) (drop_all (frame_length p) p (omega (arith, long))))
+pub after_it : (p after : List ℕ) → IsPassing p → has_frame p ≡ true → drop (frame_length (p ++ after)) (p ++ after) ≡ after
+after_it p after passing whole = (let long = ends_there p passing whole in
+    behind-append p after whole ∙ ap (λ (l : List ℕ). l ++ after) (drop_all (frame_length p) p (omega (arith, long))))
 
 -- the PDU is taken
-pub gives_ahead : (p behind : List ℕ) → IsPassing p → has_frame p ≡ true → GivesFrame (first_frame p) (p ++ behind) behind
-gives_ahead p behind passing whole =
-    let there = has_frame-append p behind whole in
+pub gives_ahead : (p after : List ℕ) → IsPassing p → has_frame p ≡ true → GivesFrame (first_frame p) (p ++ after) after
+gives_ahead p after passing whole =
+    let there = has_frame-append p after whole in
     let begun = passing.begun in
     record {
-      first = frames_taken (p ++ behind) behind (first_frame p) there (first_frame-append p behind whole) (sym (behind_it p behind passing whole));
-      behind = rest_taken (p ++ behind) behind there (sym (behind_it p behind passing whole));
-      shorter = omega (arith, length-append p behind, begun);
+      first = frames_taken (p ++ after) after (first_frame p) there (first_frame-append p after whole) (sym (after_it p after passing whole));
+      behind = rest_taken (p ++ after) after there (sym (after_it p after passing whole));
+      shorter = omega (arith, length-append p after, begun);
     }
 
 -- a frame is taken from the front
 pub gives_frame : (frame : Frame) (old new : List ℕ) → has_frame old ≡ true → new ≡ drop (frame_length old) old → frames old ≡ frame ∷ frames new
     → rest new ≡ rest old → GivesFrame frame old new
-gives_frame frame old new there taken first behind = record { first = first; behind = behind; shorter = rw taken (drop_shorter old there) }
+gives_frame frame old new there taken first after = record { first = first; behind = after; shorter = rw taken (drop_shorter old there) }
 
 pub gives_as : (frame other : Frame) (all old left new : List ℕ) → other ≡ frame → all ≡ old → left ≡ new → GivesFrame frame old new
     → GivesFrame other all left
 gives_as frame other all old left new a b c gives = rw (a, b, c) gives
 
 -- it is not whole yet
-pub none_ahead : (p behind : List ℕ) → IsInFront (Some p) behind → has_frame p ≡ false → arrivals (p ++ behind) ≡ []
-none_ahead p behind front part = ap (λ (l : List ℕ). arrivals (p ++ l)) (front.1 part) ∙ ap arrivals (append-nil p) ∙ none_whole p part front.0.short
+pub none_ahead : (p after : List ℕ) → IsInFront (Some p) after → has_frame p ≡ false → arrivals (p ++ after) ≡ []
+none_ahead p after front part = ap (λ (l : List ℕ). arrivals (p ++ l)) (front.1 part) ∙ ap arrivals (append-nil p) ∙ none_whole p part front.0.short
 
 -- ---- what is missing
 
@@ -71,9 +70,9 @@ wanted_whole : (bytes : List ℕ) → has_frame bytes ≡ true → wanted bytes 
 unfolding missing
 wanted_whole bytes whole = (let w = has_frame-true bytes whole in let header = w.header in let enough = w.whole in grind (arith, header, enough))
 
-pub wanted_ahead : (p behind : List ℕ) → IsInFront (Some p) behind → wanted p ≡ wanted (p ++ behind)
-wanted_ahead p behind front = elim (cases_Bool (has_frame p)) [
-  | inl whole ↦ wanted_whole p whole ∙ sym (wanted_whole (p ++ behind) (has_frame-append p behind whole))
+pub wanted_ahead : (p after : List ℕ) → IsInFront (Some p) after → wanted p ≡ wanted (p ++ after)
+wanted_ahead p after front = elim (cases_Bool (has_frame p)) [
+  | inl whole ↦ wanted_whole p whole ∙ sym (wanted_whole (p ++ after) (has_frame-append p after whole))
   | inr part ↦ ap wanted (sym (append-nil p)) ∙ ap (λ (l : List ℕ). wanted (p ++ l)) (sym (front.1 part))
 ]
 
@@ -95,18 +94,18 @@ counted_part p more part = elim (cases_Bool (has_frame p)) [
   | inr none ↦ none
 ]
 
-pub counted_front : (p new piece behind : List ℕ) (n : ℕ) → IsInFront (Some p) behind → new ≡ p ++ take n piece
-    → (n < length piece → has_frame new ≡ true) → IsPassing new → IsInFront (Some new) (behind ++ drop n piece)
-counted_front p new piece behind n front is whole passing = (
+pub counted_front : (p new piece after : List ℕ) (n : ℕ) → IsInFront (Some p) after → new ≡ p ++ take n piece
+    → (n < length piece → has_frame new ≡ true) → IsPassing new → IsInFront (Some new) (after ++ drop n piece)
+counted_front p new piece after n front is whole passing = (
   passing,
   λ part.
       let long : length piece ≤ n = grind arith in
       ap (λ (l : List ℕ). l ++ drop n piece) (front.1 (counted_part p (take n piece) (ap has_frame (sym is) ∙ part))) ∙ drop_all n piece long,
 )
 
-pub counted_passes : (phase : Phase) (p new piece behind : List ℕ) (n : ℕ) → IsInFront (Some p) behind → new ≡ p ++ take n piece → CanPass phase p
+pub counted_passes : (phase : Phase) (p new piece after : List ℕ) (n : ℕ) → IsInFront (Some p) after → new ≡ p ++ take n piece → CanPass phase p
     → CanPass phase new
-counted_passes phase p new piece behind n front is can =
+counted_passes phase p new piece after n front is can =
     subst (CanPass phase) (sym is) (passes_more phase p (take n piece) front.0.begun can)
 
 -- of one that is whole none is
@@ -118,14 +117,14 @@ none_counted p more passing whole both =
     let framed = frame_length-append p more (omega (arith, begun)) in
     nil_from_length more (omega (arith, within, framed, long, length-append p more))
 
-pub counted_all : (p new piece behind : List ℕ) (n : ℕ) → IsInFront (Some p) behind → new ≡ p ++ take n piece → IsPassing new
-    → new ++ (behind ++ drop n piece) ≡ p ++ (behind ++ piece)
-counted_all p new piece behind n front is passing = elim (cases_Bool (has_frame p)) [
+pub counted_all : (p new piece after : List ℕ) (n : ℕ) → IsInFront (Some p) after → new ≡ p ++ take n piece → IsPassing new
+    → new ++ (after ++ drop n piece) ≡ p ++ (after ++ piece)
+counted_all p new piece after n front is passing = elim (cases_Bool (has_frame p)) [
   | inl whole ↦ (
       let none = none_counted p (take n piece) front.0 whole (subst IsPassing is passing) in
       let rest : drop n piece ≡ piece = ap (λ (l : List ℕ). l ++ drop n piece) (sym none) ∙ take-append-drop n piece in
-      ap (λ (l : List ℕ). l ++ (behind ++ drop n piece)) (is ∙ ap (λ (l : List ℕ). p ++ l) none ∙ append-nil p)
-      ∙ ap (λ (l : List ℕ). p ++ (behind ++ l)) rest)
+      ap (λ (l : List ℕ). l ++ (after ++ drop n piece)) (is ∙ ap (λ (l : List ℕ). p ++ l) none ∙ append-nil p)
+      ∙ ap (λ (l : List ℕ). p ++ (after ++ l)) rest)
   | inr part ↦ rw (front.1 part) (
       ap (λ (l : List ℕ). l ++ drop n piece) is ∙ append_assoc p (take n piece) (drop n piece) ∙ ap (λ (l : List ℕ). p ++ l) (take-append-drop n piece))
 ]
@@ -135,19 +134,12 @@ nil_left [] b none = refl
 nil_left (x ∷ a) b none = absurd cc
 
 -- if only these bytes are kept
-pub front_less : (o : Option (List ℕ)) (behind more : List ℕ) → IsInFront o (behind ++ more) → IsInFront o behind
-front_less None behind more front = tt
-front_less (Some p) behind more front = (front.0, λ part. nil_left behind more (front.1 part))
+pub front_less : (o : Option (List ℕ)) (after more : List ℕ) → IsInFront o (after ++ more) → IsInFront o after
+front_less None after more front = tt
+front_less (Some p) after more front = (front.0, λ part. nil_left after more (front.1 part))
 
-pub nothing_ahead : (o : Option (List ℕ)) (behind : List ℕ) → rest_in o ++ behind ≡ [] → rest_in o ≡ []
-nothing_ahead o behind none = nil_left (rest_in o) behind none
-
-pub none_in_front : (o : Option (List ℕ)) (behind other : List ℕ) → rest_in o ++ behind ≡ [] → IsInFront o behind → IsInFront o other
-none_in_front None behind other none front = tt
-none_in_front (Some p) behind other none front = absurd (
-    let begun = front.0.begun in
-    let long = ap (λ (l : List ℕ). length l) none in
-    omega (arith, begun, long, length-append p behind))
+pub nothing_ahead : (o : Option (List ℕ)) (after : List ℕ) → rest_in o ++ after ≡ [] → rest_in o ≡ []
+nothing_ahead o after none = nil_left (rest_in o) after none
 
 -- ---- one that is half read
 
@@ -173,12 +165,6 @@ begun_by half header want more is there part out few want_is more_is less =
       begun = omega (arith, framed, left, want_is, more_is, fewer);
       within = omega (arith, within);
     }
-
-pub untaken_by : (phase : Phase) (half header : List ℕ) → header ≡ take header_length half → IsUntaken phase (brought header (data_length header))
-    → IsUntaken phase (out_in half)
-untaken_by phase half header is untaken =
-    subst (λ (n : ℕ). IsUntaken phase (brought (take header_length half) n)) (sym (fields half header is).data_is)
-    (subst (λ (l : List ℕ). IsUntaken phase (brought l (data_length header))) is untaken)
 
 -- ---- what a session does keeps it untaken
 
@@ -211,9 +197,6 @@ pub may_serve : (phase : Phase) (r : Result (Option Taken) PduFault) (passing : 
     → IfOk r (λ o. IfSome o (λ taken. IsOfPassing taken.arrived passing)) → IfOk r (λ o. IfSome o (λ taken. MayServe phase taken.arrived))
 may_serve phase (Ok (Some taken)) passing can is = serves_of phase taken.arrived passing can is
 may_serve phase _ passing can is = tt
-
-pub none_passing : (phase : Phase) (arriving : ArrivingState) → bytes_in arriving ≡ [] → CanPass phase arriving.passing
-none_passing phase arriving none = inl (nil_left arriving.passing arriving.behind none)
 
 -- ---- results
 

@@ -3,9 +3,8 @@ use Rattle.std.specs.Prelude.{◌≡◌, ◌⊎◌, ℕ, List, [], ◌++◌, tak
 use Rattle.iscsi_pdu.specs.Header.{header_length, data_length, opcode_number}
 use Rattle.iscsi_pdu.specs.Frames.{Frame}
 use Rattle.iscsi_framer.specs.Passing.{IsPassing}
-use Rattle.iscsi_session.specs.Needed.{takes_in}
+use Rattle.iscsi_session.specs.Unread.{takes_in}
 use Rattle.iscsi_transfer.specs.Counted.{brought}
-use Rattle.iscsi_world.specs.HalfRead.{out_in}
 use Rattle.iscsi_world.specs.declared.phase.Phase.{Phase}
 use Rattle.iscsi_world.specs.declared.phase.Phase.TheVariants.{Free, Login, FullFeature, Closing}
 use Rattle.iscsi_connection.specs.declared.arriving.Arrived.{Arrived}
@@ -15,10 +14,10 @@ pub record ArrivingState : Type 0 where
   -- a Data-Out of which only the header and the number of bytes are kept; none if there is no such
   pub passing : List ℕ
   -- the bytes after it
-  pub behind : List ℕ
+  pub after : List ℕ
 
 abbrev pub bytes_in : ArrivingState → List ℕ
-bytes_in arriving = arriving.passing ++ arriving.behind
+bytes_in arriving = arriving.passing ++ arriving.after
 
 -- the bytes after a PDU that was taken
 abbrev pub rest_in : Option (List ℕ) → List ℕ
@@ -28,6 +27,10 @@ rest_in (Some bytes) = bytes
 abbrev pub frame_of : Arrived → Frame
 frame_of (Whole frame) = frame
 frame_of (Passed out) = out
+
+-- the Data-Out whose header is in front of the bytes, with zeros as its data
+abbrev pub out_in : List ℕ → Frame
+out_in bytes = brought (take header_length bytes) (data_length bytes)
 
 -- no command that is not finished takes this Data-Out
 abbrev pub IsUntaken : Phase → Frame → Type 0

@@ -7,7 +7,6 @@ pub use Rattle.iscsi_world.specs.History
 pub use Rattle.iscsi_world.specs.World
 pub use Rattle.iscsi_world.specs.Machine
 pub use Rattle.iscsi_world.specs.SessionCalls
-pub use Rattle.iscsi_world.specs.HalfRead
 pub mod NumberSet
 pub mod Connections
 pub mod Lending

@@ -5,5 +5,5 @@ use Rattle.iscsi_framer.specs.Passing.{IsPassing}
 
 -- own: more bytes come after it only if it is whole
 abbrev pub IsInFront : Option (List ℕ) → List ℕ → Type 0
-IsInFront None behind = ⊤
-IsInFront (Some passing) behind = IsPassing passing × (has_frame passing ≡ false → behind ≡ [])
+IsInFront None after = ⊤
+IsInFront (Some passing) after = IsPassing passing × (has_frame passing ≡ false → after ≡ [])

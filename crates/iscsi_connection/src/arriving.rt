@@ -1,16 +1,15 @@
 //! The bytes of a connection that have come and are not taken.
 
-ghost use Rattle.std.specs.Prelude.{◌≡◌, ◌+◌, ◌≤◌, ◌++◌, ℕ, List, [], length, take, drop, true, false, Some, None, IfOk, IfSome, IfNone, OnOk, OnErr};
+ghost use Rattle.std.specs.Prelude.{◌≡◌, ◌+◌, ◌≤◌, ◌++◌, ℕ, List, [], length, take, drop, true, Some, None, IfOk, IfSome, IfNone, OnOk, OnErr};
 ghost use Rattle.std.specs.Result.{IsErrOf};
 ghost use Rattle.iscsi_pdu.specs.Header.{header_length};
 ghost use Rattle.iscsi_pdu.specs.Frames.{has_frame, is_long, wanted};
 ghost use Rattle.iscsi_framer.specs.Passing.{IsPassing};
-ghost use Rattle.iscsi_world.specs.HalfRead.{out_in};
 ghost use Rattle.iscsi_world.specs.History.{arrivals};
 ghost use Rattle.iscsi_world.specs.Machine.{GivesFrame};
 ghost use Rattle.iscsi_world.specs.declared.phase.Phase.{Phase};
 ghost use Rattle.iscsi_connection.specs.Passing.{IsInFront};
-ghost use Rattle.iscsi_connection.specs.Arriving.{ArrivingState, bytes_in, rest_in, frame_of, IsUntaken, CanPass, IsOfPassing};
+ghost use Rattle.iscsi_connection.specs.Arriving.{ArrivingState, bytes_in, rest_in, frame_of, IsUntaken, CanPass, IsOfPassing, out_in};
 
 use data_parts::SpareBuffers;
 use iscsi_framer::{FrameRoom, Framer, PassedDataOut, PassingDataOut};
@@ -52,11 +51,10 @@ pub(crate) struct Arriving {
 impl Model for Arriving {
     ghost use Rattle.iscsi_connection.specs.Passing.{IsInFront};
     ghost use Rattle.iscsi_connection.specs.Arriving.{ArrivingState, rest_in};
-    ghost use Rattle.iscsi_connection.specs.Passing.{IsInFront};
 
     ghost Value = { ArrivingState };
 
-    ghost view = { λ a. record { passing = rest_in a.passing; behind = a.framer } };
+    ghost view = { λ a. record { passing = rest_in a.passing; after = a.framer } };
 
     ghost invariant = { λ a. IsInFront a.passing a.framer };
 }
@@ -64,10 +62,10 @@ impl Model for Arriving {
 /// Counts the bytes of a piece that belong to a Data-Out in front. Returns their number.
 fn count(passing: &mut Option<PassingDataOut>, piece: &[u8]) -> usize
     ensures within { result ≤ length piece.now }
-    ensures bytes { (behind : List ℕ) → IsInFront passing.old behind
-        → rest_in passing.new ++ (behind ++ drop result piece.now) ≡ rest_in passing.old ++ (behind ++ piece.now) }
-    ensures front { (behind : List ℕ) → IsInFront passing.old behind → IsInFront passing.new (behind ++ drop result piece.now) }
-    ensures passing { (phase : Phase) (behind : List ℕ) → IsInFront passing.old behind → CanPass phase (rest_in passing.old)
+    ensures bytes { (after : List ℕ) → IsInFront passing.old after
+        → rest_in passing.new ++ (after ++ drop result piece.now) ≡ rest_in passing.old ++ (after ++ piece.now) }
+    ensures front { (after : List ℕ) → IsInFront passing.old after → IsInFront passing.new (after ++ drop result piece.now) }
+    ensures passing { (phase : Phase) (after : List ℕ) → IsInFront passing.old after → CanPass phase (rest_in passing.old)
         → CanPass phase (rest_in passing.new) }
 {
     match passing {
@@ -79,7 +77,7 @@ fn count(passing: &mut Option<PassingDataOut>, piece: &[u8]) -> usize
 impl Arriving {
     /// Returns no bytes. Allocates nothing.
     pub(crate) fn new(alloc: Global) -> Arriving
-        ensures { result ≡ record { passing = []; behind = [] } }
+        ensures { result ≡ record { passing = []; after = [] } }
     {
         Arriving {
             passing: None,
@@ -129,7 +127,7 @@ impl Arriving {
     /// Takes the first whole PDU, with all bytes after it. Returns `None` if no PDU is whole yet.
     pub(crate) fn next(&mut self) -> Result<Option<Taken>, PduFault>
         ensures given { IfOk result (λ o. IfSome o (λ t. GivesFrame (frame_of t.arrived) (bytes_in self.old) (rest_in t.rest))) }
-        ensures left { IfOk result (λ o. IfSome o (λ _. self.new ≡ record { passing = []; behind = [] })) }
+        ensures left { IfOk result (λ o. IfSome o (λ _. self.new ≡ record { passing = []; after = [] })) }
         ensures passed { IfOk result (λ o. IfSome o (λ t. IsOfPassing t.arrived self.old.passing)) }
         ensures none { IfOk result (λ o. IfNone o (arrivals (bytes_in self.old) ≡ [])) }
         ensures waits { IfOk result (λ o. IfNone o (self.new ≡ self.old)) }
@@ -155,8 +153,8 @@ impl Arriving {
     /// Takes the bytes after a PDU, if there are any.
     fn take_rest(&mut self) -> Option<Framer>
         requires { self.old.passing ≡ [] }
-        ensures rest { rest_in result ≡ self.old.behind }
-        ensures left { self.new ≡ record { passing = []; behind = [] } }
+        ensures rest { rest_in result ≡ self.old.after }
+        ensures left { self.new ≡ record { passing = []; after = [] } }
     {
         if self.framer.is_empty() {
             return None;
@@ -167,7 +165,7 @@ impl Arriving {
     /// Puts the bytes after a PDU back.
     pub(crate) fn put_back(&mut self, rest: Framer)
         requires { bytes_in self.old ≡ [] }
-        ensures { self.new ≡ record { passing = []; behind = rest } }
+        ensures { self.new ≡ record { passing = []; after = rest } }
     {
         self.framer = rest;
     }

@@ -5,9 +5,8 @@ ghost use Rattle.iscsi_pdu.specs.Frames.{has_frame};
 ghost use Rattle.iscsi_pdu.specs.Header.{header_length, data_length};
 ghost use Rattle.iscsi_pdu.specs.Segment.{most_data};
 ghost use Rattle.iscsi_framer.specs.Passing.{IsPassing};
-ghost use Rattle.iscsi_world.specs.HalfRead.{out_in};
 ghost use Rattle.iscsi_world.specs.Machine.{is_reading};
-ghost use Rattle.iscsi_connection.specs.Arriving.{IsUntaken};
+ghost use Rattle.iscsi_connection.specs.Arriving.{IsUntaken, out_in};
 
 use crate::connection::Connection;
 use iscsi_pdu::{Header, MOST_DATA, padded};

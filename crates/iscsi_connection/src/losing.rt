@@ -2,7 +2,7 @@
 
 ghost use Rattle.std.specs.Prelude.{◌≡◌, ℕ, List, [], None, true, false};
 ghost use Rattle.iscsi_pdu.specs.Frames.{Frame};
-ghost use Rattle.iscsi_session.specs.Needed.{takes_in};
+ghost use Rattle.iscsi_session.specs.Unread.{takes_in};
 ghost use Rattle.iscsi_pdu.specs.Header.{lun_field};
 ghost use Rattle.scsi_unit.specs.Units.{AreSound, AreSure};
 ghost use Rattle.iscsi_session.specs.Comings.{Coming, lend};

@@ -19,13 +19,6 @@ flat_map_more f xs i x at =
     rw (take_more xs i x within, get_or_from_slice_get xs i x x at)
     (flat_map_append f (take i xs) (x ∷ []) ∙ ap (λ l. flat_map f (take i xs) ++ l) (append-nil (f x)))
 
--- the text of one pair, and of two
-pub text_one : (pair : Pair) → text_of (pair ∷ []) ≡ spelled pair
-text_one pair = append-nil (spelled pair)
-
-pub text_two : (first second : Pair) → text_of (first ∷ second ∷ []) ≡ text_of (first ∷ []) ++ text_of (second ∷ [])
-text_two first second = flat_map_append spelled (first ∷ []) (second ∷ [])
-
 -- a text that is written as far as these pairs, and then one part further
 pub text_further : (before text next : List ℕ) (xs ys all : List Pair) → text ≡ before ++ text_of xs → next ≡ text ++ text_of ys → all ≡ xs ++ ys
     → next ≡ before ++ text_of all

@@ -1,8 +1,8 @@
 //! An exchange of texts.
 
-ghost use Rattle.std.specs.Prelude.{◌≡◌, ◌≤◌, ◌<◌, ◌++◌, [], length, take, drop, is_some, true, Some, IfOk, IfSome, OnOk, OnErr};
+ghost use Rattle.std.specs.Prelude.{◌≡◌, ◌≤◌, ◌<◌, [], length, drop, is_some, true, Some, IfOk, IfSome, OnOk, OnErr};
 ghost use Rattle.iscsi_exchange.specs.ExchangeState.{no_exchange, open_with};
-ghost use Rattle.iscsi_exchange.specs.Exchange.{begins, is_of_exchange, rejects, tells, piece_limit as limit_of, sends, keeps, answers_to, hears_in, hears, text_on, IsLongAs, IsShort};
+ghost use Rattle.iscsi_exchange.specs.Exchange.{rejects, tells, piece_limit as limit_of, sends, keeps, answers_to, hears_in, hears, text_on, IsLongAs, IsShort};
 ghost use Rattle.iscsi_pdu.specs.Segment.{most_data};
 ghost use Rattle.iscsi_text.specs.Pairs.{text_pairs};
 

@@ -1,7 +1,7 @@
 -- The first bytes of a list, and those after them.
-use Rattle.std.proofs.Common.{◌≡◌, ℕ, ◌+◌, ◌-◌, ◌≤◌, min, List, [], ◌++◌, length, take, drop, refl, sym, ap, ◌∙◌, inl, inr, arith, append_assoc, append-nil, length-append, length-take}
+use Rattle.std.proofs.Common.{◌≡◌, ℕ, ◌+◌, ◌-◌, ◌≤◌, min, List, [], ◌++◌, length, take, drop, refl, sym, ap, ◌∙◌, inl, inr, arith, append_assoc, append-nil, length-append}
 use Rattle.std.proofs.lemmas.Bool.{cases_lt}
-use Rattle.std.proofs.lemmas.List.{take_at, drop_at, drop-drop, drop_all, take-append-drop}
+use Rattle.std.proofs.lemmas.List.{take_at, drop_at, drop-drop, take-append-drop}
 use Rattle.iscsi_framer.specs.Framer.{IsSplit}
 
 -- ---- where there are n
@@ -25,12 +25,6 @@ behind_dropped n k f b s there =
 
 -- ---- the first of a list
 
-pub cut_split : (n k : ℕ) (b : List ℕ) → k ≡ min (length b) n → IsSplit n (take k b) (drop k b)
-cut_split n k b e = record {
-  short = omega (arith, e, length-take k b);
-  whole = λ fewer. drop_all k b (omega (arith, e, fewer, length-take k b));
-}
-
 -- ---- more bytes after
 
 -- so many of them belong to the front
@@ -43,25 +37,3 @@ fed n k f b p s e =
           let none : k ≡ 0 = omega (arith, e, all) in
           rw (none, append-nil f, ← append_assoc f b p) refl)
     ]
-
-pub fed_front : (n k : ℕ) (f b p : List ℕ) → IsSplit n f b → k ≡ min (length p) (n - length f) → IsSplit n (f ++ take k p) b
-fed_front n k f b p s e =
-    let short = s.short in
-    let len = length-append f (take k p) in
-    let taken = length-take k p in
-    record {
-      short = omega (arith, e, len, taken, short);
-      whole = λ fewer. s.whole (omega (arith, e, fewer, len, taken));
-    }
-
-pub fed_split : (n k : ℕ) (f b p : List ℕ) → IsSplit n f b → k ≡ min (length p) (n - length f) → IsSplit n (f ++ take k p) (b ++ drop k p)
-fed_split n k f b p s e =
-    let front = fed_front n k f b p s e in
-    let len = length-append f (take k p) in
-    let taken = length-take k p in
-    record {
-      short = front.short;
-      whole = λ fewer. (
-          let rest : drop k p ≡ [] = drop_all k p (omega (arith, e, fewer, len, taken)) in
-          rw (front.whole fewer, rest) refl);
-    }

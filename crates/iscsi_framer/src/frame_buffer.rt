@@ -1,6 +1,6 @@
 //! A buffer with the bytes of a PDU, and after them room that a reader may fill.
 
-ghost use Rattle.std.specs.Prelude.{◌≡◌, ◌+◌, ◌^◌, ◌<◌, ◌≤◌, [], ◌++◌, length, take, drop, replicate, true, IfErr, IfSome, IfNone, OnOk, OnErr};
+ghost use Rattle.std.specs.Prelude.{◌≡◌, ◌+◌, ◌^◌, ◌<◌, ◌≤◌, [], ◌++◌, length, take, drop, replicate, IfErr, IfSome, IfNone, OnOk, OnErr};
 
 use data_parts::SpareBuffers;
 use iscsi_pdu::{HEADER_LENGTH, PduFault};

@@ -137,13 +137,3 @@ front_missing_with came true e =
 
 pub front_missing : (came : List ℕ) → has_come came (front came) ≡ false
 front_missing came = front_missing_with came _ refl
-
--- and no other number is like that
-pub front_only : (came : List ℕ) (m : ℕ) → ((i : ℕ) → i < m → has_come came i ≡ true) → has_come came m ≡ false → front came ≡ m
-front_only came m below missing =
-    let not_less : front came < m → ⊥ = λ lt. let h = below (front came) lt in let g = front_missing came in absurd cc in
-    let not_more : m < front came → ⊥ = λ lt. let h = front_come came m lt in absurd cc in
-    elim (eqb_tells (front came) m) [
-      | inl same ↦ same.1
-      | inr differ ↦ let ne = differ.1 in absurd (omega arith)
-    ]

@@ -123,11 +123,6 @@ pub order_put : (runs : List Run) (tail : List ℕ) (answer : Answer) → AreInO
 order_put [] tail answer order = tt
 order_put (run ∷ runs) tail answer order = (order.0, order.1, both_whole tail (spelling answer) order.2 (one_whole answer))
 
--- the first run was sent
-pub order_next : (run : Run) (runs : List Run) (tail : List ℕ) → AreInOrder (run ∷ runs) tail → AreInOrder runs tail
-order_next run [] tail order = tt
-order_next run (next ∷ runs) tail order = (λ _. order.1.1, order.1.2, order.2)
-
 -- the first run ends where a PDU does, and so does what is offered of it
 run_ends : (run : Run) (runs : List Run) (tail front : List ℕ) → AreInOrder (run ∷ runs) tail → EndsPdu (run_bytes run) front
     → EndsPdu (flat_map run_bytes (run ∷ runs) ++ tail) front

@@ -15,7 +15,7 @@ use Rattle.iscsi_requests.specs.Functions.{FunctionReach, reaches}
 use Rattle.iscsi_requests.specs.State.{TransferList, bears, place_for, transfer_at, judged_at, transfers_without, removed_at}
 use Rattle.iscsi_requests.specs.Transfers.{verdict_on}
 use Rattle.iscsi_requests.specs.Draining.{drain_with, drain_for, drained_at, judged_drain, fed_drain, judged_in, fed_in}
-use Rattle.iscsi_requests.specs.Needed.{IsUnread, takes_out, takes_in}
+use Rattle.iscsi_requests.specs.Unread.{IsUnread, takes_out, takes_in}
 use Rattle.iscsi_requests.proofs.Places.{position_with}
 
 -- ---- by its header and the length of its data

@@ -22,4 +22,4 @@ pub mod Drained
 pub mod State
 pub mod Draining
 pub mod RequestQueue
-pub mod Needed
+pub mod Unread

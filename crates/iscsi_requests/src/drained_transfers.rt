@@ -7,7 +7,7 @@ ghost use Rattle.iscsi_transfer.specs.Counted.{brought};
 ghost use Rattle.std.specs.List.{list_any};
 ghost use Rattle.iscsi_requests.specs.declared.verdict.Verdict.TheVariants.{Feeding};
 ghost use Rattle.iscsi_requests.specs.Draining.{is_awaited, drained_for, awaited_in, awaits_in, is_draining, drain_with, drain_for, judged_drain, fed_drain, judged_in, fed_in, function_tag, lacks_for, telling_place, function_at, drains_without};
-ghost use Rattle.iscsi_requests.specs.Needed.{IsUnread};
+ghost use Rattle.iscsi_requests.specs.Unread.{IsUnread};
 ghost use Rattle.iscsi_requests.specs.State.{bears, transfers_without};
 
 use crate::abort_scope::Reach;

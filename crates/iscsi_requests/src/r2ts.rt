@@ -1,6 +1,6 @@
 //! The R2Ts that ask for the data of a session's SCSI Commands.
 
-ghost use Rattle.std.specs.Prelude.{◌≡◌, ◌<◌, ◌≤◌, ◌+◌, ◌*◌, ◌%◌, ◌++◌, ◌∷◌, List, [], Some, length, flat_map, IfSome};
+ghost use Rattle.std.specs.Prelude.{◌≡◌, ◌<◌, ◌≤◌, ◌+◌, ◌*◌, ◌%◌, ◌++◌, ◌∷◌, [], Some, length, flat_map, IfSome};
 ghost use Rattle.iscsi_pdu.specs.Answer.{spelling};
 ghost use Rattle.iscsi_pdu.specs.declared.answer.Answer.{Answer as AnyAnswer};
 ghost use Rattle.iscsi_transfer.specs.WriteData.{due_asks, first};

@@ -10,7 +10,7 @@ ghost use Rattle.iscsi_transfer.specs.WriteData.{command_fault, remembered as ta
 ghost use Rattle.iscsi_requests.specs.declared.transfers.Transfer.{Transfer};
 ghost use Rattle.iscsi_requests.specs.declared.verdict.Verdict.TheVariants.{Feeding};
 ghost use Rattle.iscsi_requests.specs.Draining.{judged_in, fed_in, is_live_in};
-ghost use Rattle.iscsi_requests.specs.Needed.{IsUnread, takes_out, takes_in};
+ghost use Rattle.iscsi_requests.specs.Unread.{IsUnread, takes_out, takes_in};
 ghost use Rattle.iscsi_requests.specs.State.{no_transfers, place_with, immediate_transfers, whole_at, payload_at, removed_at, begun_transfer, reaches_some, transfers_without};
 
 use crate::abort_scope::Reach;

@@ -12,7 +12,7 @@ use Rattle.iscsi_requests.specs.Transfers.{command_with}
 use Rattle.iscsi_requests.specs.Judging.{is_refused, verdict, verdict_by, judged, judged_answers}
 use Rattle.iscsi_requests.specs.Draining.{judged_in}
 use Rattle.iscsi_requests.specs.State.{SessionState, Stands}
-use Rattle.iscsi_requests.specs.Needed.{IsUnread}
+use Rattle.iscsi_requests.specs.Unread.{IsUnread}
 use Rattle.iscsi_session.specs.Runs.{output}
 use Rattle.iscsi_session.proofs.Feeding.{judged_is}
 use Rattle.iscsi_session.proofs.Verdicts.{verdict_at, data_not_accepted}

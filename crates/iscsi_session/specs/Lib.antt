@@ -22,7 +22,7 @@ pub use Rattle.iscsi_requests.specs.Texts
 pub use Rattle.iscsi_requests.specs.State
 pub use Rattle.iscsi_requests.specs.Drained
 pub use Rattle.iscsi_requests.specs.Draining
-pub use Rattle.iscsi_requests.specs.Needed
+pub use Rattle.iscsi_requests.specs.Unread
 pub use Rattle.iscsi_requests.specs.RequestQueue
 pub mod Acts
 pub mod Comings

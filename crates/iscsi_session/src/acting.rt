@@ -1,7 +1,7 @@
 //! Executing the requests that are taken: on the pages, they act. A SCSI Command only joins the queue here, and
 //! [`Session::settle`] does it.
 
-ghost use Rattle.std.specs.Prelude.{◌≡◌, ◌≤◌, ◌<◌, ◌++◌, ◌∷◌, ℕ, List, [], None, Some, length, flat_map, true, false, if◌then◌else◌, IfOk, OnOk, OnErr};
+ghost use Rattle.std.specs.Prelude.{◌≡◌, ◌≤◌, ◌<◌, ◌++◌, ◌∷◌, ℕ, List, [], None, Some, length, flat_map, true, false, if◌then◌else◌, IfOk, OnErr};
 ghost use Rattle.scsi_unit.specs.Units.{numbers_of};
 ghost use Rattle.iscsi_session.specs.Comings.{TargetUnits};
 ghost use Rattle.iscsi_pdu.specs.Answer.{spelling};

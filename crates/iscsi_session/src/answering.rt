@@ -1,13 +1,12 @@
 //! Answering a command that is done.
 
-ghost use Rattle.std.specs.Prelude.{◌≡◌, ◌≤◌, ◌++◌, ◌∷◌, ℕ, List, drop, false, flat_map, length};
+ghost use Rattle.std.specs.Prelude.{◌≡◌, ◌≤◌, ◌++◌, ◌∷◌, ℕ, List, drop, false, length};
 ghost use Rattle.scsi_unit.specs.DiskCommands.{most_given};
-ghost use Rattle.iscsi_pdu.specs.Answer.{spelling};
 ghost use Rattle.iscsi_pdu.specs.Frames as pdu;
 ghost use Rattle.iscsi_login.specs.Values.{AreInRange};
 ghost use Rattle.iscsi_requests.specs.Requests.{Past, queue};
 ghost use Rattle.iscsi_answers.specs.Room.{room_for};
-ghost use Rattle.iscsi_requests.specs.Needed.{takes_in};
+ghost use Rattle.iscsi_requests.specs.Unread.{takes_in};
 ghost use Rattle.iscsi_requests.specs.State.{Stands};
 ghost use Rattle.iscsi_session.specs.Runs.{AnswersAs};
 

@@ -11,7 +11,7 @@ ghost use Rattle.iscsi_requests.specs.Requests.{Past, is_command as is_command_i
 ghost use Rattle.iscsi_requests.specs.Transfers.{command_with, fed};
 ghost use Rattle.iscsi_requests.specs.Judging.{verdict, request_verdict, is_refused, is_fresh, is_full, is_live, is_over, is_taken, is_faulty, task_verdict, judged, judged_answers, reject};
 ghost use Rattle.iscsi_requests.specs.Draining.{judged_in, is_live_in};
-ghost use Rattle.iscsi_requests.specs.Needed.{IsUnread, takes_in};
+ghost use Rattle.iscsi_requests.specs.Unread.{IsUnread, takes_in};
 ghost use Rattle.iscsi_requests.specs.State.{Stands, is_vacant_for, function_place, IsAcceptable, IsLawfulTask};
 
 use crate::rejecting::rejected;

@@ -9,7 +9,7 @@ ghost use Rattle.iscsi_pdu.specs.Header.{data_length, opcode_number};
 ghost use Rattle.iscsi_pdu.specs.Segment.{most_data};
 ghost use Rattle.iscsi_login.specs.Values.{AreInRange};
 ghost use Rattle.iscsi_transfer.specs.Counted.{brought};
-ghost use Rattle.iscsi_requests.specs.Needed.{takes_in};
+ghost use Rattle.iscsi_requests.specs.Unread.{takes_in};
 ghost use Rattle.iscsi_requests.specs.State.{SessionState, is_waiting};
 ghost use Rattle.iscsi_session.specs.Comings.{TargetUnits, CameAs};
 ghost use Rattle.iscsi_session.specs.Commands.{carried_out};
@@ -125,7 +125,6 @@ impl Session {
         out: &mut Outbox,
         orders: &mut Vec<Header>,
     ) -> Result<bool, Memory>
-        requires values { AreInRange self.old.params.values }
         requires out { opcode_number header.now ≡ 0x05 }
         requires short { data_length header.now ≤ most_data }
         requires untaken { takes_in self.old.transfers (brought header.now (data_length header.now)) ≡ false }

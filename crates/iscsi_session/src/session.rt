@@ -5,7 +5,7 @@ ghost use Rattle.iscsi_pdu.specs.Header.{data_length};
 ghost use Rattle.iscsi_pdu.specs.Segment.{most_data};
 ghost use Rattle.iscsi_pdu.specs.declared.answer.Answer.{Answer};
 ghost use Rattle.iscsi_transfer.specs.Counted.{brought};
-ghost use Rattle.iscsi_requests.specs.Needed.{takes_in};
+ghost use Rattle.iscsi_requests.specs.Unread.{takes_in};
 ghost use Rattle.iscsi_requests.specs.Requests.{Past, begun, bearing, stamp, answering};
 ghost use Rattle.iscsi_requests.specs.State.{remembered, Stands, whole_at, place_for, is_waiting};
 

@@ -1,6 +1,6 @@
 //! The Task Management Function Requests of a session.
 
-ghost use Rattle.std.specs.Prelude.{◌≡◌, ◌≤◌, ◌<◌, ◌++◌, ◌∷◌, ◌==◌, ℕ, List, [], is_some, length, flat_map, true, false, not, IsTrue, IfOk, OnOk, OnErr};
+ghost use Rattle.std.specs.Prelude.{◌≡◌, ◌≤◌, ◌<◌, ◌++◌, ◌∷◌, ◌==◌, ℕ, List, [], is_some, length, true, false, not, IsTrue, IfOk, OnOk, OnErr};
 ghost use Rattle.iscsi_pdu.specs.Answer.{spelling};
 ghost use Rattle.iscsi_pdu.specs.Frames as pdu;
 ghost use Rattle.iscsi_pdu.specs.TaskManagement.{ref_cmd_sn};
@@ -9,7 +9,7 @@ ghost use Rattle.iscsi_requests.specs.Requests.{Past, frame_of, due, numbers as 
 ghost use Rattle.iscsi_requests.specs.Functions.{own_reach, reached, awaited, refers_back, abort_finds, plugs as plugs_in, abort_result, function_result, function_answer};
 ghost use Rattle.iscsi_session.specs.Acts.{ended, behind};
 ghost use Rattle.iscsi_session.specs.Runs.{ActsAs, output};
-ghost use Rattle.iscsi_requests.specs.Needed.{takes_in};
+ghost use Rattle.iscsi_requests.specs.Unread.{takes_in};
 ghost use Rattle.iscsi_requests.specs.State.{Stands, function_place, immediate_functions, function_removed, is_vacant, waiting};
 
 use crate::act::Act;

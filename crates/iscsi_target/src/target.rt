@@ -1,21 +1,16 @@
 //! The target: the state of all connections and all units.
 
-ghost use Rattle.std.specs.Prelude.{◌≡◌, ◌<◌, ◌≤◌, ◌+◌, ◌++◌, ◌∷◌, ℕ, List, [], true, false, not, ◌&&◌, length, IsOk, IfOk, IfErr, IfSome, IfNone, OnOk, OnErr};
-ghost use Rattle.std.specs.Result.{IsErrOf};
-ghost use Rattle.iscsi_pdu.specs.Frames.{has_frame, is_long};
+ghost use Rattle.std.specs.Prelude.{◌≡◌, ◌<◌, ◌≤◌, ◌+◌, ◌++◌, ◌∷◌, ℕ, List, [], true, false, not, length, IsOk, IfOk, IfErr, IfSome, IfNone, OnOk};
 ghost use Rattle.iscsi_pdu.specs.Header.{header_length};
-ghost use Rattle.iscsi_world.specs.Bounded.{AddsAtMost, Bounded};
-ghost use Rattle.iscsi_world.specs.History.{Open, Bytes, Gone, Mark, History, arrivals, plain, marked};
-ghost use Rattle.iscsi_world.specs.World.{Setting, present, world};
-ghost use Rattle.iscsi_world.specs.Machine.{LinkState, Machine, ReflectsSoundness, WhereSound, IsSure, Feeds, KeepsPart, free_link, opened_link, new_machine, link_at, with_link, closed, joined_session, shut_older, begun, logged_in, is_logging_in, GivesFrame, is_reading, is_settled, is_with, target_in, is_open_at, is_closing, want_of};
-ghost use Rattle.iscsi_world.specs.declared.phase.Phase.TheVariants.{Login};
-ghost use Rattle.iscsi_login.specs.LoginState.{LoginState, IsTargetBelow};
+ghost use Rattle.iscsi_world.specs.Bounded.{Bounded};
+ghost use Rattle.iscsi_world.specs.History.{Open, Bytes, Gone, Mark, History, plain, marked};
+ghost use Rattle.iscsi_world.specs.World.{Setting, world};
+ghost use Rattle.iscsi_world.specs.Machine.{LinkState, Machine, ReflectsSoundness, WhereSound, IsSure, Feeds, KeepsPart, free_link, opened_link, new_machine, link_at, with_link, closed, is_reading, is_settled, is_with, target_in, is_open_at, is_closing, want_of};
 ghost use Rattle.iscsi_target.specs.Feeding.{LendsRoomAt, LacksRoom, TakesPiece};
 ghost use Rattle.iscsi_target.specs.Rooms.{filled_in};
 ghost use Rattle.iscsi_target.specs.Known.{known_in};
-ghost use Rattle.iscsi_login.specs.Values.{AreInRange};
 ghost use Rattle.iscsi_world.specs.Stands.{Stands, StandsAfter, IsStarved, with_sent};
-ghost use Rattle.iscsi_world.specs.Serving.{Takes, TakesOne, TakesAll, Preserves, first_starved, ended_unless, starved_by};
+ghost use Rattle.iscsi_world.specs.Serving.{Takes, first_starved, ended_unless, starved_by};
 
 use crate::config::Config;
 use iscsi_connection::{Connection, Connections};

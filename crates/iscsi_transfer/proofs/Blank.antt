@@ -3,7 +3,7 @@ use Rattle.std.proofs.Common.{◌≡◌, ℕ, ◌+◌, List, ◌++◌, length, r
 use Rattle.std.proofs.lemmas.List.{length-append, length-replicate}
 use Rattle.iscsi_pdu.specs.Frames.{Frame}
 use Rattle.iscsi_transfer.specs.Counted.{brought}
-use Rattle.iscsi_transfer.specs.WriteData.{WriteDataState, blank, filled, grown, lacks_data, due_asks, is_asked, fault_of, with_data, with_asked}
+use Rattle.iscsi_transfer.specs.WriteData.{WriteDataState, blank, filled, due_asks, is_asked, fault_of, with_data, with_asked}
 
 pub long_of : (zeros items : List ℕ) → zeros ≡ replicate (length items) 0 → length zeros ≡ length items
 long_of zeros items e = ap length e ∙ length-replicate (length items) 0
@@ -36,18 +36,8 @@ fault_blank task out = fault_same task (blank task).payload out (blank_long task
 pub filled_blank : (task : WriteDataState) → filled (blank task) ≡ filled task
 filled_blank task = rw (← blank_long task) refl
 
-pub lacks_blank : (task : WriteDataState) → lacks_data (blank task) ≡ lacks_data task
-lacks_blank task = rw (← blank_long task) refl
-
-pub due_blank : (task : WriteDataState) → due_asks (blank task) ≡ due_asks task
-due_blank task = rw (← blank_long task) refl
-
 pub asked_blank : (task : WriteDataState) → is_asked (blank task) ≡ is_asked task
 asked_blank task = rw (← blank_long task) refl
-
-pub with_asked_blank : (task : WriteDataState) (tags : List ℕ) → blank (with_asked tags task) ≡ with_asked tags (blank task)
-unfolding with_asked
-with_asked_blank task tags = rw (← blank_long task) refl
 
 pub with_blank : (task : WriteDataState) (out : Frame) → blank (with_data (blank task) out) ≡ blank (with_data task out)
 unfolding with_data
@@ -68,9 +58,6 @@ with_zeros task out n e = ap (λ (k : ℕ). replicate k 0) (length-append task.p
 with_brought : (task : WriteDataState) (out : Frame) → blank (with_data task (brought out.header (length out.body))) ≡ blank (with_data task out)
 unfolding with_data
 with_brought task out = rw (length-append task.payload (replicate (length out.body) 0), length-append task.payload out.body, length-replicate {A = ℕ} (length out.body) 0) refl
-
-filled_brought : (task : WriteDataState) (out : Frame) → filled (grown task (brought out.header (length out.body))) ≡ filled (grown task out)
-filled_brought task out = rw (length-append task.payload (replicate (length out.body) 0), length-append task.payload out.body, length-replicate {A = ℕ} (length out.body) 0) refl
 
 pub brought_is : (task : WriteDataState) (out : Frame) (header : List ℕ) (size : ℕ) → header ≡ out.header → size ≡ length out.body
     → blank (with_data task (brought header size)) ≡ blank (with_data task out)

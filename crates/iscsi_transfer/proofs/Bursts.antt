@@ -2,7 +2,7 @@
 use Rattle.std.proofs.Common.{◌≡◌, ℕ, zero, suc, ◌+◌, ◌-◌, ◌*◌, ◌/◌, ◌%◌, ◌<◌, ◌≤◌, min, ◌++◌, length, Bool, true, false, not, ◌&&◌, ap, ◌∙◌, arith, length-append}
 use Rattle.std.specs.Prelude.{if◌then◌else◌}
 use Rattle.std.specs.Int.{div_ceil}
-use Rattle.std.proofs.Math.Nat.{add-mul, mul-le-mul_right, div-mul-le_self, lt_of_mul-lt-mul_right}
+use Rattle.std.proofs.Math.Nat.{add-mul, div-mul-le_self, lt_of_mul-lt-mul_right}
 use Rattle.std.proofs.lemmas.Nat.{div-add-mod', le-div}
 use Rattle.std.proofs.lemmas.Grind.{div_ceil_times}
 use Rattle.iscsi_pdu.specs.Frames.{Frame}
@@ -67,11 +67,3 @@ not_all p start burst end some behind less =
     let low = div-mul-le_self (p - start) burst in
     let below : (p - start) / burst * burst < div_ceil (end - start) burst * burst = omega (arith, reach, low, behind, less) in
     lt_of_mul-lt-mul_right burst below
-
--- the next of those that are wanted begins before the end
-pub begins_before : (k start burst end : ℕ) → 1 ≤ burst → k < div_ceil (end - start) burst → start + k * burst < end
-begins_before k start burst end some less =
-    let above : div_ceil (end - start) burst * burst < (end - start) + burst = (div_ceil_times (end - start) burst (omega arith)).1 in
-    let step = add-mul k 1 burst in
-    let up : (k + 1) * burst ≤ div_ceil (end - start) burst * burst = mul-le-mul_right burst (omega (arith, less)) in
-    omega (arith, above, step, up)

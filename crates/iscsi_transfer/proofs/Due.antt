@@ -60,9 +60,6 @@ pub sent_is_due_no_more : SentIsDueNoMore
 unfolding with_asked
 sent_is_due_no_more task tag = rest_if (lacks_data task) (ask task) task.sent (allowed task)
 
-pub asks_then : (tag : ℕ) (task : WriteDataState) (one : Ask) (rest : List Ask) → due_asks task ≡ one ∷ rest → due_asks (with_asked (tag ∷ []) task) ≡ rest
-asks_then tag task one rest is = sent_is_due_no_more task tag ∙ ap (drop 1) is
-
 -- ---- how many
 
 many_if : (b : Bool) (f : ℕ → Ask) (a n m : ℕ) → m ≤ length (if b then map f (range_with_len a (n - a)) else []) → m ≤ n - a

@@ -1,9 +1,9 @@
 //! The data of a SCSI Command on its way from the initiator.
 
-ghost use Rattle.std.specs.Prelude.{◌≡◌, ◌+◌, ◌*◌, ◌^◌, ◌<◌, ◌≤◌, [], ◌∷◌, ◌⊎◌, length, true, IfOk, IfErr, OnOk, OnErr, IfNone, Some, None};
+ghost use Rattle.std.specs.Prelude.{◌≡◌, ◌^◌, ◌<◌, ◌≤◌, [], ◌∷◌, ◌⊎◌, length, true, IfOk, IfErr, OnOk, OnErr, Some, None};
 ghost use Rattle.iscsi_pdu.specs.Frames.{Frame as FrameState};
 ghost use Rattle.iscsi_transfer.specs.Payload.{Past, begun, accepted, asked as asked_in, announces, expected as expected_in};
-ghost use Rattle.iscsi_transfer.specs.WriteData.{blank, remembered, command_fault as command_fault_in, fault_of as fault_in, with_data, with_asked, due_asks, first, is_due, is_asked, is_whole as is_whole_in, wanted as wanted_in, next_ask, sequence_tag, sequence_end, ends_rightly, lacks_data};
+ghost use Rattle.iscsi_transfer.specs.WriteData.{blank, remembered, command_fault as command_fault_in, fault_of as fault_in, with_data, with_asked, due_asks, first, is_due, is_asked, is_whole as is_whole_in, lacks_data};
 ghost use Rattle.iscsi_transfer.specs.declared.fault.DataFault.TheVariants.{Memory};
 
 use crate::fault::DataFault;

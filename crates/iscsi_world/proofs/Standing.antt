@@ -1,6 +1,5 @@
 -- Between two events: the beginning, and the events that open and end a connection.
-use Rattle.std.proofs.Common.{◌≡◌, ◌≢◌, ℕ, zero, suc, ◌+◌, ◌<◌, ◌≤◌, List, [], ◌∷◌, ◌++◌, length, map, drop, set, replicate, Bool, true, false, not, eqb, Option, Some, None, refl, sym, ap, ◌∙◌, subst, arith}
-use Rattle.std.specs.List.{range_with_len}
+use Rattle.std.proofs.Common.{◌≡◌, ◌≢◌, ℕ, ◌+◌, ◌<◌, ◌≤◌, List, [], ◌∷◌, ◌++◌, length, drop, set, Bool, true, false, not, eqb, Option, Some, None, refl, sym, ap, ◌∙◌, subst, arith}
 use Rattle.std.proofs.lemmas.Bool.{ne_eqb}
 use Rattle.std.proofs.lemmas.List.{set-set, length-drop, drop-drop, set-get_or}
 use Rattle.iscsi_pdu.specs.Frames.{is_long}
@@ -146,10 +145,6 @@ stands_sent s sent other machine history same h = grind (arith, machine_same)
 none_at_first : (s : Setting) (c : ℕ) → present c (new_world s) ≡ None
 unfolding present
 none_at_first s c = refl
-
-new_links : (n : ℕ) (link : LinkState) (a : ℕ) → map (λ (c : ℕ). link) (range_with_len a n) ≡ replicate n link
-new_links zero link a = refl
-new_links (suc n) link a = ap (λ (l : List LinkState). link ∷ l) (new_links n link (a + 1))
 
 new_is : (s : Setting) → new_machine s.directory s.units ≡ machine_of s (λ c. 0) (new_world s)
 unfolding machine_with present

@@ -1,7 +1,5 @@
 -- The whole frames of a piece are taken, one after the other.
 use Rattle.std.proofs.Common.{◌≡◌, ℕ, ◌+◌, ◌<◌, ◌≤◌, List, [], ◌∷◌, ◌++◌, length, drop, Bool, true, false, Option, Some, None, refl, sym, ap, ◌∙◌, subst, arith, append_assoc}
-use Rattle.std.specs.Prelude.{All, slice_index_or}
-use Rattle.scsi_unit.specs.Units.{UnitStates, AreSound, AreSure}
 use Rattle.std.specs.List.{fold, enumerate_from}
 use Rattle.std.proofs.lemmas.List.{append-nil, length-append, set-get_or, get_or-set_same}
 use Rattle.iscsi_pdu.specs.Frames.{Frame, frames, rest, is_long, has_frame, first_frame, frame_length}
@@ -11,9 +9,8 @@ use Rattle.iscsi_pdu.proofs.Cuts.{frames_in_pieces, long_is_no_frame}
 use Rattle.iscsi_pdu.proofs.DataOuts.{is_data_out-header}
 use Rattle.iscsi_world.specs.History.{Arriving, Mark, Arrival, Whole, TooLong, arrivals, connection_limit}
 use Rattle.iscsi_world.specs.World.{Setting, World, present, reads_life, close, reaching, arrive}
-use Rattle.iscsi_world.specs.Machine.{LinkState, Machine, Feeds, link_at, with_link, is_reading, closed, free_link, shut_link, GivesFrame}
-use Rattle.iscsi_world.specs.Bounded.{AddsAtMost}
-use Rattle.iscsi_world.specs.Serving.{Serves, ActsAs, is_of_frame, is_among, first_of, with_half, KeepsHalf, Preserves, TakesFrame, Leaves, TakesOne, TakesSome, TakesAll}
+use Rattle.iscsi_world.specs.Machine.{LinkState, Machine, link_at, with_link, is_reading, closed, free_link, shut_link}
+use Rattle.iscsi_world.specs.Serving.{Serves, ActsAs, is_of_frame, is_among, first_of, with_half, KeepsHalf, Preserves, Leaves, TakesOne, TakesSome, TakesAll}
 use Rattle.iscsi_world.proofs.Arrivals.{fold-places}
 use Rattle.iscsi_world.proofs.Linked.{link_is, reads_there, some_reads, serves_one, serves_as, serves_world, serves_reaching, closes, present-close, present-reaching, units_with}
 use Rattle.iscsi_world.proofs.Standing.{nothing_long, machine_same}
@@ -23,10 +20,10 @@ use Rattle.iscsi_world.proofs.Keeping.{goes}
 use Rattle.iscsi_world.proofs.Doing.{Act, Halves, does_nothing, does_from, does_then}
 use Rattle.iscsi_world.proofs.Comings.{comings_close}
 use Rattle.iscsi_world.proofs.Frames.{idle, arrived, starves}
-use Rattle.iscsi_world.proofs.Apart.{part_closed, part_halved, part_as, part_then}
+use Rattle.iscsi_world.proofs.Apart.{part_closed, part_as, part_then}
 use Rattle.iscsi_world.proofs.Bounding.{adds_then}
-use Rattle.iscsi_world.proofs.Heavier.{closed_loads, halved_adds, header_whole}
-use Rattle.iscsi_world.proofs.Moving.{keeps_same, link_other, Changes, own_self, feeds_then, closed_then, changes_feeds, closed_moves, starved_moves, moves_as, moves_none}
+use Rattle.iscsi_world.proofs.Heavier.{closed_loads}
+use Rattle.iscsi_world.proofs.Moving.{keeps_same, Changes, own_self, feeds_then, closed_then, closed_moves, starved_moves, moves_as, moves_none}
 
 -- ---- the bytes that are kept
 
@@ -100,48 +97,6 @@ pub halved_reads : (old given : Machine) (c : ℕ) (half : List ℕ) → c < con
     → given ≡ with_link old c (record (link_at old c) { half = half }) → is_reading (link_at old c).phase ≡ true
     → is_reading (link_at given c).phase ≡ true
 halved_reads old given c half lt count is r = ap (λ (l : LinkState). is_reading l.phase) (halved_link old given c half lt count is) ∙ r
-
--- a frame that was given
-pub takes_frame : (old given new : Machine) (c : ℕ) (frame : Frame) (starved : Option ℕ) → c < connection_limit
-    → length old.links ≡ connection_limit → is_reading (link_at old c).phase ≡ true
-    → GivesFrame frame (link_at old c).half (link_at given c).half → given ≡ with_link old c (record (link_at old c) { half = (link_at given c).half })
-    → TakesFrame c frame starved given new → TakesOne c starved old new
-takes_frame old given new c frame starved lt count r gives is taken =
-    let takes = taken.takes in
-    let moves = taken.moves in
-    let loads = taken.loads (header_whole (link_at old c).half frame _ gives.first) in
-    let more = (link_at given c).half in
-    let link = halved_link old given c more lt count is in
-    let reads_given = halved_reads old given c more lt count is r in
-    let fed : Feeds c old given = (let P : Machine → Type 0 = λ m. Feeds c old m in subst P (sym is)
-    (changes_feeds c old old.units c (record (link_at old c) { half = more }) (omega (arith, count)) (halving (link_at old c) more r) (own_self c old))) in
-    record {
-      arrival = Whole frame;
-      more = more;
-      front = some_whole (link_at old c).half more frame gives.first gives.behind;
-      behind = λ e. sym gives.behind;
-      shorter = gives.shorter;
-      kept = moves.alters.keeps c reads_given;
-      does = does_from takes takes.of_kind (λ s sent half w place marks agree ahead h.
-          takes.stands s sent (with_half c more half) w place marks agree ahead
-          (serves_as s sent (with_half c more half) w (with_link old c (record (link_at old c) { half = more })) given is
-          (rehalved s sent half w old c more lt r h)));
-      leaves = record {
-        back = λ target sound. subst (λ (us : List UnitStates). AreSound (slice_index_or us target [])) (ap (λ (m : Machine). m.units) is)
-            (moves.back target sound);
-        sure = λ sure. moves.sure (subst (λ (us : List UnitStates). All AreSure us) (sym (ap (λ (m : Machine). m.units) is)) sure);
-        feeds = feeds_then c old given new fed moves.alters.feeds;
-        closing = moves.closing;
-        part = part_then c old given new reads_given (part_as c old (with_link old c (record (link_at old c) { half = more })) given is
-            (part_halved old c more (omega (arith, count)))) taken.part;
-        eases = λ d other. subst (λ (l : LinkState). AddsAtMost 0 l (link_at new d)) (ap (λ (m : Machine). link_at m d) is
-            ∙ link_other old old.units c d (record (link_at old c) { half = more }) other) (moves.alters.eases d other);
-        keeps = λ d other. (let P : LinkState → Type 0 = λ l. is_reading l.phase ≡ true → KeepsHalf l.half (link_at new d) in
-            subst P (ap (λ (m : Machine). link_at m d) is ∙ link_other old old.units c d (record (link_at old c) { half = more }) other)
-            (moves.alters.keeps d));
-        loads = halved_adds 1 (link_at old c) (link_at new c) more (subst (λ (l : LinkState). AddsAtMost 1 l (link_at new c)) link loads);
-      };
-    }
 
 -- it is closed
 closes_leaves : (c : ℕ) (starved : Option ℕ) (old new : Machine) → c < length old.links → new ≡ closed old c → Preserves c starved old new

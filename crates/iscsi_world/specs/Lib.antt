@@ -31,7 +31,6 @@ pub mod Output
 pub mod Machine
 pub mod SessionCalls
 pub mod Bounded
-pub mod HalfRead
 pub mod Stands
 pub mod Serving
 pub mod Isolation

@@ -1,7 +1,5 @@
 //! The error that the target returns if memory runs out.
 
-ghost use Rattle.std.specs.Prelude.{◌≡◌};
-
 use target_limits::Memory;
 use thiserror::Error;
 

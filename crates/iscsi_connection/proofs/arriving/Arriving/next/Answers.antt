@@ -30,7 +30,7 @@ returns-clause-given c = elim c.match-take.branch [
       let next = w.in_ok-next-in-None.ensures in
       gives_as w.in-Some-3.frame _ _ c.self.inside.framer _ w.next.new.self (ap frame_of w.arrived-is)
       (ap bytes_in (sym c.self.view_is) ∙ ap (λ o. rest_in o ++ c.self.inside.framer) none)
-      (c.take_rest-rest.ensures.rest ∙ ap (λ (a : ArrivingState). a.behind) w.self-is)
+      (c.take_rest-rest.ensures.rest ∙ ap (λ (a : ArrivingState). a.after) w.self-is)
       (gives_frame w.in-Some-3.frame c.self.inside.framer w.next.new.self (rw w.in-Some-3.is at next.whole) (rw w.in-Some-3.is at next.taken)
       (rw w.in-Some-3.is at next.frames) (rw w.in-Some-3.is at next.rest)))
   | in-Some w ↦ (
@@ -38,7 +38,7 @@ returns-clause-given c = elim c.match-take.branch [
       gives_as (first_frame w.in-Some.passing) _ _ (w.in-Some.passing ++ c.self.inside.framer) _ c.self.inside.framer
       (ap frame_of w.arrived-is ∙ w.into_passed.ensures)
       (ap bytes_in (sym c.self.view_is) ∙ ap (λ o. rest_in o ++ c.self.inside.framer) some)
-      (c.take_rest-rest.ensures.rest ∙ ap (λ (a : ArrivingState). a.behind) w.self-is)
+      (c.take_rest-rest.ensures.rest ∙ ap (λ (a : ArrivingState). a.after) w.self-is)
       (gives_ahead w.in-Some.passing c.self.inside.framer w.is_whole.ensures.passing (sym w.is_whole.ensures.whole ∙ w.if-is_whole.true)))
 ]
 

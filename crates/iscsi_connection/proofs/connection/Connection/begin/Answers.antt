@@ -2,10 +2,9 @@ use Rattle.std.proofs.Common.{◌≡◌, ◌++◌, ◌∙◌, true, refl, ap}
 use Rattle.iscsi_pdu.specs.Answer.{spelling}
 use Rattle.iscsi_world.specs.Machine.{LinkState, is_reading}
 use Rattle.std.proofs.Common.{inr, sym, subst}
-use Rattle.iscsi_world.specs.HalfRead.{out_in}
 use Rattle.iscsi_world.specs.declared.phase.Phase.{Phase}
 use Rattle.iscsi_world.specs.declared.phase.Phase.TheVariants.{FullFeature}
-use Rattle.iscsi_connection.specs.Arriving.{IsUntaken}
+use Rattle.iscsi_connection.specs.Arriving.{IsUntaken, out_in}
 use Rattle.iscsi_connection.proofs.Ahead.{begun_untaken}
 use Rattle.iscsi_connection.proofs.connection.Connection.begin.Goals as goal
 

@@ -1,8 +1,7 @@
 use Rattle.std.proofs.Common.{inr, sym, ap, ◌∙◌, subst}
-use Rattle.iscsi_world.specs.HalfRead.{out_in}
 use Rattle.iscsi_world.specs.declared.phase.Phase.{Phase}
 use Rattle.iscsi_world.specs.declared.phase.Phase.TheVariants.{FullFeature}
-use Rattle.iscsi_connection.specs.Arriving.{IsUntaken}
+use Rattle.iscsi_connection.specs.Arriving.{IsUntaken, out_in}
 use Rattle.iscsi_connection.proofs.Ahead.{begun_untaken}
 use Rattle.iscsi_connection.proofs.connection.Connection.begin_discovery.Goals as goal
 

@@ -1,4 +1,4 @@
-use Rattle.std.proofs.Common.{◌≡◌, ℕ, ◌+◌, ◌-◌, List, [], ◌++◌, length, take, drop, refl, sym, ap, ◌∙◌, subst, arith, append_assoc}
+use Rattle.std.proofs.Common.{◌≡◌, ℕ, ◌+◌, ◌-◌, List, ◌++◌, length, take, drop, sym, ap, ◌∙◌, subst, arith, append_assoc}
 use Rattle.iscsi_pdu.specs.Header.{data_length}
 use Rattle.iscsi_pdu.specs.Parts.{HoldsOne, Takes}
 use Rattle.iscsi_pdu.specs.declared.part.Part.TheVariants as parts

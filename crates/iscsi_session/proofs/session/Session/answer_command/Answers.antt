@@ -8,7 +8,7 @@ use Rattle.iscsi_login.specs.declared.session_params.SessionParams.{SessionParam
 use Rattle.iscsi_requests.specs.Requests.{frame_of, stamp, finished}
 use Rattle.iscsi_answers.specs.Answers.{command_answers}
 use Rattle.iscsi_answers.specs.Room.{room_for}
-use Rattle.iscsi_requests.specs.Needed.{takes_in}
+use Rattle.iscsi_requests.specs.Unread.{takes_in}
 use Rattle.iscsi_requests.specs.State.{SessionState, TransferList, removed_at, place_with}
 use Rattle.iscsi_requests.proofs.Unread.{untaken_removed}
 use Rattle.iscsi_pdu.specs.Header.{initiator_task_tag}

@@ -4,7 +4,7 @@ use Rattle.iscsi_pdu.specs.Header.{data_length}
 use Rattle.iscsi_transfer.specs.Counted.{brought}
 use Rattle.iscsi_requests.specs.declared.verdict.Verdict.TheVariants.{Feeding}
 use Rattle.iscsi_requests.specs.Draining.{judged_in, judged_drain, drain_for}
-use Rattle.iscsi_requests.specs.Needed.{IsUnread}
+use Rattle.iscsi_requests.specs.Unread.{IsUnread}
 use Rattle.iscsi_requests.specs.State.{SessionState, Stands}
 use Rattle.iscsi_requests.proofs.Unread.{unread_frame, drains_unread}
 use Rattle.iscsi_session.proofs.Feeding.{stands_fed}

@@ -1,7 +1,7 @@
 use Rattle.std.proofs.Common.{◌≡◌, false, sym, ap, ◌∙◌, subst}
 use Rattle.iscsi_login.specs.declared.session_params.SessionParams.{SessionParams}
 use Rattle.iscsi_requests.specs.Judging.{is_refused}
-use Rattle.iscsi_requests.specs.Needed.{IsUnread}
+use Rattle.iscsi_requests.specs.Unread.{IsUnread}
 use Rattle.iscsi_requests.specs.State.{SessionState, Stands}
 use Rattle.iscsi_session.proofs.Parts.{parts}
 use Rattle.iscsi_session.proofs.Unread.{unread_is}

@@ -1,5 +1,5 @@
 use Rattle.std.proofs.Common.{sym, ap, subst, ◌∙◌}
-use Rattle.iscsi_requests.specs.Needed.{takes_in}
+use Rattle.iscsi_requests.specs.Unread.{takes_in}
 use Rattle.iscsi_requests.specs.State.{SessionState, Stands}
 use Rattle.iscsi_requests.proofs.Unread.{untaken_without}
 use Rattle.iscsi_session.proofs.Removing.{stands_removing}

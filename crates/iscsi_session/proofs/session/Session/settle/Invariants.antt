@@ -1,6 +1,6 @@
 use Rattle.std.proofs.Common.{◌≡◌, ◌++◌, ℕ, List, [], length, false}
 use Rattle.iscsi_pdu.specs.Frames.{Frame}
-use Rattle.iscsi_requests.specs.Needed.{takes_in}
+use Rattle.iscsi_requests.specs.Unread.{takes_in}
 use Rattle.scsi_unit.specs.Units.{AreSound, AreSure}
 use Rattle.iscsi_session.specs.Comings.{CameAs}
 use Rattle.iscsi_session.specs.Runs.{output}
