@@ -1,6 +1,6 @@
 //! The bytes of a connection that have come and are not taken.
 
-ghost use Rattle.std.specs.Prelude.{◌≡◌, ◌+◌, ◌≤◌, ◌++◌, ℕ, List, [], length, take, drop, true, Some, None, IfOk, IfSome, IfNone, OnOk, OnErr};
+ghost use Rattle.std.specs.Prelude.{◌≡◌, ◌+◌, ◌≤◌, ◌++◌, ℕ, List, [], length, take, drop, true, Some, None, IfOk, IfSome, IfNone, IsSome, OnOk, OnErr};
 ghost use Rattle.std.specs.Result.{IsErrOf};
 ghost use Rattle.iscsi_pdu.specs.Header.{header_length};
 ghost use Rattle.iscsi_pdu.specs.Frames.{has_frame, is_long, wanted};
@@ -135,19 +135,32 @@ impl Arriving {
         ensures memory { IsErrOf result PduFault.Memory → has_frame (bytes_in self.old) ≡ true }
         ensures err { OnErr result (self.new ≡ self.old) }
     {
-        let arrived = match self.passing.take() {
+        match &self.passing {
             None => match self.framer.next()? {
-                None => return Ok(None),
-                Some(frame) => Arrived::Whole(frame),
+                None => Ok(None),
+                Some(frame) => Ok(Some(Taken {
+                    arrived: Arrived::Whole(frame),
+                    rest: self.take_rest(),
+                })),
             },
-            Some(passing) if passing.is_whole() => Arrived::Passed(passing.into_passed()),
-            Some(passing) => {
-                self.passing = Some(passing);
-                return Ok(None);
-            }
-        };
-        let rest = self.take_rest();
-        Ok(Some(Taken { arrived, rest }))
+            Some(passing) if passing.is_whole() => Ok(self.take_passed()),
+            Some(_) => Ok(None),
+        }
+    }
+
+    /// Takes the Data-Out in front, which is whole, with all bytes after it.
+    fn take_passed(&mut self) -> Option<Taken>
+        requires { has_frame self.old.passing ≡ true }
+        ensures given { IfSome result (λ t. GivesFrame (frame_of t.arrived) (bytes_in self.old) (rest_in t.rest)) }
+        ensures left { IfSome result (λ _. self.new ≡ record { passing = []; after = [] }) }
+        ensures passed { IfSome result (λ t. IsOfPassing t.arrived self.old.passing) }
+        ensures some { IsSome result }
+    {
+        let passing = self.passing.take()?;
+        Some(Taken {
+            arrived: Arrived::Passed(passing.into_passed()),
+            rest: self.take_rest(),
+        })
     }
 
     /// Takes the bytes after a PDU, if there are any.
