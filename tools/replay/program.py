@@ -44,7 +44,12 @@ def command(program, run):
 
 def at_once(program, run, count, **settings):
     """Runs the first lines of a case, which are all there from the beginning."""
-    sent = b"".join(step.sent for step in run.steps[:count])
+    return lines_at_once(program, run, [step.sent for step in run.steps[:count]], **settings)
+
+
+def lines_at_once(program, run, lines, **settings):
+    """Runs a case on these lines, which are all there from the beginning."""
+    sent = b"".join(lines)
     with folder_with(run.files) as folder, tempfile.TemporaryFile() as given:
         given.write(sent)  # a pipe would take it in pieces, each of which wakes the program
         given.seek(0)
