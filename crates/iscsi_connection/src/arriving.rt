@@ -1,6 +1,6 @@
 //! The bytes of a connection that have come and are not taken.
 
-ghost use Rattle.std.specs.Prelude.{◌≡◌, ◌+◌, ◌≤◌, ◌++◌, ℕ, List, [], length, take, drop, true, Some, None, IfOk, IfSome, IfNone, IsSome, OnOk, OnErr};
+ghost use Rattle.std.specs.Prelude.{◌≡◌, ◌+◌, ◌≤◌, ◌++◌, ℕ, List, [], length, take, drop, true, false, Some, None, IfOk, IfSome, IfNone, IsSome, OnOk, OnErr};
 ghost use Rattle.std.specs.Result.{IsErrOf};
 ghost use Rattle.iscsi_pdu.specs.Header.{header_length};
 ghost use Rattle.iscsi_pdu.specs.Frames.{has_frame, is_long, wanted};
@@ -124,6 +124,16 @@ impl Arriving {
         self.framer.take_room(lent, count);
     }
 
+    /// Returns whether [`Arriving::next`] returns something: a PDU is whole, or its header names too much data.
+    pub(crate) fn has_next(&self) -> bool
+        ensures { result ≡ false → arrivals (bytes_in self.now) ≡ [] }
+    {
+        match &self.passing {
+            Some(passing) => passing.is_whole(),
+            None => self.framer.has_next(),
+        }
+    }
+
     /// Takes the first whole PDU, with all bytes after it. Returns `None` if no PDU is whole yet.
     pub(crate) fn next(&mut self) -> Result<Option<Taken>, PduFault>
         ensures given { IfOk result (λ o. IfSome o (λ t. GivesFrame (frame_of t.arrived) (bytes_in self.old) (rest_in t.rest))) }
@@ -149,6 +159,7 @@ impl Arriving {
     }
 
     /// Takes the Data-Out in front, which is whole, with all bytes after it.
+    #[inline(never)]
     fn take_passed(&mut self) -> Option<Taken>
         requires { has_frame self.old.passing ≡ true }
         ensures given { IfSome result (λ t. GivesFrame (frame_of t.arrived) (bytes_in self.old) (rest_in t.rest)) }

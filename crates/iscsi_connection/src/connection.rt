@@ -190,6 +190,14 @@ impl Connection {
         }
     }
 
+    /// Returns whether [`Connection::next_frame`] returns something: a PDU is whole, or its header names too much data.
+    pub fn has_next(&self) -> bool
+        requires { is_reading self.now.phase ≡ true }
+        ensures { result ≡ false → arrivals self.now.half ≡ [] }
+    {
+        self.arriving.has_next()
+    }
+
     /// Takes the first whole PDU, with all bytes after it, which [`Connection::put_back`] puts back. Returns `None` if no PDU
     /// is whole yet.
     pub fn next_frame(&mut self) -> Result<Option<Taken>, PduFault>

@@ -1,6 +1,6 @@
 //! Cutting the bytes of a connection into frames.
 
-ghost use Rattle.std.specs.Prelude.{◌≡◌, ◌+◌, ◌<◌, ◌≤◌, ◌↔◌, ℕ, List, [], ◌∷◌, ◌++◌, length, take, drop, true, false, IsOk, IfOk, IfErr, IfSome, IfNone, OnOk, OnErr};
+ghost use Rattle.std.specs.Prelude.{◌≡◌, ◌+◌, ◌<◌, ◌≤◌, ◌↔◌, ◌||◌, ℕ, List, [], ◌∷◌, ◌++◌, length, take, drop, true, false, IsOk, IfOk, IfErr, IfSome, IfNone, OnOk, OnErr};
 ghost use Rattle.iscsi_pdu.specs.Parts.{is_data_out, HoldsOne, Takes};
 ghost use Rattle.std.specs.Result.{IsErrOf};
 ghost use Rattle.iscsi_framer.specs.Passing.{IsPassing};
@@ -177,6 +177,18 @@ impl Framer {
         }
         let body = self.take_body(additional, data)?;
         Ok(Some(Frame { header, body }))
+    }
+
+    /// Returns whether [`next`](Framer::next) returns something: a frame is whole, or its header names too much data.
+    #[tactic(auto, unfolding(iscsi_pdu::specs::Frames::has_frame, iscsi_pdu::specs::Frames::is_long, iscsi_pdu::specs::Frames::frame_length))]
+    pub fn has_next(&self) -> bool
+        ensures { result ≡ (has_frame self.now || is_long self.now) }
+    {
+        let Some(header) = self.header() else {
+            return false;
+        };
+        let data = header.data_length();
+        data > MOST_DATA || self.len() >= HEADER_LENGTH + header.additional_length() + padded(data)
     }
 
     /// Takes the next bytes of a piece. Returns how many were used, and what they brought. The data of a Data-Out is

@@ -176,6 +176,22 @@ impl<S: Store> Target<S> {
         ensures none { IfNone result (self.new ≡ self.old) }
         ensures whole { IfNone result (arrivals (link_at self.old c).half ≡ []) }
     {
+        // Most pieces end with a PDU, or within one, and no room is filled with zeros for what is not there.
+        if !self.connections.at(c).has_next() {
+            return None;
+        }
+        self.take_first(c)
+    }
+
+    /// Takes the first whole frame of a connection as [`Target::take_next`] does, which has seen that there is one.
+    #[inline(never)]
+    fn take_first(&mut self, c: usize) -> Option<Result<(), Starved>>
+        requires in_range { c < 64 }
+        requires reads { is_reading (link_at self.old c).phase ≡ true }
+        ensures takes { IfSome result (λ taken. TakesOne c (first_starved taken) self.old self.new) }
+        ensures none { IfNone result (self.new ≡ self.old) }
+        ensures whole { IfNone result (arrivals (link_at self.old c).half ≡ []) }
+    {
         match self.next_frame(c) {
             Ok(Some(Taken { arrived, rest })) => {
                 let taken = self.take_frame(c, arrived);

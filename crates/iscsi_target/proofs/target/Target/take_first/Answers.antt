@@ -3,7 +3,7 @@ use Rattle.iscsi_world.specs.Machine.{Machine, closed, link_at, with_link, Gives
 use Rattle.iscsi_world.proofs.PutBack.{takes_arrived}
 use Rattle.iscsi_world.proofs.Taking.{takes_long, takes_none, takes_as}
 use Rattle.iscsi_connection.specs.Arriving.{frame_of, rest_in}
-use Rattle.iscsi_target.proofs.target.Target.take_next.Goals as goal
+use Rattle.iscsi_target.proofs.target.Target.take_first.Goals as goal
 
 pub returns-in-Ok-Some-clause-takes : goal.returns-in-Ok-Some-clause-takes
 returns-in-Ok-Some-clause-takes g c =
