@@ -1,11 +1,11 @@
 -- That each connection that is ready has its turn.
-use Rattle.std.proofs.Common.{◌≡◌, ℕ, ◌+◌, ◌<◌, List, Bool, true, false, ◌&&◌, ◌||◌, not, ◌==◌, eq-eqb, Option, Some, None, refl, sym, ap, ◌∙◌, inl, inr}
+use Rattle.std.proofs.Common.{◌≡◌, ℕ, ◌+◌, ◌<◌, List, Bool, true, false, ◌&&◌, ◌||◌, not, eq-eqb, Option, Some, None, refl, sym, ap, ◌∙◌, inl, inr}
 use Rattle.std.specs.Prelude.{nat_le, nat_lt, slice_set, length, if◌then◌else◌}
-use Rattle.std.proofs.lemmas.Bool.{false≢true, eqb-true, ne_eqb, cases_eq, lt-ltb}
+use Rattle.std.proofs.lemmas.Bool.{false≢true, eqb-true, ne_eqb, cases_eq}
 use Rattle.std.proofs.lemmas.List.{get_or-set_same, get_or-set_other}
 use Rattle.target_limits.specs.Numbers.{connection_limit}
 use Rattle.iscsi_ports.specs.Flags.{flag_of}
-use Rattle.iscsi_ports.specs.Turns.{Names, NamesSome, IsFair, is_due, is_short, is_before, is_chosen, turn, start_of, first_after, cursor_for, cursor_after, turns_to}
+use Rattle.iscsi_ports.specs.Turns.{Names, NamesSome, IsFair, is_due, is_short, is_chosen, turn, start_of, cursor_for, cursor_after, turns_to}
 use Rattle.iscsi_ports.specs.declared.readiness.Readiness.{Readiness}
 use Rattle.iscsi_ports.specs.declared.turns.Turns.{Turns}
 use Rattle.iscsi_ports.proofs.TakingTurns.{by_test, turn_found, none_due, nearer}

@@ -1,11 +1,10 @@
 -- The short connections that a poll names.
-use Rattle.std.proofs.Common.{◌≡◌, ℕ, ◌+◌, ◌-◌, ◌<◌, ◌≤◌, min, List, length, Bool, true, false, ◌&&◌, not, refl, sym, ap, subst, ◌∙◌, inl, inr, arith}
+use Rattle.std.proofs.Common.{◌≡◌, ℕ, ◌+◌, ◌-◌, ◌<◌, ◌≤◌, List, length, Bool, true, false, ◌&&◌, not, refl, sym, ap, subst, ◌∙◌, inl, inr, arith}
 use Rattle.std.specs.Prelude.{nat_le, nat_lt, replicate, slice_set, if◌then◌else◌}
-use Rattle.std.proofs.lemmas.Bool.{leb-true, leb-false, le-leb, lt-leb, ltb-true, ltb-false, lt-ltb, cases_eq}
+use Rattle.std.proofs.lemmas.Bool.{leb-true, leb-false, le-leb, lt-leb, ltb-true, ltb-false, cases_eq}
 use Rattle.std.proofs.lemmas.List.{get_or-set_same, get_or-set_other, get_or-replicate, length-replicate, length-set}
 use Rattle.iscsi_ports.specs.Flags.{flag_of}
-use Rattle.iscsi_ports.specs.Turns.{is_short, is_before, short_from, start_of, first_after, IsPart, turns_to}
-use Rattle.iscsi_ports.specs.declared.turns.Part.{Part}
+use Rattle.iscsi_ports.specs.Turns.{is_short, is_before, short_from, start_of, IsPart, turns_to}
 use Rattle.iscsi_ports.specs.declared.turns.Turns.{Turns}
 use Rattle.iscsi_ports.proofs.TakingTurns.{by_test, le_or_lt, low, high, counted_here, counted_next}
 

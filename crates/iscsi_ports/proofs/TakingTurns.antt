@@ -32,9 +32,6 @@ range_next c lt =
     let more : 64 - c ≡ suc (64 - (c + 1)) = omega arith in
     ap (range_with_len c) more
 
-pub found_here : (P : ℕ → Bool) (c : ℕ) → c < 64 → P c ≡ true → Some c ≡ find P (range_with_len c (64 - c))
-found_here P c lt e = rw (range_next c lt, e) refl
-
 pub found_next : (P : ℕ → Bool) (c : ℕ) → c < 64 → P c ≡ false → find P (range_with_len c (64 - c)) ≡ find P (range_with_len (c + 1) (64 - (c + 1)))
 found_next P c lt e = rw (range_next c lt, e) refl
 

@@ -1,6 +1,6 @@
 //! When ports over sockets ask the system, and when they put off a write.
 
-ghost use Rattle.std.specs.Prelude.{◌≡◌, ◌≤◌, true, false, option_map};
+ghost use Rattle.std.specs.Prelude.{◌≡◌, true, false, option_map};
 ghost use Rattle.std.specs.Duration.{as_nanos};
 ghost use Rattle.iscsi_ports.specs.Readiness as ready;
 ghost use Rattle.iscsi_ports.specs.Polls.{wait_for};

@@ -2,7 +2,7 @@
 //!
 //! No contract says what a socket gives and takes, so whether each note is true is seen here by eye.
 
-ghost use Rattle.std.specs.Prelude.{◌≡◌, ◌≢◌, ◌<◌, ◌≤◌, ◌-◌, ◌∷◌, [], ℕ, true, false, not, ◌==◌, length, slice_index_or, Option, Some, None, is_none, option_map, Ok, IsSome, IfOk, IfErr, OnOk, OnErr};
+ghost use Rattle.std.specs.Prelude.{◌≡◌, ◌≢◌, ◌<◌, ◌≤◌, ◌-◌, ◌∷◌, [], ℕ, true, false, not, ◌==◌, length, slice_index_or, Option, Some, None, is_none, option_map, replicate, Ok, IsSome, IfOk, IfErr, OnOk, OnErr};
 ghost use Rattle.iscsi_ports.specs.Binding.{not_located, ExplainsFault};
 ghost use Rattle.std.specs.Net.Socket.{socket_ip, socket_port};
 ghost use Rattle.std.specs.Result.{IsErrOf};
@@ -84,6 +84,31 @@ pub struct MioSockets {
     ghost dropped: { AreDropped notes },
 }
 
+/// What is allocated for polls and connections.
+#[derive(Drop)]
+struct Room {
+    events: Events,
+    streams: Vec<Option<TcpStream>>,
+    ahead: Vec<Option<ReadBuffer>>,
+    spares: Spares,
+    lingering: LingeringSockets,
+}
+
+/// Allocates what polls and connections need.
+fn make_room(alloc: Global) -> Result<Room, BindFault>
+    ensures streams { IfOk result (λ room. length room.streams.items ≡ 65) }
+    ensures ahead { IfOk result (λ room. room.ahead.items ≡ replicate 65 None) }
+    ensures memory { IfErr result (λ fault. fault ≡ BindFault.Memory) }
+{
+    Ok(Room {
+        events: Events::with_capacity(alloc, EVENTS)?,
+        streams: free_places(alloc)?,
+        ahead: free_places(alloc)?,
+        spares: Spares::new(alloc)?,
+        lingering: LingeringSockets::new(alloc)?,
+    })
+}
+
 impl MioSockets {
     /// Listens on the address that a text spells, and notes it. If no listener is made, that is noted in `refused`.
     pub(crate) fn listen(
@@ -107,17 +132,18 @@ impl MioSockets {
                 return Err(bind_fault(&error));
             }
         };
+        let room = make_room(alloc)?;
         let mut notes = CallNotes::new();
         notes.listening(text);
         Ok(MioSockets {
             poll,
-            events: Events::with_capacity(alloc, EVENTS)?,
+            events: room.events,
             listener,
-            streams: free_places(alloc)?,
-            ahead: free_places(alloc)?,
-            spares: Spares::new(alloc)?,
+            streams: room.streams,
+            ahead: room.ahead,
+            spares: room.spares,
             bulk: [false; CONNECTIONS],
-            lingering: LingeringSockets::new(alloc)?,
+            lingering: room.lingering,
             notes,
         })
     }

@@ -9,7 +9,7 @@
 //!
 //! If nothing came of a poll that left one out, the next names all.
 
-ghost use Rattle.std.specs.Prelude.{◌≡◌, ◌<◌, ◌≤◌, ◌==◌, nat_le, ◌&&◌, not, false, ℕ, slice_set, IfSome};
+ghost use Rattle.std.specs.Prelude.{◌≡◌, ◌<◌, ◌==◌, nat_le, ◌&&◌, not, false, ℕ, slice_set, IfSome};
 ghost use Rattle.iscsi_ports.specs.Flags.{flag_of};
 ghost use Rattle.iscsi_ports.specs.Turns.{no_turns, after_offer, after_carrying, due_from, due_count, turn, short_from, IsPart, NamesSome, TakesTurn};
 ghost use Rattle.iscsi_ports.specs.Turns as turns;

@@ -5,25 +5,13 @@ use Rattle.iscsi_ports.proofs.mio_sockets.MioSockets.listen.Goals as goal
 
 pub invariant_of-result-clause-accounted : goal.invariant_of-result-clause-accounted
 invariant_of-result-clause-accounted g c =
-    rw (c.listening.ensures, c.new-notes.ensures, c.in_ok-free_places-2.ensures.free) (λ d lt. ap bytes_in (sym (get_or-replicate 65 d None None (omega arith))))
+    rw (c.listening.ensures, c.new-notes.ensures, c.in_ok-room.ensures.ahead) (λ d lt. ap bytes_in (sym (get_or-replicate 65 d None None (omega arith))))
 
 pub returns-in_default-clause-explained : goal.returns-in_default-clause-explained
 returns-in_default-clause-explained g c = inl (search rules, refl)
 
-pub returns-in_err-with_capacity-clause-unspelled : goal.returns-in_err-with_capacity-clause-unspelled
-returns-in_err-with_capacity-clause-unspelled g c = λ unspelled. absurd (unspelled c.in-Ok.address c.in-Ok.ensures.value)
-
-pub returns-in_err-free_places-clause-unspelled : goal.returns-in_err-free_places-clause-unspelled
-returns-in_err-free_places-clause-unspelled g c = λ unspelled. absurd (unspelled c.in-Ok.address c.in-Ok.ensures.value)
-
-pub returns-in_err-free_places-2-clause-unspelled : goal.returns-in_err-free_places-2-clause-unspelled
-returns-in_err-free_places-2-clause-unspelled g c = λ unspelled. absurd (unspelled c.in-Ok.address c.in-Ok.ensures.value)
-
-pub returns-in_err-new-clause-unspelled : goal.returns-in_err-new-clause-unspelled
-returns-in_err-new-clause-unspelled g c = λ unspelled. absurd (unspelled c.in-Ok.address c.in-Ok.ensures.value)
-
-pub returns-in_err-new-2-clause-unspelled : goal.returns-in_err-new-2-clause-unspelled
-returns-in_err-new-2-clause-unspelled g c = λ unspelled. absurd (unspelled c.in-Ok.address c.in-Ok.ensures.value)
+pub returns-in_err-room-clause-unspelled : goal.returns-in_err-room-clause-unspelled
+returns-in_err-room-clause-unspelled g c = λ unspelled. absurd (unspelled c.in-Ok.address c.in-Ok.ensures.value)
 
 pub returns-in-Err-clause-unspelled : goal.returns-in-Err-clause-unspelled
 returns-in-Err-clause-unspelled g c = λ unspelled. absurd (unspelled c.in-Ok.address c.in-Ok.ensures.value)

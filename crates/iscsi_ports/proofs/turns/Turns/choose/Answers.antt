@@ -1,4 +1,4 @@
-use Rattle.std.proofs.Common.{◌≡◌, ℕ, false, sym, subst, arith}
+use Rattle.std.proofs.Common.{ℕ, false, sym, subst, arith}
 use Rattle.std.specs.Prelude.{replicate}
 use Rattle.iscsi_ports.proofs.NamingShort.{AreChosen, none_chosen, one_more, no_more, is_full, is_whole}
 use Rattle.iscsi_ports.proofs.turns.Turns.choose.Goals as goal

@@ -1,6 +1,6 @@
-use Rattle.std.proofs.Common.{◌≡◌, ◌||◌, Bool, ℕ, Option, Some, None, refl, sym, ap, ◌∙◌}
+use Rattle.std.proofs.Common.{◌≡◌, ◌||◌, ℕ, Option, Some, None, refl, sym, ap, ◌∙◌}
 use Rattle.std.specs.Prelude.{nat_lt}
-use Rattle.iscsi_ports.specs.Turns.{turn, due_count, cursor_after}
+use Rattle.iscsi_ports.specs.Turns.{turn, cursor_after}
 use Rattle.iscsi_ports.proofs.TakingTurns.{no_turn}
 use Rattle.iscsi_ports.proofs.Fairness.{named_with, named_without}
 use Rattle.iscsi_ports.proofs.turns.Turns.take_some.Goals as goal
