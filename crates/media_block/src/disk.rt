@@ -281,7 +281,9 @@ impl<S: Store> Disk<S> {
         )
     }
 
-    /// Writes the same block to `count` places. If it fails, these blocks may hold any bytes.
+    /// Writes the same block to `count` places. If it fails, these blocks may hold any bytes. It stays a call, as
+    /// [`Disk::compare_few`] does.
+    #[inline(never)]
     pub fn write_same(&mut self, first: u64, count: u64, block: &[u8]) -> Result<(), StoreFault>
         requires range { first + count ≤ length self.old.blocks }
         requires whole { length block.now ≡ block_length }

@@ -111,7 +111,9 @@ impl<S: Store> DiskDevice<S> {
         }
     }
 
-    /// Executes a VERIFY of blocks that the disk has. The bytes that they should have are the first of the data.
+    /// Executes a VERIFY of blocks that the disk has. The bytes that they should have are the first of the data. It stays a
+    /// call, as [`DiskDevice::compare_and_write`] does.
+    #[inline(never)]
     pub(crate) fn verify_data(&mut self, alloc: Global, range: BlockRange, data: &Data) -> Done
         requires range { range.first + range.count ≤ length self.old.disk.blocks }
         requires enough { block_length * range.count ≤ length «data».now }
@@ -134,7 +136,9 @@ impl<S: Store> DiskDevice<S> {
     }
 
     /// Executes a COMPARE AND WRITE of blocks that the disk has. The bytes that they should have are the first of the
-    /// data, and those to write follow. If the first differ from the blocks, writes nothing.
+    /// data, and those to write follow. If the first differ from the blocks, writes nothing. It stays a call, since its
+    /// values would lie on the stack of every command.
+    #[inline(never)]
     pub(crate) fn compare_and_write(
         &mut self,
         alloc: Global,

@@ -172,7 +172,9 @@ impl<S: Store> Unit<S> {
         }
     }
 
-    /// Carries out such a command with data in pieces, which are joined first.
+    /// Carries out such a command with data in pieces, which are joined first. It stays a call, since its values would lie
+    /// on the stack of every command.
+    #[inline(never)]
     fn carry_out_joined(
         &mut self,
         nexus: &Nexus,

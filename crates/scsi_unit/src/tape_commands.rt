@@ -99,7 +99,8 @@ impl<S: Store> Unit<S> {
         Ok(done)
     }
 
-    /// Carries out such a command with data in pieces, which are joined first.
+    /// Carries out such a command with data in pieces, which are joined first. It stays a call, as `carry_out_joined` does.
+    #[inline(never)]
     pub(crate) fn carry_out_joined_on_tape(
         &mut self,
         used: &mut Buffers,
