@@ -6,13 +6,13 @@ use Rattle.std.specs.Prelude.{nat_lt}
 use Rattle.iscsi_pdu.specs.Header.{header_length, data_length, additional_length, opcode_number}
 use Rattle.iscsi_pdu.specs.Segment.{most_data, padded}
 use Rattle.iscsi_pdu.specs.Parts.{is_data_out}
-use Rattle.iscsi_pdu.specs.Frames.{Frame, frames, rest, has_frame, first_frame, frame_length, missing, wanted}
+use Rattle.iscsi_pdu.specs.Frames.{Frame, rest, has_frame, first_frame, frame_length, missing, wanted}
 use Rattle.iscsi_pdu.proofs.Frames.{has_frame-true, drop_shorter, frames_taken, rest_taken}
 use Rattle.iscsi_pdu.proofs.Cuts.{has_frame-append, first_frame-append, behind-append, frame_length-append, data_length-append, data_length-take}
 use Rattle.iscsi_pdu.proofs.Fields.{fields, not_long}
 use Rattle.iscsi_transfer.specs.Counted.{brought}
 use Rattle.iscsi_framer.specs.Passing.{IsPassing}
-use Rattle.std.specs.Prelude.{Result, Ok, Err, is_ok, OnOk, OnErr, IfOk, IfSome}
+use Rattle.std.specs.Prelude.{Result, Ok, Err, is_ok, OnOk, OnErr, IfOk}
 use Rattle.iscsi_login.specs.declared.session_params.SessionParams.{SessionParams}
 use Rattle.iscsi_session.specs.Unread.{takes_in}
 use Rattle.iscsi_session.specs.Requests.{begun, unfinished, left}
@@ -23,7 +23,6 @@ use Rattle.iscsi_world.specs.declared.phase.Phase.{Phase}
 use Rattle.iscsi_world.specs.declared.phase.Phase.TheVariants.{FullFeature}
 use Rattle.iscsi_world.proofs.Taking.{none_whole}
 use Rattle.iscsi_world.proofs.Taking.{short_frame}
-use Rattle.iscsi_pdu.specs.declared.fault.PduFault.{PduFault}
 use Rattle.iscsi_connection.specs.Arriving.{rest_in, CanPass, IsUntaken, IsOfPassing, MayServe, out_in}
 use Rattle.iscsi_connection.specs.declared.arriving.Arrived.{Arrived}
 use Rattle.iscsi_connection.specs.declared.arriving.Arrived.TheVariants.{Whole, Passed}
@@ -52,9 +51,13 @@ gives_ahead p after passing whole =
     }
 
 -- a frame is taken from the front
-pub gives_frame : (frame : Frame) (old new : List ℕ) → has_frame old ≡ true → new ≡ drop (frame_length old) old → frames old ≡ frame ∷ frames new
-    → rest new ≡ rest old → GivesFrame frame old new
-gives_frame frame old new there taken first after = record { first = first; behind = after; shorter = rw taken (drop_shorter old there) }
+pub gives_first : (frame : Frame) (old new : List ℕ) → has_frame old ≡ true → first_frame old ≡ frame → new ≡ drop (frame_length old) old
+    → GivesFrame frame old new
+gives_first frame old new there first taken = record {
+  first = frames_taken old new frame there first taken;
+  behind = rest_taken old new there taken;
+  shorter = rw taken (drop_shorter old there);
+}
 
 pub gives_as : (frame other : Frame) (all old left new : List ℕ) → other ≡ frame → all ≡ old → left ≡ new → GivesFrame frame old new
     → GivesFrame other all left
@@ -193,10 +196,10 @@ serves_of phase (Passed out) passing (inr untaken) is = rw is.0 (
 )
 
 -- what was taken may be served
-pub may_serve : (phase : Phase) (r : Result (Option Taken) PduFault) (passing : List ℕ) → CanPass phase passing
-    → IfOk r (λ o. IfSome o (λ taken. IsOfPassing taken.arrived passing)) → IfOk r (λ o. IfSome o (λ taken. MayServe phase taken.arrived))
-may_serve phase (Ok (Some taken)) passing can is = serves_of phase taken.arrived passing can is
-may_serve phase _ passing can is = tt
+pub may_serve : {E : Type 0} (phase : Phase) (r : Result Taken E) (passing : List ℕ) → CanPass phase passing
+    → IfOk r (λ taken. IsOfPassing taken.arrived passing) → IfOk r (λ taken. MayServe phase taken.arrived)
+may_serve phase (Ok taken) passing can is = serves_of phase taken.arrived passing can is
+may_serve phase (Err fault) passing can is = tt
 
 -- ---- results
 

@@ -1,7 +1,6 @@
 //! The bytes of a connection that have come and are not taken.
 
-ghost use Rattle.std.specs.Prelude.{◌≡◌, ◌+◌, ◌≤◌, ◌++◌, ℕ, List, [], length, take, drop, true, false, Some, None, IfOk, IfSome, IfNone, IsSome, OnOk, OnErr};
-ghost use Rattle.std.specs.Result.{IsErrOf};
+ghost use Rattle.std.specs.Prelude.{◌≡◌, ◌+◌, ◌≤◌, ◌++◌, ℕ, List, [], length, take, drop, true, Some, None, IfOk, IfSome, IfNone, OnOk, OnErr};
 ghost use Rattle.iscsi_pdu.specs.Header.{header_length};
 ghost use Rattle.iscsi_pdu.specs.Frames.{has_frame, is_long, wanted};
 ghost use Rattle.iscsi_framer.specs.Passing.{IsPassing};
@@ -12,8 +11,8 @@ ghost use Rattle.iscsi_connection.specs.Passing.{IsInFront};
 ghost use Rattle.iscsi_connection.specs.Arriving.{ArrivingState, bytes_in, rest_in, frame_of, IsUntaken, CanPass, IsOfPassing, out_in};
 
 use data_parts::SpareBuffers;
-use iscsi_framer::{FrameRoom, Framer, PassedDataOut, PassingDataOut};
-use iscsi_pdu::{Frame, Header, PduFault};
+use iscsi_framer::{FrameRoom, Framer, Front, PassedDataOut, PassingDataOut};
+use iscsi_pdu::{Frame, Header};
 use std::alloc::Global;
 use std::marker::Model;
 use std::mem;
@@ -124,54 +123,54 @@ impl Arriving {
         self.framer.take_room(lent, count);
     }
 
-    /// Returns whether [`Arriving::next`] returns something: a PDU is whole, or its header names too much data.
-    pub(crate) fn has_next(&self) -> bool
-        ensures { result ≡ false → arrivals (bytes_in self.now) ≡ [] }
+    /// Returns what stands in front of the bytes.
+    pub(crate) fn front(&self) -> Front
+        ensures part { result ≡ Front.Part → arrivals (bytes_in self.now) ≡ [] }
+        ensures whole { result ≡ Front.Whole → has_frame (bytes_in self.now) ≡ true }
+        ensures long { result ≡ Front.TooLong → is_long (bytes_in self.now) ≡ true }
     {
         match &self.passing {
-            Some(passing) => passing.is_whole(),
-            None => self.framer.has_next(),
+            Some(passing) if passing.is_whole() => Front::Whole,
+            Some(_) => Front::Part,
+            None => self.framer.front(),
         }
     }
 
-    /// Takes the first whole PDU, with all bytes after it. Returns `None` if no PDU is whole yet.
-    pub(crate) fn next(&mut self) -> Result<Option<Taken>, PduFault>
-        ensures given { IfOk result (λ o. IfSome o (λ t. GivesFrame (frame_of t.arrived) (bytes_in self.old) (rest_in t.rest))) }
-        ensures left { IfOk result (λ o. IfSome o (λ _. self.new ≡ record { passing = []; after = [] })) }
-        ensures passed { IfOk result (λ o. IfSome o (λ t. IsOfPassing t.arrived self.old.passing)) }
-        ensures none { IfOk result (λ o. IfNone o (arrivals (bytes_in self.old) ≡ [])) }
-        ensures waits { IfOk result (λ o. IfNone o (self.new ≡ self.old)) }
-        ensures too_long { IsErrOf result PduFault.TooLong → is_long (bytes_in self.old) ≡ true }
-        ensures memory { IsErrOf result PduFault.Memory → has_frame (bytes_in self.old) ≡ true }
+    /// Takes the first PDU, which is whole, with all bytes after it.
+    pub(crate) fn take_pdu(&mut self) -> Result<Taken, Memory>
+        requires { has_frame (bytes_in self.old) ≡ true }
+        ensures given { IfOk result (λ t. GivesFrame (frame_of t.arrived) (bytes_in self.old) (rest_in t.rest)) }
+        ensures left { OnOk result (self.new ≡ record { passing = []; after = [] }) }
+        ensures passed { IfOk result (λ t. IsOfPassing t.arrived self.old.passing) }
         ensures err { OnErr result (self.new ≡ self.old) }
     {
-        match &self.passing {
-            None => match self.framer.next()? {
-                None => Ok(None),
-                Some(frame) => Ok(Some(Taken {
+        match self.passing.take() {
+            Some(passing) => Ok(self.take_passed(passing)),
+            None => match self.framer.take_first() {
+                Ok(frame) => Ok(Taken {
                     arrived: Arrived::Whole(frame),
                     rest: self.take_rest(),
-                })),
+                }),
+                // The framer reports no other fault here.
+                Err(_) => Err(Memory),
             },
-            Some(passing) if passing.is_whole() => Ok(self.take_passed()),
-            Some(_) => Ok(None),
         }
     }
 
-    /// Takes the Data-Out in front, which is whole, with all bytes after it.
+    /// Takes the bytes after a Data-Out that was in front and is whole.
     #[inline(never)]
-    fn take_passed(&mut self) -> Option<Taken>
-        requires { has_frame self.old.passing ≡ true }
-        ensures given { IfSome result (λ t. GivesFrame (frame_of t.arrived) (bytes_in self.old) (rest_in t.rest)) }
-        ensures left { IfSome result (λ _. self.new ≡ record { passing = []; after = [] }) }
-        ensures passed { IfSome result (λ t. IsOfPassing t.arrived self.old.passing) }
-        ensures some { IsSome result }
+    fn take_passed(&mut self, passing: PassingDataOut) -> Taken
+        requires none { self.old.passing ≡ [] }
+        requires passing { IsPassing passing }
+        requires whole { has_frame passing ≡ true }
+        ensures given { GivesFrame (frame_of result.arrived) (passing ++ self.old.after) (rest_in result.rest) }
+        ensures left { self.new ≡ record { passing = []; after = [] } }
+        ensures passed { IsOfPassing result.arrived passing }
     {
-        let passing = self.passing.take()?;
-        Some(Taken {
+        Taken {
             arrived: Arrived::Passed(passing.into_passed()),
             rest: self.take_rest(),
-        })
+        }
     }
 
     /// Takes the bytes after a PDU, if there are any.

@@ -1,7 +1,6 @@
 //! One connection: its bytes, its phase and its output that is still to be sent.
 
 ghost use Rattle.std.specs.Prelude.{◌≡◌, ◌+◌, ◌<◌, ◌≤◌, ◌++◌, [], None, true, false, length, take, nat_lt, if◌then◌else◌, IfOk, IfSome, IfNone, OnOk, OnErr};
-ghost use Rattle.std.specs.Result.{IsErrOf};
 ghost use Rattle.iscsi_pdu.specs.Frames.{has_frame, is_long, wanted};
 ghost use Rattle.iscsi_pdu.specs.Header.{header_length, data_length};
 ghost use Rattle.iscsi_pdu.specs.Segment.{most_data};
@@ -25,10 +24,10 @@ ghost use Rattle.iscsi_world.specs.declared.phase.Phase.TheVariants.{Login as Un
 use crate::arriving::{Arriving, Taken};
 use bytes::BytesMut;
 use data_parts::SpareBuffers;
-use iscsi_framer::{FrameRoom, Framer};
+use iscsi_framer::{FrameRoom, Framer, Front};
 use iscsi_login::{Directory, Login, Reply, SessionParams};
 use iscsi_outbox::Outbox;
-use iscsi_pdu::{Answer, Frame, Header, LoginResponse, MOST_DATA, Opcode, PduFault};
+use iscsi_pdu::{Answer, Frame, Header, LoginResponse, MOST_DATA, Opcode};
 use iscsi_session::Session;
 use iscsi_world::Phase;
 use media_store::Store;
@@ -190,29 +189,27 @@ impl Connection {
         }
     }
 
-    /// Returns whether [`Connection::next_frame`] returns something: a PDU is whole, or its header names too much data.
-    pub fn has_next(&self) -> bool
+    /// Returns what stands in front of the bytes.
+    pub fn front(&self) -> Front
         requires { is_reading self.now.phase ≡ true }
-        ensures { result ≡ false → arrivals self.now.half ≡ [] }
+        ensures part { result ≡ Front.Part → arrivals self.now.half ≡ [] }
+        ensures whole { result ≡ Front.Whole → has_frame self.now.half ≡ true }
+        ensures long { result ≡ Front.TooLong → is_long self.now.half ≡ true }
     {
-        self.arriving.has_next()
+        self.arriving.front()
     }
 
-    /// Takes the first whole PDU, with all bytes after it, which [`Connection::put_back`] puts back. Returns `None` if no PDU
-    /// is whole yet.
-    pub fn next_frame(&mut self) -> Result<Option<Taken>, PduFault>
-        requires { is_reading self.old.phase ≡ true }
-        ensures given { IfOk result (λ o. IfSome o (λ t. GivesFrame (frame_of t.arrived) self.old.half (rest_in t.rest))) }
+    /// Takes the first PDU, which is whole, with all bytes after it, which [`Connection::put_back`] puts back.
+    pub fn take_pdu(&mut self) -> Result<Taken, Memory>
+        requires reads { is_reading self.old.phase ≡ true }
+        requires whole { has_frame self.old.half ≡ true }
+        ensures given { IfOk result (λ t. GivesFrame (frame_of t.arrived) self.old.half (rest_in t.rest)) }
         ensures same { self.new ≡ record self.old { half = self.new.half } }
-        ensures left { IfOk result (λ o. IfSome o (λ _. self.new.half ≡ [])) }
-        ensures serves { IfOk result (λ o. IfSome o (λ t. MayServe self.old.phase t.arrived)) }
-        ensures none { IfOk result (λ o. IfNone o (arrivals self.old.half ≡ [])) }
-        ensures waits { IfOk result (λ o. IfNone o (self.new ≡ self.old)) }
-        ensures too_long { IsErrOf result PduFault.TooLong → is_long self.old.half ≡ true }
-        ensures memory { IsErrOf result PduFault.Memory → has_frame self.old.half ≡ true }
+        ensures left { OnOk result (self.new.half ≡ []) }
+        ensures serves { IfOk result (λ t. MayServe self.old.phase t.arrived) }
         ensures err { OnErr result (self.new ≡ self.old) }
     {
-        self.arriving.next()
+        self.arriving.take_pdu()
     }
 
     /// Puts the bytes after a PDU that was taken back, if the connection is still read.

@@ -3,7 +3,7 @@
 //! ```text
 //!   keep(piece)   ┌──────────────── Connection ────────────────┐   out, skip_front
 //!   ------------> │ arriving   phase                  outbox   │ ---------------->
-//!   next_frame    │ half a PDU Login, FullFeature ..  answers  │
+//!   take_pdu      │ half a PDU Login, FullFeature ..  answers  │
 //!   <------------ └──┬─────────────────────────────────────────┘
 //!                    └ log_in, begin, serve, settle, lose: what a frame, or another session, does to it
 //! ```

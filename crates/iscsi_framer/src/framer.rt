@@ -1,12 +1,13 @@
 //! Cutting the bytes of a connection into frames.
 
-ghost use Rattle.std.specs.Prelude.{◌≡◌, ◌+◌, ◌<◌, ◌≤◌, ◌↔◌, ◌||◌, ℕ, List, [], ◌∷◌, ◌++◌, length, take, drop, true, false, IsOk, IfOk, IfErr, IfSome, IfNone, OnOk, OnErr};
+ghost use Rattle.std.specs.Prelude.{◌≡◌, ◌+◌, ◌<◌, ◌≤◌, ◌↔◌, ℕ, List, [], ◌∷◌, ◌++◌, length, take, drop, true, false, IsOk, IfOk, IfErr, IfSome, IfNone, OnOk, OnErr};
 ghost use Rattle.iscsi_pdu.specs.Parts.{is_data_out, HoldsOne, Takes};
 ghost use Rattle.std.specs.Result.{IsErrOf};
 ghost use Rattle.iscsi_framer.specs.Passing.{IsPassing};
 
 use crate::byte_queue::ByteQueue;
 use crate::frame_buffer::{FrameRoom, cut_front};
+use crate::front::Front;
 use crate::passing::PassingDataOut;
 use arrayvec::ArrayVec;
 use data_parts::SpareBuffers;
@@ -163,32 +164,46 @@ impl Framer {
         ensures memory { IsErrOf result PduFault.Memory → has_frame self.old ≡ true }
         ensures err { OnErr result (self.new ≡ self.old) }
     {
+        match self.front() {
+            Front::Part => Ok(None),
+            Front::Whole => Ok(Some(self.take_first()?)),
+            Front::TooLong => Err(PduFault::TooLong),
+        }
+    }
+
+    /// Returns what stands in front of the bytes.
+    #[tactic(auto, unfolding(iscsi_pdu::specs::Frames::has_frame, iscsi_pdu::specs::Frames::is_long, iscsi_pdu::specs::Frames::frame_length))]
+    pub fn front(&self) -> Front
+        ensures part { result ≡ Front.Part → (has_frame self.now ≡ false) × (is_long self.now ≡ false) }
+        ensures whole { (result ≡ Front.Whole) ↔ (has_frame self.now ≡ true) }
+        ensures long { (result ≡ Front.TooLong) ↔ (is_long self.now ≡ true) }
+    {
         let Some(header) = self.header() else {
-            return Ok(None);
+            return Front::Part;
         };
         let data = header.data_length();
         if data > MOST_DATA {
-            return Err(PduFault::TooLong);
+            return Front::TooLong;
         }
-        let additional = header.additional_length();
-        let end = HEADER_LENGTH + additional + padded(data);
+        let end = HEADER_LENGTH + header.additional_length() + padded(data);
         if self.len() < end {
-            return Ok(None);
+            return Front::Part;
         }
-        let body = self.take_body(additional, data)?;
-        Ok(Some(Frame { header, body }))
+        Front::Whole
     }
 
-    /// Returns whether [`next`](Framer::next) returns something: a frame is whole, or its header names too much data.
-    #[tactic(auto, unfolding(iscsi_pdu::specs::Frames::has_frame, iscsi_pdu::specs::Frames::is_long, iscsi_pdu::specs::Frames::frame_length))]
-    pub fn has_next(&self) -> bool
-        ensures { result ≡ (has_frame self.now || is_long self.now) }
+    /// Takes the first frame, which is whole.
+    #[tactic(auto, unfolding(iscsi_pdu::specs::Frames::has_frame, iscsi_pdu::specs::Frames::first_frame, iscsi_pdu::specs::Frames::frame_length))]
+    pub fn take_first(&mut self) -> Result<Frame, PduFault>
+        requires { has_frame self.old ≡ true }
+        ensures given { IfOk result (λ f. first_frame self.old ≡ f) }
+        ensures taken { OnOk result (self.new ≡ drop (frame_length self.old) self.old) }
+        ensures memory { IfErr result (λ fault. fault ≡ PduFault.Memory) }
+        ensures err { OnErr result (self.new ≡ self.old) }
     {
-        let Some(header) = self.header() else {
-            return false;
-        };
-        let data = header.data_length();
-        data > MOST_DATA || self.len() >= HEADER_LENGTH + header.additional_length() + padded(data)
+        let header = self.whole_header();
+        let body = self.take_body(header.additional_length(), header.data_length())?;
+        Ok(Frame { header, body })
     }
 
     /// Takes the next bytes of a piece. Returns how many were used, and what they brought. The data of a Data-Out is
@@ -374,8 +389,16 @@ impl Framer {
         if !self.header.is_full() {
             return None;
         }
+        Some(self.whole_header())
+    }
+
+    /// Returns the first header, which is whole.
+    fn whole_header(&self) -> Header
+        requires { header_length ≤ length self.now }
+        ensures { result ≡ take header_length self.now }
+    {
         let mut header = [0; HEADER_LENGTH];
         header.copy_from_slice(self.header.as_slice());
-        Some(Header::new(header))
+        Header::new(header)
     }
 }

@@ -1,7 +1,7 @@
 //! The bytes of a connection, cut into the frames that `iscsi_pdu` defines (RFC 7143 §11).
 //!
 //! ```text
-//!   bytes in ──> Framer::feed ──> Framer::next ──> Frame { header, body } ──> the target
+//!   bytes in ──> Framer::feed ──> Framer::front, take_first ──> Frame { header, body } ──> the target
 //!   bytes in ──> Framer::take ──> Part: a frame, or data lent from the bytes ─> a caller who has a place for it
 //!   bytes in ──> Framer::pass_over, PassingDataOut::count ──> PassedDataOut: a header, of data that nobody needs
 //! ```
@@ -24,8 +24,10 @@
 mod byte_queue;
 mod frame_buffer;
 mod framer;
+mod front;
 mod passing;
 
 pub use frame_buffer::FrameRoom;
 pub use framer::Framer;
+pub use front::Front;
 pub use passing::{PassedDataOut, PassingDataOut};

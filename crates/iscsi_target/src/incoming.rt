@@ -1,8 +1,7 @@
 //! The bytes of a connection: whole frames are taken in order.
 
 ghost use Rattle.std.specs.Prelude.{◌≡◌, ◌<◌, ◌≤◌, ◌+◌, ◌++◌, [], true, false, length, take, IfOk, IfSome, IfNone, OnOk, OnErr};
-ghost use Rattle.std.specs.Result.{IsErrOf};
-ghost use Rattle.iscsi_pdu.specs.Frames.{has_frame, is_long};
+ghost use Rattle.iscsi_pdu.specs.Frames.{has_frame};
 ghost use Rattle.iscsi_pdu.specs.Header.{header_length};
 ghost use Rattle.iscsi_login.specs.LoginState.{IsTargetBelow};
 ghost use Rattle.iscsi_connection.specs.Arriving.{frame_of, rest_in, MayServe};
@@ -15,8 +14,8 @@ use crate::serve::earlier_of;
 use crate::target::Target;
 use data_parts::SpareBuffers;
 use iscsi_connection::{Arrived, Taken};
-use iscsi_framer::{FrameRoom, Framer};
-use iscsi_pdu::{Opcode, PduFault};
+use iscsi_framer::{FrameRoom, Framer, Front};
+use iscsi_pdu::Opcode;
 use iscsi_world::{Phase, Starved};
 use media_store::Store;
 use target_limits::Memory;
@@ -120,23 +119,20 @@ impl<S: Store> Target<S> {
         units.return_buffers(spares);
     }
 
-    /// Takes the first whole PDU of a connection, with all bytes after it, which [`Target::put_back`] puts back.
-    fn next_frame(&mut self, c: usize) -> Result<Option<Taken>, PduFault>
+    /// Takes the first PDU of a connection, which is whole, with all bytes after it, which [`Target::put_back`] puts back.
+    fn take_pdu(&mut self, c: usize) -> Result<Taken, Memory>
         requires in_range { c < 64 }
         requires reads { is_reading (link_at self.old c).phase ≡ true }
-        ensures given { IfOk result (λ o. IfSome o (λ t. GivesFrame (frame_of t.arrived) (link_at self.old c).half (rest_in t.rest))) }
+        requires whole { has_frame (link_at self.old c).half ≡ true }
+        ensures given { IfOk result (λ t. GivesFrame (frame_of t.arrived) (link_at self.old c).half (rest_in t.rest)) }
         ensures same { self.new ≡ with_link self.old c (record (link_at self.old c) { half = (link_at self.new c).half }) }
-        ensures left { IfOk result (λ o. IfSome o (λ _. (link_at self.new c).half ≡ [])) }
-        ensures serves { IfOk result (λ o. IfSome o (λ t. MayServe (link_at self.old c).phase t.arrived)) }
-        ensures none { IfOk result (λ o. IfNone o (arrivals (link_at self.old c).half ≡ [])) }
-        ensures waits { IfOk result (λ o. IfNone o (self.new ≡ self.old)) }
-        ensures too_long { IsErrOf result PduFault.TooLong → is_long (link_at self.old c).half ≡ true }
-        ensures memory { IsErrOf result PduFault.Memory → has_frame (link_at self.old c).half ≡ true }
+        ensures left { OnOk result ((link_at self.new c).half ≡ []) }
+        ensures serves { IfOk result (λ t. MayServe (link_at self.old c).phase t.arrived) }
         ensures err { OnErr result (self.new ≡ self.old) }
         ensures count { length self.old.links ≡ 64 }
     {
         let connection = self.connections.at_mut(c);
-        connection.next_frame()
+        connection.take_pdu()
     }
 
     /// Puts the bytes after a PDU that was taken back, if the connection is still read.
@@ -169,6 +165,7 @@ impl<S: Store> Target<S> {
 
     /// Takes the first whole frame of a connection, if there is one. A header that names too much data is a
     /// violation.
+    #[inline(always)]
     fn take_next(&mut self, c: usize) -> Option<Result<(), Starved>>
         requires in_range { c < 64 }
         requires reads { is_reading (link_at self.old c).phase ≡ true }
@@ -176,34 +173,32 @@ impl<S: Store> Target<S> {
         ensures none { IfNone result (self.new ≡ self.old) }
         ensures whole { IfNone result (arrivals (link_at self.old c).half ≡ []) }
     {
-        // Most pieces end with a PDU, or within one, and no room is filled with zeros for what is not there.
-        if !self.connections.at(c).has_next() {
-            return None;
-        }
-        self.take_first(c)
-    }
-
-    /// Takes the first whole frame of a connection as [`Target::take_next`] does, which has seen that there is one.
-    #[inline(never)]
-    fn take_first(&mut self, c: usize) -> Option<Result<(), Starved>>
-        requires in_range { c < 64 }
-        requires reads { is_reading (link_at self.old c).phase ≡ true }
-        ensures takes { IfSome result (λ taken. TakesOne c (first_starved taken) self.old self.new) }
-        ensures none { IfNone result (self.new ≡ self.old) }
-        ensures whole { IfNone result (arrivals (link_at self.old c).half ≡ []) }
-    {
-        match self.next_frame(c) {
-            Ok(Some(Taken { arrived, rest })) => {
-                let taken = self.take_frame(c, arrived);
-                self.put_back(c, rest);
-                Some(taken)
-            }
-            Ok(None) => None,
-            Err(PduFault::TooLong) => {
+        match self.connections.at(c).front() {
+            Front::Part => None,
+            Front::Whole => Some(self.take_first(c)),
+            Front::TooLong => {
                 self.close(c);
                 Some(Ok(()))
             }
-            Err(PduFault::Memory) => Some(Err(self.starve(c))),
+        }
+    }
+
+    /// Takes the first frame of a connection, which is whole. It stays a call, since its values would be zeroed for each
+    /// piece.
+    #[inline(never)]
+    fn take_first(&mut self, c: usize) -> Result<(), Starved>
+        requires in_range { c < 64 }
+        requires reads { is_reading (link_at self.old c).phase ≡ true }
+        requires whole { has_frame (link_at self.old c).half ≡ true }
+        ensures { TakesOne c (first_starved result) self.old self.new }
+    {
+        match self.take_pdu(c) {
+            Ok(Taken { arrived, rest }) => {
+                let taken = self.take_frame(c, arrived);
+                self.put_back(c, rest);
+                taken
+            }
+            Err(Memory) => Err(self.starve(c)),
         }
     }
 

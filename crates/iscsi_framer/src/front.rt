@@ -1,0 +1,12 @@
+//! What stands in front of the bytes of a connection.
+
+/// What stands in front of the bytes of a connection.
+#[derive(Clone, Copy)]
+pub enum Front {
+    /// Less than a frame.
+    Part,
+    /// A whole frame.
+    Whole,
+    /// A header that names too much data.
+    TooLong,
+}
