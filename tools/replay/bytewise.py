@@ -10,7 +10,7 @@ from itertools import chain, pairwise
 
 from replay.program import Ended, lines_at_once
 
-PIECE = re.compile(rb"(bytes \d+ )((?:[0-9a-f]{2}){2,})(\n?)")
+PIECE = re.compile(rb"(bytes (\d+) )((?:[0-9a-f]{2}){2,})(\n?)")
 REFUSED = re.compile(rb"targetd: line (\d+) refused\n")
 ANSWER = re.compile(rb"(\d+) (.+)\n")
 LONG, EDGE, SHORT = 8192, 512, 1009  # bytes of a long piece, of its first and last part, of a short piece
@@ -28,7 +28,7 @@ def lines(step):
     piece = PIECE.fullmatch(step.sent)
     if not piece:
         return [step.sent]
-    head, digits, end = piece.groups()
+    head, _, digits, end = piece.groups()
     cut = [head + digits[2 * at:2 * to] + b"\n" for at, to in pairwise(places(len(digits) // 2))]
     cut[-1] = cut[-1].removesuffix(b"\n") + end
     return cut
@@ -57,10 +57,16 @@ def moved(run, cut):
     return b"targetd: line %d refused\n" % (sum(len(part) for part in cut[:int(fault[1]) - 1]) + 1)
 
 
-def shortened(cut, number):
-    """Drops what is left of the piece in whose midst this line stands. Whether there is one."""
-    for part in cut:
-        if 1 < number <= len(part):
+def closes(step):
+    """Whether the connection whose bytes these are is to be closed by them."""
+    piece = PIECE.fullmatch(step.sent)
+    return bool(piece) and piece[2] + b" closed\n" in step.printed.splitlines(keepends=True)
+
+
+def shortened(run, cut, number):
+    """Drops what is left of the piece in whose midst this line stands, if its connection is to be closed. Whether it did."""
+    for step, part in zip(run.steps, cut):
+        if 1 < number <= len(part) and closes(step):
             del part[number - 1:]
             return True
         number -= len(part)
@@ -73,7 +79,7 @@ def answered_otherwise(program, run, wanted):
     if all(len(part) == 1 for part in cut):
         return None
     ended = lines_at_once(program, run, chain(*cut))
-    while shortened(cut, refused(ended)):
+    while shortened(run, cut, refused(ended)):
         ended = lines_at_once(program, run, chain(*cut))
     if ended == Ended(ended.stdout, moved(run, cut), run.status) and answers(ended.stdout) == answers(wanted):
         return None
