@@ -1,8 +1,7 @@
 -- Items in front of bytes: one after the other, after a place, and after other bytes.
 use Rattle.std.proofs.Common.{◌≡◌, ℕ, zero, suc, ◌+◌, ◌-◌, ◌≤◌, ◌<◌, Bool, true, false, IsTrue, if◌then◌else◌, List, [], ◌∷◌, ◌++◌, length}
 use Rattle.std.proofs.Common.{take, drop, Option, Some, None, ◌⊎◌, inl, inr, refl, ap, sym, subst, ◌∙◌, arith, rules, length-drop}
-use Rattle.std.proofs.Common.{length-append, All}
-use Rattle.std.proofs.lemmas.List.Elements.{All-nil, All-cons}
+use Rattle.std.proofs.Common.{length-append}
 use Rattle.std.proofs.lemmas.List.{append_assoc, take-take, drop-take, drop-drop, drop_at, take-append-le, drop-append-le, length-take-le, length-take}
 use Rattle.std.proofs.Math.Seq.{take-add}
 use Rattle.byteorder.specs.Endian.{big_number}
@@ -216,17 +215,3 @@ HasBytes Filemark = Unit {0}
 pub item_of-has : (bytes : List ℕ) → HasBytes (item_of bytes)
 item_of-has [] = tt
 item_of-has (byte ∷ bytes) = omega arith
-
-next-has : (found : Option ℕ) (most : ℕ) (bytes : List ℕ) → ((rest : List ℕ) → All HasBytes (items_in most rest)) → All HasBytes (next found most bytes)
-unfolding next
-next-has None most bytes have = All-nil HasBytes
-next-has (Some n) most bytes have =
-    All-cons HasBytes (item_of (take n (drop 4 bytes))) (items_in most (drop (n + 8) bytes)) (item_of-has (take n (drop 4 bytes))) (have (drop (n + 8) bytes))
-
-items_in-have : (most : ℕ) (bytes : List ℕ) → All HasBytes (items_in most bytes)
-unfolding items_in
-items_in-have zero bytes = All-nil HasBytes
-items_in-have (suc most) bytes = rw (in-suc most bytes) (next-has (front bytes) most bytes (items_in-have most))
-
-pub items_of-have : (bytes : List ℕ) → All HasBytes (items_of bytes)
-items_of-have bytes = items_in-have (length bytes) bytes

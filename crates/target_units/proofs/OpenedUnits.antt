@@ -1,5 +1,5 @@
 -- Units of a configuration as they are opened, one after the other.
-use Rattle.std.proofs.Common.{◌≡◌, ℕ, ℤ, pos, negsuc, zero, suc, ◌-◌, ◌*◌, ◌/◌, ◌%◌, ◌<◌, List, [], ◌∷◌, ◌++◌, map, refl, sym, ap, subst, ◌∙◌, Bool, true, false, ◌&&◌, IsTrue, w64, arith}
+use Rattle.std.proofs.Common.{◌≡◌, ℕ, ℤ, pos, negsuc, zero, suc, ◌-◌, ◌*◌, ◌/◌, List, [], ◌∷◌, ◌++◌, map, refl, sym, ap, subst, ◌∙◌, Bool, true, false, ◌&&◌, IsTrue, w64, arith}
 use Rattle.std.specs.Prelude.{length, replicate, nat_le, String, string_bytes, Contains}
 use Rattle.std.specs.declared.alloc.Global.{Global}
 use Rattle.std.specs.List.{list_all}
@@ -7,12 +7,11 @@ use Rattle.std.proofs.Math.IntN.{nat_abs}
 use Rattle.std.proofs.lemmas.Int.{to_z-of_z}
 use Rattle.std.proofs.lemmas.Grind.{common_steps}
 use mir.Val.{to_z, of_z}
-use Rattle.std.proofs.lemmas.Bool.{lt-ltb, eq-eqb}
 use Rattle.std.proofs.lemmas.List.Elements.{Contains-append_right}
 use Rattle.std.proofs.lemmas.List.{take-replicate, drop-replicate, length-replicate, map-append}
 use Rattle.media_tape.specs.Items.{Item, items_in, items_of, is_tape}
 use Rattle.media_tape.specs.Tape.{TapeState}
-use Rattle.media_block.specs.Blocks.{DiskState, block_length, blocks_of, is_disk, disk_of}
+use Rattle.media_block.specs.Blocks.{DiskState, block_length, blocks_of, disk_of}
 use Rattle.scsi_unit.specs.Device.{DeviceState}
 use Rattle.scsi_unit.specs.State.{UnitState}
 use Rattle.scsi_unit.specs.Unit.{free_unit}
@@ -39,13 +38,6 @@ zero_content : (count : ℕ) → disk_of (replicate (block_length * count) 0) �
 zero_content count =
     let whole : (block_length * count) / block_length ≡ count = omega arith in
     rw (length-replicate {A = ℕ} (block_length * count) 0, whole) (zero_blocks count)
-
--- zero blocks, one at least, are a disk
-pub zeros_are_a_disk : (count : ℕ) → 0 < count → is_disk (replicate (block_length * count) 0) ≡ true
-zeros_are_a_disk count some =
-    let long : 0 < block_length * count = omega arith in
-    let whole : (block_length * count) % block_length ≡ 0 = omega arith in
-    rw (length-replicate {A = ℕ} (block_length * count) 0, lt-ltb 0 (block_length * count) long) (eq-eqb ((block_length * count) % block_length) 0 whole)
 
 -- a disk that was opened over zero blocks
 pub zero_opened : (count : ℕ) (disk : DiskState) → (IsTrue disk.honest → disk.blocks ≡ disk_of (replicate (block_length * count) 0)) → disk.synced ≡ false
