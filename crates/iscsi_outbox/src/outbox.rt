@@ -164,6 +164,7 @@ impl Outbox {
     pub fn trim(&mut self, alloc: Global, most: usize)
         ensures items { self.new.items ≡ self.old.items }
         ensures runs { self.new.runs ≡ self.old.runs }
+        ensures room { self.old.items ≡ [] → self.new.spare ≤ most }
     {
         if !self.is_empty() {
             return;
