@@ -8,11 +8,17 @@ use std::alloc::{AllocError, Global};
 /// next header after it.
 const HEADER: usize = 48;
 
+/// The capacity of a small buffer, in bytes: for a block of most file systems, and a header.
+const SMALL: usize = 4_096 + HEADER;
+
 /// The capacity of a short buffer, in bytes: for as much data as usually comes unsolicited, and a header.
 const SHORT: usize = 65_536 + HEADER;
 
 /// The capacity of a long buffer, in bytes: for the most data that one PDU brings, and a header.
 const LONG: usize = 262_144 + HEADER;
+
+/// How many small buffers are kept at most: one for each connection, 260 KiB.
+const MOST_SMALL: usize = 64;
 
 /// How many short buffers are kept at most: 2 MiB, the immediate data of a window of commands.
 const MOST_SHORT: usize = 31;
@@ -20,13 +26,14 @@ const MOST_SHORT: usize = 31;
 /// How many long buffers are kept at most: 2 MiB.
 const MOST_LONG: usize = 8;
 
-/// Buffers that are no longer used, 4 MiB at most, kept so that their memory is not allocated again. A buffer that is
+/// Buffers that are no longer used, 4.3 MiB at most, kept so that their memory is not allocated again. A buffer that is
 /// taken is empty, or has the bytes that were left in it, so that a reader can overwrite them with no need to clear it.
 ///
 /// A buffer that was allocated at a busy time may lie above much memory that is freed after it, which the C library gives
 /// back to the system only from its end. So [`SpareBuffers::trim`] frees all of them, to be called after such a time.
 #[derive(Drop)]
 pub struct SpareBuffers {
+    small: Vec<Vec<u8>>,
     short: Vec<Vec<u8>>,
     long: Vec<Vec<u8>>,
     /// More were to be kept than there is place for.
@@ -34,15 +41,23 @@ pub struct SpareBuffers {
     alloc: Global,
 }
 
-/// Returns the buffer that was kept last, emptied, or a new one with this capacity.
-fn taken(alloc: Global, kept: &mut Vec<Vec<u8>>, room: usize) -> Result<Vec<u8>, AllocError>
-    ensures { IfOk result (λ buffer. buffer.items ≡ []) }
-{
-    let Some(mut buffer) = kept.pop() else {
-        return Vec::with_capacity(alloc, room);
-    };
-    buffer.clear();
-    Ok(buffer)
+/// Returns whether a buffer of this capacity is taken for `room` bytes: it has the room, and less than twice as much.
+fn suits(capacity: usize, room: usize) -> bool {
+    room > capacity / 2 && room <= capacity
+}
+
+/// Returns the capacity of the buffer that is taken for `room` bytes.
+fn capacity_for(room: usize) -> usize {
+    if suits(SMALL, room) {
+        return SMALL;
+    }
+    if suits(SHORT, room) {
+        return SHORT;
+    }
+    if suits(LONG, room) {
+        return LONG;
+    }
+    room
 }
 
 /// Keeps a buffer if fewer than `most` are kept, and frees it otherwise. Returns whether there was a place for it.
@@ -58,6 +73,7 @@ impl SpareBuffers {
     /// Creates an empty stock of buffers. Allocates no memory.
     pub fn new(alloc: Global) -> SpareBuffers {
         SpareBuffers {
+            small: Vec::new(alloc),
             short: Vec::new(alloc),
             long: Vec::new(alloc),
             is_overfull: false,
@@ -69,32 +85,30 @@ impl SpareBuffers {
     pub fn take(&mut self, room: usize) -> Result<Vec<u8>, AllocError>
         ensures { IfOk result (λ buffer. buffer.items ≡ []) }
     {
-        if room > LONG / 2 && room <= LONG {
-            return taken(self.alloc, &mut self.long, LONG);
-        }
-        if room > SHORT / 2 && room <= SHORT {
-            return taken(self.alloc, &mut self.short, SHORT);
-        }
-        Vec::with_capacity(self.alloc, room)
+        let Some(mut used) = self.take_used(room) else {
+            return Vec::with_capacity(self.alloc, capacity_for(room));
+        };
+        used.clear();
+        Ok(used)
     }
 
     /// Returns a buffer that was kept, with room for `room` bytes, and for less than twice as many. In it stands what was
     /// left there, to be overwritten. Returns `None` if no such buffer is kept.
     pub fn take_used(&mut self, room: usize) -> Option<Vec<u8>> {
-        if room > LONG / 2 && room <= LONG {
-            return self.long.pop();
+        match capacity_for(room) {
+            SMALL => self.small.pop(),
+            SHORT => self.short.pop(),
+            LONG => self.long.pop(),
+            _ => None,
         }
-        if room > SHORT / 2 && room <= SHORT {
-            return self.short.pop();
-        }
-        None
     }
 
     /// Keeps a buffer that [`SpareBuffers::take`] returned, with what is in it, if few like it are kept.
     pub fn keep(&mut self, buffer: Vec<u8>) {
         let is_placed = match buffer.capacity() {
-            LONG => put(&mut self.long, MOST_LONG, buffer),
+            SMALL => put(&mut self.small, MOST_SMALL, buffer),
             SHORT => put(&mut self.short, MOST_SHORT, buffer),
+            LONG => put(&mut self.long, MOST_LONG, buffer),
             _ => true,
         };
         if !is_placed {
@@ -109,6 +123,7 @@ impl SpareBuffers {
 
     /// Frees all buffers that are kept.
     pub fn trim(&mut self) {
+        self.small = Vec::new(self.alloc);
         self.short = Vec::new(self.alloc);
         self.long = Vec::new(self.alloc);
         self.is_overfull = false;
