@@ -23,7 +23,7 @@ use Rattle.iscsi_world.specs.declared.phase.Phase.{Phase}
 use Rattle.iscsi_world.specs.declared.phase.Phase.TheVariants.{FullFeature}
 use Rattle.iscsi_world.proofs.Taking.{none_whole}
 use Rattle.iscsi_world.proofs.Taking.{short_frame}
-use Rattle.iscsi_connection.specs.Arriving.{rest_in, CanPass, IsUntaken, IsOfPassing, MayServe, out_in}
+use Rattle.iscsi_connection.specs.Arriving.{rest_in, IsAlone, CanPass, IsUntaken, IsOfPassing, MayServe, out_in}
 use Rattle.iscsi_connection.specs.declared.arriving.Arrived.{Arrived}
 use Rattle.iscsi_connection.specs.declared.arriving.Arrived.TheVariants.{Whole, Passed}
 use Rattle.iscsi_connection.specs.declared.arriving.Taken.{Taken}
@@ -59,9 +59,40 @@ gives_first frame old new there first taken = record {
   shorter = rw taken (drop_shorter old there);
 }
 
+pub none_after : (old : List ℕ) → IsAlone old → drop (frame_length old) old ≡ []
+none_after old alone = (let all = alone.alone in drop_all (frame_length old) old (omega (arith, all)))
+
 pub gives_as : (frame other : Frame) (all old left new : List ℕ) → other ≡ frame → all ≡ old → left ≡ new → GivesFrame frame old new
     → GivesFrame other all left
 gives_as frame other all old left new a b c gives = rw (a, b, c) gives
+
+-- a frame is taken that is all there is
+pub gives_alone : (frame : Frame) (old : List ℕ) → IsAlone old → first_frame old ≡ frame → GivesFrame frame old []
+gives_alone frame old alone first = gives_first frame old [] alone.whole first (sym (none_after old alone))
+
+-- the PDU is all there is
+pub alone_ahead : (p after : List ℕ) → IsInFront (Some p) after → IsAlone (p ++ after) → (has_frame p ≡ true) × (after ≡ [])
+alone_ahead p after front alone = elim (cases_Bool (has_frame p)) [
+  | inl whole ↦ (
+    whole,
+    (
+        let long = ends_there p front.0 whole in
+        let begun = front.0.begun in
+        let framed = frame_length-append p after (omega (arith, begun)) in
+        let all = alone.alone in
+        nil_from_length after (omega (arith, long, framed, all, length-append p after))),
+  )
+  | inr part ↦ absurd (cc (part, ap has_frame (sym (append-nil p) ∙ ap (λ (l : List ℕ). p ++ l) (sym (front.1 part))) ∙ alone.whole))
+]
+
+pub counted_alone : (p after : List ℕ) → IsPassing p → has_frame p ≡ true → after ≡ [] → IsAlone (p ++ after)
+counted_alone p after passing whole none =
+    subst IsAlone (sym (append-nil p) ∙ ap (λ (l : List ℕ). p ++ l) (sym none)) (record { whole = whole; alone = sym (ends_there p passing whole) })
+
+pub gives_counted : (p after : List ℕ) → IsInFront (Some p) after → IsAlone (p ++ after) → GivesFrame (first_frame p) (p ++ after) []
+gives_counted p after front alone =
+    let is = alone_ahead p after front alone in
+    subst (λ (l : List ℕ). GivesFrame (first_frame p) (p ++ after) l) is.1 (gives_ahead p after front.0 is.0)
 
 -- it is not whole yet
 pub none_ahead : (p after : List ℕ) → IsInFront (Some p) after → has_frame p ≡ false → arrivals (p ++ after) ≡ []
@@ -200,6 +231,11 @@ pub may_serve : {E : Type 0} (phase : Phase) (r : Result Taken E) (passing : Lis
     → IfOk r (λ taken. IsOfPassing taken.arrived passing) → IfOk r (λ taken. MayServe phase taken.arrived)
 may_serve phase (Ok taken) passing can is = serves_of phase taken.arrived passing can is
 may_serve phase (Err fault) passing can is = tt
+
+pub alone_may_serve : {E : Type 0} (phase : Phase) (r : Result Arrived E) (passing : List ℕ) → CanPass phase passing
+    → IfOk r (λ arrived. IsOfPassing arrived passing) → IfOk r (λ arrived. MayServe phase arrived)
+alone_may_serve phase (Ok arrived) passing can is = serves_of phase arrived passing can is
+alone_may_serve phase (Err fault) passing can is = tt
 
 -- ---- results
 

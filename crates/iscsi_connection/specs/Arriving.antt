@@ -1,7 +1,7 @@
 -- The bytes of a connection that have come and are not taken.
-use Rattle.std.specs.Prelude.{◌≡◌, ◌⊎◌, ℕ, List, [], ◌++◌, take, false, Option, None, Some, ⊤}
+use Rattle.std.specs.Prelude.{◌≡◌, ◌⊎◌, ℕ, List, [], ◌++◌, length, take, true, false, Option, None, Some, ⊤}
 use Rattle.iscsi_pdu.specs.Header.{header_length, data_length, opcode_number}
-use Rattle.iscsi_pdu.specs.Frames.{Frame}
+use Rattle.iscsi_pdu.specs.Frames.{Frame, has_frame, frame_length}
 use Rattle.iscsi_framer.specs.Passing.{IsPassing}
 use Rattle.iscsi_session.specs.Unread.{takes_in}
 use Rattle.iscsi_transfer.specs.Counted.{brought}
@@ -18,6 +18,11 @@ pub record ArrivingState : Type 0 where
 
 abbrev pub bytes_in : ArrivingState → List ℕ
 bytes_in arriving = arriving.passing ++ arriving.after
+
+-- these bytes are one PDU, which is whole
+pub record IsAlone (bytes : List ℕ) : Type 0 where
+  pub whole : has_frame bytes ≡ true
+  pub alone : frame_length bytes ≡ length bytes
 
 -- the bytes after a PDU that was taken
 abbrev pub rest_in : Option (List ℕ) → List ℕ

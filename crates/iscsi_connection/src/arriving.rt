@@ -8,7 +8,7 @@ ghost use Rattle.iscsi_world.specs.History.{arrivals};
 ghost use Rattle.iscsi_world.specs.Machine.{GivesFrame};
 ghost use Rattle.iscsi_world.specs.declared.phase.Phase.{Phase};
 ghost use Rattle.iscsi_connection.specs.Passing.{IsInFront};
-ghost use Rattle.iscsi_connection.specs.Arriving.{ArrivingState, bytes_in, rest_in, frame_of, IsUntaken, CanPass, IsOfPassing, out_in};
+ghost use Rattle.iscsi_connection.specs.Arriving.{ArrivingState, bytes_in, rest_in, frame_of, IsAlone, IsUntaken, CanPass, IsOfPassing, out_in};
 
 use data_parts::SpareBuffers;
 use iscsi_framer::{FrameRoom, Framer, Front, PassedDataOut, PassingDataOut};
@@ -126,13 +126,60 @@ impl Arriving {
     /// Returns what stands in front of the bytes.
     pub(crate) fn front(&self) -> Front
         ensures part { result ≡ Front.Part → arrivals (bytes_in self.now) ≡ [] }
-        ensures whole { result ≡ Front.Whole → has_frame (bytes_in self.now) ≡ true }
+        ensures alone { result ≡ Front.Alone → IsAlone (bytes_in self.now) }
+        ensures followed { result ≡ Front.Followed → has_frame (bytes_in self.now) ≡ true }
         ensures long { result ≡ Front.TooLong → is_long (bytes_in self.now) ≡ true }
     {
         match &self.passing {
-            Some(passing) if passing.is_whole() => Front::Whole,
-            Some(_) => Front::Part,
             None => self.framer.front(),
+            Some(passing) if !passing.is_whole() => Front::Part,
+            Some(_) if self.framer.is_empty() => Front::Alone,
+            Some(_) => Front::Followed,
+        }
+    }
+
+    /// Takes the PDU that has come, after which no byte has.
+    pub(crate) fn take_alone(&mut self) -> Result<Arrived, Memory>
+        requires { IsAlone (bytes_in self.old) }
+        ensures given { IfOk result (λ arrived. GivesFrame (frame_of arrived) (bytes_in self.old) []) }
+        ensures left { OnOk result (self.new ≡ record { passing = []; after = [] }) }
+        ensures passed { IfOk result (λ arrived. IsOfPassing arrived self.old.passing) }
+        ensures err { OnErr result (self.new ≡ self.old) }
+    {
+        if self.passing.is_some() {
+            return self.take_passing();
+        }
+        self.take_frame()
+    }
+
+    /// Takes the PDU that has come, of which all bytes are kept, and after which no byte has come.
+    fn take_frame(&mut self) -> Result<Arrived, Memory>
+        requires alone { IsAlone (bytes_in self.old) }
+        requires kept { self.old.passing ≡ [] }
+        ensures given { IfOk result (λ arrived. GivesFrame (frame_of arrived) (bytes_in self.old) []) }
+        ensures left { OnOk result (self.new ≡ record { passing = []; after = [] }) }
+        ensures passed { IfOk result (λ arrived. IsOfPassing arrived self.old.passing) }
+        ensures err { OnErr result (self.new ≡ self.old) }
+    {
+        match self.framer.take_first() {
+            Ok(frame) => Ok(Arrived::Whole(frame)),
+            // The framer reports no other fault here.
+            Err(_) => Err(Memory),
+        }
+    }
+
+    /// Takes a Data-Out that was only counted, and after which no byte has come, or any other PDU.
+    #[inline(never)]
+    fn take_passing(&mut self) -> Result<Arrived, Memory>
+        requires { IsAlone (bytes_in self.old) }
+        ensures given { IfOk result (λ arrived. GivesFrame (frame_of arrived) (bytes_in self.old) []) }
+        ensures left { OnOk result (self.new ≡ record { passing = []; after = [] }) }
+        ensures passed { IfOk result (λ arrived. IsOfPassing arrived self.old.passing) }
+        ensures err { OnErr result (self.new ≡ self.old) }
+    {
+        match self.passing.take() {
+            Some(passing) => Ok(Arrived::Passed(passing.into_passed())),
+            None => self.take_frame(),
         }
     }
 
@@ -157,7 +204,7 @@ impl Arriving {
         }
     }
 
-    /// Takes the bytes after a Data-Out that was in front and is whole.
+    /// Returns a Data-Out that was in front and is whole, with all bytes after it, which it takes.
     #[inline(never)]
     fn take_passed(&mut self, passing: PassingDataOut) -> Taken
         requires none { self.old.passing ≡ [] }

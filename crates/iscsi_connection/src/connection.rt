@@ -15,13 +15,13 @@ ghost use Rattle.iscsi_login.specs.LoginState.{LoginState, IsTargetBelow};
 ghost use Rattle.iscsi_login.specs.Login.{advanced, reply_of};
 ghost use Rattle.iscsi_session.specs.Requests.{begun as begun_past};
 ghost use Rattle.iscsi_session.specs.State.{remembered};
-ghost use Rattle.iscsi_connection.specs.Arriving.{rest_in, frame_of, IsUntaken, MayServe};
+ghost use Rattle.iscsi_connection.specs.Arriving.{rest_in, frame_of, IsAlone, IsUntaken, MayServe};
 ghost use Rattle.iscsi_connection.specs.Rooms.{LendsRoom};
 ghost use Rattle.iscsi_world.specs.History.{arrivals};
 ghost use Rattle.iscsi_world.specs.Machine.{LinkState, is_reading, is_logging_in, session_in_phase, free_link, opened_link, shut_link, begun_link, GivesFrame, IsAnswered, IsWithin, sent_link, is_settled, is_silent, most_waiting};
 ghost use Rattle.iscsi_world.specs.declared.phase.Phase.TheVariants.{Login as UnderWay};
 
-use crate::arriving::{Arriving, Taken};
+use crate::arriving::{Arrived, Arriving, Taken};
 use bytes::BytesMut;
 use data_parts::SpareBuffers;
 use iscsi_framer::{FrameRoom, Framer, Front};
@@ -193,10 +193,24 @@ impl Connection {
     pub fn front(&self) -> Front
         requires { is_reading self.now.phase ≡ true }
         ensures part { result ≡ Front.Part → arrivals self.now.half ≡ [] }
-        ensures whole { result ≡ Front.Whole → has_frame self.now.half ≡ true }
+        ensures alone { result ≡ Front.Alone → IsAlone self.now.half }
+        ensures followed { result ≡ Front.Followed → has_frame self.now.half ≡ true }
         ensures long { result ≡ Front.TooLong → is_long self.now.half ≡ true }
     {
         self.arriving.front()
+    }
+
+    /// Takes the PDU that has come, after which no byte has. So nothing is to be put back.
+    pub fn take_alone(&mut self) -> Result<Arrived, Memory>
+        requires reads { is_reading self.old.phase ≡ true }
+        requires alone { IsAlone self.old.half }
+        ensures given { IfOk result (λ arrived. GivesFrame (frame_of arrived) self.old.half []) }
+        ensures same { self.new ≡ record self.old { half = self.new.half } }
+        ensures left { OnOk result (self.new.half ≡ []) }
+        ensures serves { IfOk result (λ arrived. MayServe self.old.phase arrived) }
+        ensures err { OnErr result (self.new ≡ self.old) }
+    {
+        self.arriving.take_alone()
     }
 
     /// Takes the first PDU, which is whole, with all bytes after it, which [`Connection::put_back`] puts back.

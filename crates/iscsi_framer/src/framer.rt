@@ -166,7 +166,7 @@ impl Framer {
     {
         match self.front() {
             Front::Part => Ok(None),
-            Front::Whole => Ok(Some(self.take_first()?)),
+            Front::Alone | Front::Followed => Ok(Some(self.take_first()?)),
             Front::TooLong => Err(PduFault::TooLong),
         }
     }
@@ -175,7 +175,8 @@ impl Framer {
     #[tactic(auto, unfolding(iscsi_pdu::specs::Frames::has_frame, iscsi_pdu::specs::Frames::is_long, iscsi_pdu::specs::Frames::frame_length))]
     pub fn front(&self) -> Front
         ensures part { result ≡ Front.Part → (has_frame self.now ≡ false) × (is_long self.now ≡ false) }
-        ensures whole { (result ≡ Front.Whole) ↔ (has_frame self.now ≡ true) }
+        ensures alone { result ≡ Front.Alone → (has_frame self.now ≡ true) × (frame_length self.now ≡ length self.now) }
+        ensures followed { result ≡ Front.Followed → (has_frame self.now ≡ true) × (frame_length self.now < length self.now) }
         ensures long { (result ≡ Front.TooLong) ↔ (is_long self.now ≡ true) }
     {
         let Some(header) = self.header() else {
@@ -186,10 +187,14 @@ impl Framer {
             return Front::TooLong;
         }
         let end = HEADER_LENGTH + header.additional_length() + padded(data);
-        if self.len() < end {
+        let had = self.len();
+        if had < end {
             return Front::Part;
         }
-        Front::Whole
+        if had > end {
+            return Front::Followed;
+        }
+        Front::Alone
     }
 
     /// Takes the first frame, which is whole.

@@ -5,8 +5,10 @@
 pub enum Front {
     /// Less than a frame.
     Part,
-    /// A whole frame.
-    Whole,
+    /// A whole frame, and no byte after it.
+    Alone,
+    /// A whole frame, and bytes after it.
+    Followed,
     /// A header that names too much data.
     TooLong,
 }

@@ -4,7 +4,7 @@ ghost use Rattle.std.specs.Prelude.{◌≡◌, ◌<◌, ◌≤◌, ◌+◌, ◌+
 ghost use Rattle.iscsi_pdu.specs.Frames.{has_frame};
 ghost use Rattle.iscsi_pdu.specs.Header.{header_length};
 ghost use Rattle.iscsi_login.specs.LoginState.{IsTargetBelow};
-ghost use Rattle.iscsi_connection.specs.Arriving.{frame_of, rest_in, MayServe};
+ghost use Rattle.iscsi_connection.specs.Arriving.{frame_of, rest_in, IsAlone, MayServe};
 ghost use Rattle.iscsi_target.specs.Feeding.{LendsRoomAt};
 ghost use Rattle.iscsi_world.specs.History.{arrivals};
 ghost use Rattle.iscsi_world.specs.Machine.{GivesFrame, link_at, with_link, is_logging_in, is_reading};
@@ -135,6 +135,22 @@ impl<S: Store> Target<S> {
         connection.take_pdu()
     }
 
+    /// Takes the PDU of a connection after which no byte has come.
+    fn take_pdu_alone(&mut self, c: usize) -> Result<Arrived, Memory>
+        requires in_range { c < 64 }
+        requires reads { is_reading (link_at self.old c).phase ≡ true }
+        requires alone { IsAlone (link_at self.old c).half }
+        ensures given { IfOk result (λ arrived. GivesFrame (frame_of arrived) (link_at self.old c).half []) }
+        ensures same { self.new ≡ with_link self.old c (record (link_at self.old c) { half = (link_at self.new c).half }) }
+        ensures left { OnOk result ((link_at self.new c).half ≡ []) }
+        ensures serves { IfOk result (λ arrived. MayServe (link_at self.old c).phase arrived) }
+        ensures err { OnErr result (self.new ≡ self.old) }
+        ensures count { length self.old.links ≡ 64 }
+    {
+        let connection = self.connections.at_mut(c);
+        connection.take_alone()
+    }
+
     /// Puts the bytes after a PDU that was taken back, if the connection is still read.
     fn put_back(&mut self, c: usize, rest: Option<Framer>)
         requires in_range { c < 64 }
@@ -175,7 +191,8 @@ impl<S: Store> Target<S> {
     {
         match self.connections.at(c).front() {
             Front::Part => None,
-            Front::Whole => Some(self.take_first(c)),
+            Front::Alone => Some(self.take_alone(c)),
+            Front::Followed => Some(self.take_first(c)),
             Front::TooLong => {
                 self.close(c);
                 Some(Ok(()))
@@ -183,8 +200,22 @@ impl<S: Store> Target<S> {
         }
     }
 
-    /// Takes the first frame of a connection, which is whole. It stays a call, since its values would be zeroed for each
-    /// piece.
+    /// Takes the frame of a connection after which no byte has come. It stays a call, since its values would be zeroed for
+    /// each piece.
+    #[inline(never)]
+    fn take_alone(&mut self, c: usize) -> Result<(), Starved>
+        requires in_range { c < 64 }
+        requires reads { is_reading (link_at self.old c).phase ≡ true }
+        requires alone { IsAlone (link_at self.old c).half }
+        ensures { TakesOne c (first_starved result) self.old self.new }
+    {
+        match self.take_pdu_alone(c) {
+            Ok(arrived) => self.take_frame(c, arrived),
+            Err(Memory) => Err(self.starve(c)),
+        }
+    }
+
+    /// Takes the first frame of a connection, which is whole. It stays a call, as [`Target::take_alone`] does.
     #[inline(never)]
     fn take_first(&mut self, c: usize) -> Result<(), Starved>
         requires in_range { c < 64 }

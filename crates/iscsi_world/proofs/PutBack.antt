@@ -117,17 +117,15 @@ kept_back : (c : ℕ) (more : List ℕ) (taken new : Machine) → PutsBack c mor
 kept_back c more taken new p = grind (arith, p.link)
 
 -- a PDU that was taken from the front, and served while the bytes after it were not there
-pub takes_arrived : (old given taken new : Machine) (c : ℕ) (frame : Frame) (more : List ℕ) (starved : Option ℕ) → c < connection_limit
-    → length old.links ≡ connection_limit → length taken.links ≡ connection_limit → is_reading (link_at old c).phase ≡ true
+takes_put : (old given taken new : Machine) (c : ℕ) (frame : Frame) (more : List ℕ) (starved : Option ℕ) → c < connection_limit
+    → length old.links ≡ connection_limit → is_reading (link_at old c).phase ≡ true
     → GivesFrame frame (link_at old c).half more → given ≡ with_link old c (record (link_at old c) { half = [] })
-    → TakesFrame c frame starved given taken → new ≡ put_back c more taken → TakesOne c starved old new
-takes_arrived old given taken new c frame more starved lt count still r gives is t back =
+    → TakesFrame c frame starved given taken → PutsBack c more taken new → TakesOne c starved old new
+takes_put old given taken new c frame more starved lt count r gives is t p =
     let takes = t.takes in
     let moves = t.moves in
     let link = halved_link old given c [] lt count is in
     let reads_given = halved_reads old given c [] lt count is r in
-    let none : (link_at given c).half ≡ [] = ap (λ (l : LinkState). l.half) link in
-    let p = puts_back _ taken new c more refl lt still (served_none given taken c frame starved reads_given none t) back in
     let loads = t.loads (header_whole (link_at old c).half frame _ gives.first) in
     let fed : Feeds c old given = (let P : Machine → Type 0 = λ m. Feeds c old m in subst P (sym is)
     (changes_feeds c old old.units c (record (link_at old c) { half = [] }) (omega (arith, count)) (halving (link_at old c) [] r) (own_self c old))) in
@@ -172,3 +170,44 @@ takes_arrived old given taken new c frame more starved lt count still r gives is
             (halved_adds 1 (link_at old c) (link_at taken c) [] (subst (λ (l : LinkState). AddsAtMost 1 l (link_at taken c)) link loads)));
       };
     }
+
+-- nothing waits on the connection while it is served
+left_none : (old given taken : Machine) (c : ℕ) (frame : Frame) (starved : Option ℕ) → c < connection_limit → length old.links ≡ connection_limit
+    → is_reading (link_at old c).phase ≡ true → given ≡ with_link old c (record (link_at old c) { half = [] })
+    → TakesFrame c frame starved given taken → (link_at taken c).half ≡ []
+left_none old given taken c frame starved lt count r is t =
+    served_none given taken c frame starved (halved_reads old given c [] lt count is r)
+    (ap (λ (l : LinkState). l.half) (halved_link old given c [] lt count is)) t
+
+pub takes_arrived : (old given taken new : Machine) (c : ℕ) (frame : Frame) (more : List ℕ) (starved : Option ℕ) → c < connection_limit
+    → length old.links ≡ connection_limit → length taken.links ≡ connection_limit → is_reading (link_at old c).phase ≡ true
+    → GivesFrame frame (link_at old c).half more → given ≡ with_link old c (record (link_at old c) { half = [] })
+    → TakesFrame c frame starved given taken → new ≡ put_back c more taken → TakesOne c starved old new
+takes_arrived old given taken new c frame more starved lt count still r gives is t back =
+    takes_put old given taken new c frame more starved lt count r gives is t
+    (puts_back _ taken new c more refl lt still (left_none old given taken c frame starved lt count r is t) back)
+
+-- the same, if no byte has come after it
+puts_nothing : (reads : Bool) (taken : Machine) (c : ℕ) → is_reading (link_at taken c).phase ≡ reads → (link_at taken c).half ≡ []
+    → PutsBack c [] taken taken
+puts_nothing reads taken c r none = record {
+  units = refl;
+  link = nothing_there reads (link_at taken c) r none;
+  others = λ d other. refl;
+  feeds = (moves_none c taken).alters.feeds;
+  part = part_none c taken;
+  serves = λ s sent half w h. h;
+}
+  where
+    nothing_there : (reads : Bool) (link : LinkState) → is_reading link.phase ≡ reads → link.half ≡ []
+        → link ≡ record link { half = if is_reading link.phase then [] else [] }
+    nothing_there true link r none = rw r (ap (λ (bytes : List ℕ). (let l : LinkState = record link { half = bytes } in l)) none)
+    nothing_there false link r none = rw r (ap (λ (bytes : List ℕ). (let l : LinkState = record link { half = bytes } in l)) none)
+
+pub takes_alone : (old given taken : Machine) (c : ℕ) (frame : Frame) (starved : Option ℕ) → c < connection_limit
+    → length old.links ≡ connection_limit → is_reading (link_at old c).phase ≡ true
+    → GivesFrame frame (link_at old c).half [] → given ≡ with_link old c (record (link_at old c) { half = [] })
+    → TakesFrame c frame starved given taken → TakesOne c starved old taken
+takes_alone old given taken c frame starved lt count r gives is t =
+    takes_put old given taken taken c frame [] starved lt count r gives is t
+    (puts_nothing _ taken c refl (left_none old given taken c frame starved lt count r is t))
