@@ -3,7 +3,6 @@
 ghost use Rattle.std.specs.Prelude.{◌≡◌, ◌<◌, ◌≤◌, ◌+◌, ◌++◌, [], true, false, length, take, IfOk, IfSome, IfNone, OnOk, OnErr};
 ghost use Rattle.iscsi_pdu.specs.Frames.{has_frame};
 ghost use Rattle.iscsi_pdu.specs.Header.{header_length};
-ghost use Rattle.iscsi_login.specs.LoginState.{IsTargetBelow};
 ghost use Rattle.iscsi_connection.specs.Arriving.{frame_of, rest_in, IsAlone, MayServe};
 ghost use Rattle.iscsi_target.specs.Feeding.{LendsRoomAt};
 ghost use Rattle.iscsi_world.specs.History.{arrivals};
@@ -15,7 +14,7 @@ use crate::target::Target;
 use data_parts::SpareBuffers;
 use iscsi_connection::{Arrived, Taken};
 use iscsi_framer::{FrameRoom, Framer, Front};
-use iscsi_pdu::Opcode;
+use iscsi_pdu::{HEADER_LENGTH, Opcode};
 use iscsi_world::{Phase, Starved};
 use media_store::Store;
 use target_limits::Memory;
@@ -28,7 +27,21 @@ impl<S: Store> Target<S> {
         ensures ok { OnOk result (self.new ≡ kept_piece c piece.now self.old) }
         ensures err { OnErr result (self.new ≡ with_link self.old c (record (link_at self.old c) { half = (link_at self.new c).half })) }
     {
-        let target = self.home(c);
+        match self.home(c) {
+            // A header needs no buffer, and mostly it comes alone.
+            Some(target) if piece.len() > HEADER_LENGTH => self.keep_for(c, piece, target),
+            _ => self.keep_with(c, piece, &mut SpareBuffers::new(self.alloc)),
+        }
+    }
+
+    /// Keeps a further piece of a connection's bytes as [`Target::keep`] does, using the spare buffers of a target's units.
+    fn keep_for(&mut self, c: usize, piece: &[u8], target: usize) -> Result<(), Memory>
+        requires in_range { c < 64 }
+        requires reads { is_reading (link_at self.old c).phase ≡ true }
+        requires target { target < length self.old.units }
+        ensures ok { OnOk result (self.new ≡ kept_piece c piece.now self.old) }
+        ensures err { OnErr result (self.new ≡ with_link self.old c (record (link_at self.old c) { half = (link_at self.new c).half })) }
+    {
         let mut spares = self.lend_buffers(target);
         let kept = self.keep_with(c, piece, &mut spares);
         self.return_buffers(target, spares);
@@ -77,6 +90,21 @@ impl<S: Store> Target<S> {
         connection.lend_room(room, spares)
     }
 
+    /// Lends the buffer of a connection's half-read PDU as [`Target::lend_room`] does, using the spare buffers of a target's
+    /// units.
+    pub(crate) fn lend_for(&mut self, c: usize, room: usize, target: usize) -> Option<FrameRoom>
+        requires in_range { c < 64 }
+        requires reads { is_reading (link_at self.old c).phase ≡ true }
+        requires target { target < length self.old.units }
+        ensures lent { IfSome result (λ lent. LendsRoomAt c lent room self.old self.new) }
+        ensures none { IfNone result (self.new ≡ self.old) }
+    {
+        let mut spares = self.lend_buffers(target);
+        let lent = self.lend_with(c, room, &mut spares);
+        self.return_buffers(target, spares);
+        lent
+    }
+
     /// Takes back the buffer of a connection's half-read PDU, of which the reader has filled `count` bytes.
     pub(crate) fn take_room(&mut self, c: usize, lent: FrameRoom, count: usize)
         requires in_range { c < 64 }
@@ -91,16 +119,13 @@ impl<S: Store> Target<S> {
         connection.take_room(lent, count);
     }
 
-    /// Lends the spare buffers of a target's units. Without a target there are none.
+    /// Lends the spare buffers of a target's units.
     #[tactic(auto, using(iscsi_world::proofs::Sent::same_units))]
     #[inline(always)]
-    pub(crate) fn lend_buffers(&mut self, target: Option<usize>) -> SpareBuffers
-        requires { IsTargetBelow (length self.old.units) target }
+    pub(crate) fn lend_buffers(&mut self, target: usize) -> SpareBuffers
+        requires { target < length self.old.units }
         ensures { self.new ≡ self.old }
     {
-        let Some(target) = target else {
-            return SpareBuffers::new(self.alloc);
-        };
         let units = &mut self.units[target];
         units.lend_buffers()
     }
@@ -108,13 +133,10 @@ impl<S: Store> Target<S> {
     /// Returns the spare buffers to the target's units.
     #[tactic(auto, using(iscsi_world::proofs::Sent::same_units))]
     #[inline(always)]
-    pub(crate) fn return_buffers(&mut self, target: Option<usize>, spares: SpareBuffers)
-        requires { IsTargetBelow (length self.old.units) target }
+    pub(crate) fn return_buffers(&mut self, target: usize, spares: SpareBuffers)
+        requires { target < length self.old.units }
         ensures { self.new ≡ self.old }
     {
-        let Some(target) = target else {
-            return;
-        };
         let units = &mut self.units[target];
         units.return_buffers(spares);
     }

@@ -13,6 +13,7 @@ ghost use Rattle.iscsi_world.specs.Stands.{Stands, StandsAfter, IsStarved, with_
 ghost use Rattle.iscsi_world.specs.Serving.{Takes, first_starved, ended_unless, starved_by};
 
 use crate::config::Config;
+use data_parts::SpareBuffers;
 use iscsi_connection::{Connection, Connections};
 use iscsi_framer::FrameRoom;
 use iscsi_login::{Directory, is_same_target};
@@ -163,11 +164,10 @@ impl<S: Store> Target<S> {
         if !self.reads(c) {
             return None;
         }
-        let target = self.home(c);
-        let mut spares = self.lend_buffers(target);
-        let lent = self.lend_with(c, room, &mut spares);
-        self.return_buffers(target, spares);
-        lent
+        match self.home(c) {
+            Some(target) => self.lend_for(c, room, target),
+            None => self.lend_with(c, room, &mut SpareBuffers::new(self.alloc)),
+        }
     }
 
     /// Takes back the buffer that [`Target::lend_room`] lent, of which the reader has filled `count` bytes. These are the
