@@ -67,7 +67,8 @@ def misfits():
         code = ""
         for line in file.read_text(encoding="utf-8").splitlines():
             if line.startswith("file: "):
-                code = (file.parents[1] / line.removeprefix("file: ")).read_text(encoding="utf-8")
+                path = file.parents[1] / line.removeprefix("file: ")
+                code = path.read_text(encoding="utf-8") if path.is_file() else ""
             elif line.startswith("old: ") and code.count(line.removeprefix("old: ")) != 1:
                 faults.append(f"{file.relative_to(TOP)}: the text after `old: ` is to stand once in its file")
     return faults
