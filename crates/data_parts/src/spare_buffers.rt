@@ -1,6 +1,6 @@
 //! Buffers in which data came, kept for reuse.
 
-ghost use Rattle.std.specs.Prelude.{◌≡◌, [], IfOk};
+ghost use Rattle.std.specs.Prelude.{◌≡◌, ◌<◌, ◌≤◌, ◌*◌, ◌↔◌, IsTrue, [], IfOk};
 
 use std::alloc::{AllocError, Global};
 
@@ -42,12 +42,17 @@ pub struct SpareBuffers {
 }
 
 /// Returns whether a buffer of this capacity is taken for `room` bytes: it has the room, and less than twice as much.
-fn suits(capacity: usize, room: usize) -> bool {
+fn suits(capacity: usize, room: usize) -> bool
+    ensures { IsTrue result ↔ (room ≤ capacity) × (capacity < 2 * room) }
+{
     room > capacity / 2 && room <= capacity
 }
 
 /// Returns the capacity of the buffer that is taken for `room` bytes.
-fn capacity_for(room: usize) -> usize {
+fn capacity_for(room: usize) -> usize
+    ensures enough { room ≤ result }
+    ensures less { 0 < room → result < 2 * room }
+{
     if suits(SMALL, room) {
         return SMALL;
     }
