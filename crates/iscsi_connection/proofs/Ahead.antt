@@ -26,7 +26,6 @@ use Rattle.iscsi_world.proofs.Taking.{short_frame}
 use Rattle.iscsi_connection.specs.Arriving.{rest_in, IsAlone, CanPass, IsUntaken, IsOfPassing, MayServe, out_in}
 use Rattle.iscsi_connection.specs.declared.arriving.Arrived.{Arrived}
 use Rattle.iscsi_connection.specs.declared.arriving.Arrived.TheVariants.{Whole, Passed}
-use Rattle.iscsi_connection.specs.declared.arriving.Taken.{Taken}
 use Rattle.iscsi_connection.specs.Passing.{IsInFront}
 
 -- ---- what is in front
@@ -59,16 +58,15 @@ gives_first frame old new there first taken = record {
   shorter = rw taken (drop_shorter old there);
 }
 
-pub none_after : (old : List ℕ) → IsAlone old → drop (frame_length old) old ≡ []
-none_after old alone = (let all = alone.alone in drop_all (frame_length old) old (omega (arith, all)))
-
 pub gives_as : (frame other : Frame) (all old left new : List ℕ) → other ≡ frame → all ≡ old → left ≡ new → GivesFrame frame old new
     → GivesFrame other all left
 gives_as frame other all old left new a b c gives = rw (a, b, c) gives
 
 -- a frame is taken that is all there is
 pub gives_alone : (frame : Frame) (old : List ℕ) → IsAlone old → first_frame old ≡ frame → GivesFrame frame old []
-gives_alone frame old alone first = gives_first frame old [] alone.whole first (sym (none_after old alone))
+gives_alone frame old alone first =
+    let all = alone.alone in
+    gives_first frame old [] alone.whole first (sym (drop_all (frame_length old) old (omega (arith, all))))
 
 -- the PDU is all there is
 pub alone_ahead : (p after : List ℕ) → IsInFront (Some p) after → IsAlone (p ++ after) → (has_frame p ≡ true) × (after ≡ [])
@@ -227,15 +225,10 @@ serves_of phase (Passed out) passing (inr untaken) is = rw is.0 (
 )
 
 -- what was taken may be served
-pub may_serve : {E : Type 0} (phase : Phase) (r : Result Taken E) (passing : List ℕ) → CanPass phase passing
-    → IfOk r (λ taken. IsOfPassing taken.arrived passing) → IfOk r (λ taken. MayServe phase taken.arrived)
-may_serve phase (Ok taken) passing can is = serves_of phase taken.arrived passing can is
-may_serve phase (Err fault) passing can is = tt
-
-pub alone_may_serve : {E : Type 0} (phase : Phase) (r : Result Arrived E) (passing : List ℕ) → CanPass phase passing
-    → IfOk r (λ arrived. IsOfPassing arrived passing) → IfOk r (λ arrived. MayServe phase arrived)
-alone_may_serve phase (Ok arrived) passing can is = serves_of phase arrived passing can is
-alone_may_serve phase (Err fault) passing can is = tt
+pub may_serve : {A E : Type 0} (arrived : A → Arrived) (phase : Phase) (r : Result A E) (passing : List ℕ) → CanPass phase passing
+    → IfOk r (λ taken. IsOfPassing (arrived taken) passing) → IfOk r (λ taken. MayServe phase (arrived taken))
+may_serve arrived phase (Ok taken) passing can is = serves_of phase (arrived taken) passing can is
+may_serve arrived phase (Err fault) passing can is = tt
 
 -- ---- results
 

@@ -2,7 +2,7 @@ use Rattle.std.proofs.Common.{◌≡◌, ◌∙◌, true, sym, ap}
 use Rattle.iscsi_world.specs.Machine.{LinkState, is_reading}
 use Rattle.iscsi_world.proofs.Choices.{cond_true}
 use Rattle.iscsi_connection.specs.Arriving.{bytes_in}
-use Rattle.iscsi_connection.proofs.Ahead.{alone_may_serve}
+use Rattle.iscsi_connection.proofs.Ahead.{may_serve}
 use Rattle.iscsi_connection.proofs.connection.Connection.take_alone.Goals as goal
 
 pub returns-clause-given : goal.returns-clause-given
@@ -14,4 +14,4 @@ returns-clause-given c =
 pub returns-clause-serves : goal.returns-clause-serves
 returns-clause-serves c =
     let phase = ap (λ (l : LinkState). l.phase) c.self.view_is in
-    rw (← phase) (alone_may_serve c.self.inside.phase c.take_alone.result c.self.inside.arriving.passing c.self.invariant c.take_alone.ensures.passed)
+    rw (← phase) (may_serve (λ arrived. arrived) c.self.inside.phase c.take_alone.result c.self.inside.arriving.passing c.self.invariant c.take_alone.ensures.passed)

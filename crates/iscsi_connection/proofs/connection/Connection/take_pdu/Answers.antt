@@ -14,4 +14,4 @@ returns-clause-given c =
 pub returns-clause-serves : goal.returns-clause-serves
 returns-clause-serves c =
     let phase = ap (λ (l : LinkState). l.phase) c.self.view_is in
-    rw (← phase) (may_serve c.self.inside.phase c.take_pdu.result c.self.inside.arriving.passing c.self.invariant c.take_pdu.ensures.passed)
+    rw (← phase) (may_serve (λ taken. taken.arrived) c.self.inside.phase c.take_pdu.result c.self.inside.arriving.passing c.self.invariant c.take_pdu.ensures.passed)
