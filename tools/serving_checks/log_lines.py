@@ -11,6 +11,7 @@ import time
 from contextlib import contextmanager
 from pathlib import Path
 
+from running.libraries import CALLS
 from serving_checks.loopback import (CONNECTIONS, LIMIT, LOGIN, READY, UNITS, answers, connect, disk_file, ended,
                                      held_clients, is_answered, is_closed, read, read_10, requests, serving,
                                      started)
@@ -207,7 +208,7 @@ def tells_a_read_that_failed():
 
 def tells_a_write_that_failed_and_once_that_the_unit_is_not_ready():
     with disk_file(bytes(4096)) as (_, units):
-        settings = {"LD_PRELOAD": str(library("failing_calls_checks/calls.c")), "FAIL_CALL": "store", "FAIL_NUMBER": "1",
+        settings = {"LD_PRELOAD": str(library(CALLS)), "FAIL_CALL": "store", "FAIL_NUMBER": "1",
                     "FAIL_ERROR": str(errno.ENOSPC), "FAIL_ON": "1"}
         by = ["env", *map("=".join, settings.items())]
         with logging(units, by=by) as (_, address, path), connect(address) as client:

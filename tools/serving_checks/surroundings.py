@@ -15,6 +15,7 @@ from contextlib import ExitStack, contextmanager, suppress
 from pathlib import Path
 
 from running import checks
+from running.libraries import CALLS, built
 from serving_checks.endings import (BLOCKS, INITIATOR, TARGET, connect_in, disk_of_reads, ip, may_make_networks,
                                     reads, rest_of, two_networks)
 from serving_checks.loopback import (CONNECTIONS, LIMIT, LOGIN, TOP, answer_of, connect, ended, is_answered,
@@ -37,14 +38,10 @@ class Skipped(checks.Skipped):
 
 
 def library(source):
-    """A library, built from this source of tools/, which is loaded into the program."""
+    """A library of this source, which is loaded into the program."""
     if not shutil.which("gcc"):
         raise Skipped("there is no gcc")
-    path = TOP / f"tools/out/{Path(source).stem}.so"
-    path.parent.mkdir(exist_ok=True)
-    subprocess.run(["gcc", "-O1", "-Wall", "-Wextra", "-Werror", "-shared", "-fPIC", "-o", path,
-                    TOP / "tools" / source], check=True)
-    return path
+    return built(source)
 
 
 def is_served(client, number):
@@ -56,7 +53,7 @@ def is_served(client, number):
 
 def refusing(report, error, first, on):
     """Words that let the system refuse the accept of this number, or all from it on, and report each that it did."""
-    settings = {"LD_PRELOAD": str(library("failing_calls_checks/calls.c")), "FAIL_CALL": "accept", "FAIL_NUMBER": str(first),
+    settings = {"LD_PRELOAD": str(library(CALLS)), "FAIL_CALL": "accept", "FAIL_NUMBER": str(first),
                 "FAIL_ERROR": str(error), "FAIL_ON": str(int(on)), "FAIL_REPORT": "9"}
     return ["sh", "-c", f'exec 9>>{report}; exec "$@"', "sh", "env", *map("=".join, settings.items())]
 
