@@ -9,7 +9,7 @@
                                          store once all of it has come. Buffers are used again
 
    It prints its port, and answers whoever connects. Where one connects at a time it waits for nothing but the next
-   bytes of that one; where more do, it asks epoll. Every login is accepted, every command is a READ, a WRITE or
+   bytes of that one; if more do, it asks epoll. Every login is accepted, every command is a READ, a WRITE or
    without data, and an R2T asks for all that does not come with a WRITE. */
 
 #include "fields.h"
@@ -37,7 +37,7 @@ struct client {
     unsigned char header[HEADER];
 };
 
-static unsigned char *store; /* none where data is not touched */
+static unsigned char *store; /* none if data is not touched */
 static size_t store_size, at_once = MOST; /* and how much is read at once */
 static int is_staged;
 static union buffer *spare;
@@ -68,7 +68,7 @@ static unsigned char *add(const struct client *client, unsigned char operation, 
     return header;
 }
 
-/* Ends where something is not so that must be. */
+/* Ends if something is not so that must be. */
 static void must(int is_so)
 {
     if (!is_so) {
@@ -77,7 +77,7 @@ static void must(int is_so)
     }
 }
 
-/* A buffer that nobody has, the last that was given back where there is one. */
+/* A buffer that nobody has, the last that was given back if there is one. */
 static union buffer *taken(void)
 {
     union buffer *buffer = spare;
@@ -109,7 +109,7 @@ static void begin(struct client *client)
     const unsigned char *header = client->header;
     struct command *command = command_of(client);
     size_t at = opcode(header) == DATA_OUT ? number(header, 40) : 0;
-    client->rest = behind(header);
+    client->rest = rest_after(header);
     client->to = NULL;
     if (opcode(header) == COMMAND) {
         command->at = number(header, 34) * BLOCK;
@@ -140,7 +140,7 @@ static void answer_read(const struct client *client, const struct command *comma
     }
 }
 
-/* Answers a WRITE all of whose data has come, which is stored where it was not before. */
+/* Answers a WRITE all of whose data has come, which is stored if it was not before. */
 static void answer_write(struct client *client)
 {
     struct command *command = command_of(client);
@@ -150,7 +150,7 @@ static void answer_write(struct client *client)
     add(client, RESPONSE, FINAL);
 }
 
-/* Answers a command, behind the data that came with it. */
+/* Answers a command, after the data that came with it. */
 static void answer_command(struct client *client)
 {
     const unsigned char *header = client->header;
@@ -246,7 +246,7 @@ static struct client *accepted(int listener)
     return client;
 }
 
-/* Serves those who connect one behind the other. */
+/* Serves those who connect one after the other. */
 static void serve_one(int listener)
 {
     for (;;) {

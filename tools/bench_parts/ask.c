@@ -20,7 +20,7 @@ struct worker {
     pthread_t thread;
     struct session *sessions;
     long count, in_flight, answered, sampled;
-    uint64_t until;          /* no command is sent behind this time */
+    uint64_t until;          /* no command is sent after this time */
     unsigned char *in, *out; /* what was read, and what is sent */
     uint32_t *samples;       /* nanoseconds from each command to its answer */
 };
@@ -117,7 +117,7 @@ static void take(struct worker *worker, struct session *session, size_t size)
         if (session->held < HEADER) {
             memcpy(session->header + session->held, in, more);
             session->held += more;
-            session->rest = session->held == HEADER ? behind(session->header) : 0;
+            session->rest = session->held == HEADER ? rest_after(session->header) : 0;
         } else {
             session->rest -= more;
         }
@@ -199,7 +199,7 @@ static int by_size(const void *one, const void *other)
 }
 
 /* Prints a line, and waits for one. */
-static void wait_behind(const char *line)
+static void wait_after(const char *line)
 {
     char in[8];
     puts(line);
@@ -262,10 +262,10 @@ int main(int words, char **word)
         begin(sessions + k, k);
     snprintf(in_force, sizeof in_force, "logged in %ld", sessions->asks);
     if (held)
-        wait_behind(in_force);
+        wait_after(in_force);
     const char *line = measured(workers, sessions);
     if (held)
-        wait_behind(line);
+        wait_after(line);
     else
         puts(line);
     return 0;

@@ -26,7 +26,7 @@ struct way {
     struct piece pieces[PIECES];
 };
 
-/* What is to be waited for. Gives the time of the next piece, where it is sooner. */
+/* What is to be waited for. Gives the time of the next piece, if it is sooner. */
 static uint64_t watch(const struct way *way, struct pollfd *polls, uint64_t now, uint64_t next)
 {
     uint64_t due = way->count > 0 ? way->pieces[way->first].due : UINT64_MAX;
@@ -64,7 +64,7 @@ static int is_sent(struct way *way)
     return 1;
 }
 
-/* Carries on what is ready, and the end behind the last piece. Whether the other side is still there. */
+/* Carries on what is ready, and the end after the last piece. Whether the other side is still there. */
 static int is_carried(struct way *way, const struct pollfd *polls, uint64_t delay)
 {
     if (polls[1].revents != 0 && !is_sent(way))

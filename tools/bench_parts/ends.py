@@ -175,7 +175,7 @@ class Ends:
         return Seen(answered / seconds, cost / max(1, answered), middle, late)
 
     def calls(self, served, **load):
-        """How many calls of the system a server makes for each command, by strace: a list, which is empty where strace
+        """How many calls of the system a server makes for each command, by strace: a list, which is empty if strace
         cannot tell."""
         if not shutil.which("strace"):
             return []
@@ -199,7 +199,7 @@ class Pace(NamedTuple):
     share: float = 1
 
     def of(self, count):
-        """How many are sent where this is the whole number."""
+        """How many are sent if this is the whole number."""
         return max(1, int(count * self.share))
 
 
@@ -212,7 +212,7 @@ class Bench(NamedTuple):
     pace: Pace
 
     def in_turns(self, looks, most=None):
-        """What each look found, round by round. There are no more rounds than these, where that is said."""
+        """What each look found, round by round. There are no more rounds than these, if that is said."""
         found = {name: [] for name in looks}
         for _ in range(min(self.pace.rounds, most or self.pace.rounds)):
             for name, look in looks.items():
@@ -234,7 +234,7 @@ class Bench(NamedTuple):
 
     @contextmanager
     def targets(self, with_files=False):
-        """Each target with a disk, by its name: targetd in memory and, where that is asked for, in a file; and tgt."""
+        """Each target with a disk, by its name: targetd in memory and, if that is asked for, in a file; and tgt."""
         with tempfile.TemporaryDirectory(dir="/dev/shm") as folder, ExitStack() as stack:
             found = {}
             for name, program in self.programs.items():

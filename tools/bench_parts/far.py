@@ -11,7 +11,7 @@ WRITE = {"kind": "write", "length": 1 << 20}
 
 
 def in_force(bench, served, asks):
-    """Which MaxOutstandingR2T is in force where this one is offered."""
+    """Which MaxOutstandingR2T is in force if this one is offered."""
     with bench.ends.held(served, asks=asks) as held:
         return held.asks
 

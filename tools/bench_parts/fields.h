@@ -59,8 +59,8 @@ static inline size_t segment(const unsigned char *header)
     return number(header, 4) & 0xffffff;
 }
 
-/* The bytes behind a header: additional headers, and the data with what brings it to a multiple of four. */
-static inline size_t behind(const unsigned char *header)
+/* The bytes after a header: additional headers, and the data with what brings it to a multiple of four. */
+static inline size_t rest_after(const unsigned char *header)
 {
     return 4 * (size_t)header[4] + ((segment(header) + 3) & ~(size_t)3);
 }

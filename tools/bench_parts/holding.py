@@ -136,8 +136,8 @@ def counted_session(bench, program):
 
 
 def allocated(bench, program):
-    """How many KiB a READ of 1 MiB takes at the most, beside a buffer for its data that was used before: where its answer
-    is read at once, and where it waits."""
+    """How many KiB a READ of 1 MiB takes at the most, beside a buffer for its data that was used before: once with
+    its answer read at once, and once with it waiting."""
     found = []
     with counted_session(bench, program) as (session, served, counted):
         for is_read in (True, False, True, False):
@@ -167,7 +167,7 @@ def unread(bench):
 
 
 def held_of(bench, program, most):
-    """How many KiB of a WRITE of 1 MiB have come where the last Data-Out is missing, and how many are allocated for it."""
+    """How many KiB of a WRITE of 1 MiB have come if the last Data-Out is missing, and how many are allocated for it."""
     with counted_session(bench, program) as (session, served, counted):
         before = counted.begin()
         came = session.write(most)

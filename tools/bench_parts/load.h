@@ -1,9 +1,9 @@
 /* What tools/bench_parts/ask.c is asked for: its words, and the CDBs of the commands that it sends.
 
    kind=read, kind=write              READs or WRITEs of `length` (0) bytes at the front of a disk; TEST UNIT READYs
-                                      where they are 0
+                                      if they are 0
    kind=verify                        VERIFYs of so many bytes that are zeros, which the disk holds there too
-   kind=read-on, kind=write-on        one behind the other, from the front of a disk on
+   kind=read-on, kind=write-on        one after the other, from the front of a disk on
    kind=read-tape, kind=write-tape    records of so many bytes, from the front of a tape on
    kind=read-fixed, kind=write-fixed  fixed blocks of 512 bytes, so many bytes of them at a time, from the front of a tape on
    kind=read-short                    records of a tape, each of which may be shorter than what is asked for (SILI)
@@ -129,10 +129,10 @@ static void put_cdb(unsigned char *cdb, long sent)
     if (kind->operation == SPACE || kind->operation == LOCATE)
         put_move(cdb, sent);
     if (length == 0)
-        return; /* TEST UNIT READY, where it is not said otherwise */
+        return; /* TEST UNIT READY, if it is not said otherwise */
     cdb[0] = kind->operation;
     if (kind->is_tape) {
-        put_number(cdb, 1, (size_t)(is_fixed() ? length / BLOCK : length)); /* the last three bytes, behind byte 1 */
+        put_number(cdb, 1, (size_t)(is_fixed() ? length / BLOCK : length)); /* the last three bytes, after byte 1 */
         cdb[1] = kind->flags;
         return;
     }

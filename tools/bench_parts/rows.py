@@ -16,7 +16,7 @@ def number(value):
 
 
 def spread(values):
-    """The median of the rounds, and their first and third quartile. Nothing where there are none."""
+    """The median of the rounds, and their first and third quartile. Nothing if there are none."""
     if len(values) < 2:
         return number(values[0]) if values else ""
     low, middle, high = map(number, quantiles(values, n=4, method="inclusive"))
@@ -52,7 +52,7 @@ class Aims:
         self.found = []
 
     def judged(self, what, values, most, unit):
-        """Says an aim and whether the median of the rounds is within it, and keeps that for the end. Nothing where
+        """Says an aim and whether the median of the rounds is within it, and keeps that for the end. Nothing if
         there is no aim or nothing was measured."""
         if most is None or not values:
             return ""

@@ -52,14 +52,14 @@ static const char *exchange(struct session *session, unsigned char *pdu, size_t 
     put_number(pdu, 24, session->next);
     put(session->fd, pdu, size);
     get(session->fd, session->header, HEADER);
-    if (behind(session->header) > MOST)
+    if (rest_after(session->header) > MOST)
         refused("too much data", session->header);
-    get(session->fd, text, behind(session->header));
-    text[behind(session->header)] = 0;
+    get(session->fd, text, rest_after(session->header));
+    text[rest_after(session->header)] = 0;
     return (const char *)text;
 }
 
-/* The number that a text has for a key, or another where it has none. */
+/* The number that a text has for a key, or another if it has none. */
 static long value_of(const char *text, size_t size, const char *name, long other)
 {
     for (const char *key = text; key < text + size; key += strlen(key) + 1)
@@ -76,10 +76,10 @@ static int has_begun(struct session *session, const char *text)
     const unsigned char *header = session->header;
     if (opcode(header) != ACCEPTED || header[36] != 0 || (header[1] & TRANSIT && header[1] != LOGGED_IN))
         refused("a login is refused", header);
-    session->segment = smaller((size_t)value_of(text, behind(header), limit, (long)session->segment), MOST);
+    session->segment = smaller((size_t)value_of(text, rest_after(header), limit, (long)session->segment), MOST);
     if (piece > 0)
         session->segment = smaller(session->segment, (size_t)piece);
-    session->asks = value_of(text, behind(header), most_asks, session->asks);
+    session->asks = value_of(text, rest_after(header), most_asks, session->asks);
     return header[1] == LOGGED_IN;
 }
 
@@ -100,7 +100,7 @@ static void login(struct session *session, int port_number)
     put_number(pdu, 10, (size_t)getpid() << 16 | (size_t)port_number);
     session->segment = SEGMENT;
     session->asks = 1;
-    while (!has_begun(session, exchange(session, pdu, HEADER + behind(pdu))))
+    while (!has_begun(session, exchange(session, pdu, HEADER + rest_after(pdu))))
         put_number(pdu, 4, 0);
 }
 

@@ -43,7 +43,7 @@ def begin(process, control, unit):
 
 @contextmanager
 def tgt(file, *kind):
-    """tgtd with a unit in this file, LUN 1, a disk where no kind is given: its process and the unit's URL. It is ended
+    """tgtd with a unit in this file, LUN 1, a disk if no kind is given: its process and the unit's URL. It is ended
     afterwards."""
     port = free_port()
     control = str(port % 32768)  # the highest that tgtadm takes is 32767

@@ -57,7 +57,7 @@ def in_place_of(place):
 
 
 class Blocks(Sweep):
-    """The runs of some parts, whose tape can be looked at behind each."""
+    """The runs of some parts, whose tape can be looked at after each."""
 
     def __init__(self, program, shim, parts=PARTS):
         self.folder = tempfile.TemporaryDirectory()
@@ -83,7 +83,7 @@ class Blocks(Sweep):
         return super().each(must, **settings)
 
     def without(self, place):
-        """What is answered behind a part, and the tape, where a TEST UNIT READY stands in the part's place."""
+        """What is answered after a part, and the tape, if a TEST UNIT READY stands in the part's place."""
         other = self.of(in_place_of(place))
         return other.lines[place + 1:], other.written
 
@@ -93,14 +93,14 @@ class Blocks(Sweep):
         place = first_other(self.lines, lines)
         if ended.status or ended.stderr or len(lines) != len(PARTS) or place == len(PARTS):
             raise Failed(f"status {ended.status}, {ended.stderr!r}, {len(lines)} lines, the first other one {place}")
-        told, behind, tape = sense(lines[place]), lines[place + 1:], self.tape.read_bytes()
+        told, after, tape = sense(lines[place]), lines[place + 1:], self.tape.read_bytes()
         if place in READS:
-            is_right = told == READ_FAILED and (behind, tape) == self.without(place)
+            is_right = told == READ_FAILED and (after, tape) == self.without(place)
         else:
-            is_right = (told == WRITE_FAILED and {sense(line) for line in behind} == {NOT_READY}
+            is_right = (told == WRITE_FAILED and {sense(line) for line in after} == {NOT_READY}
                         and tape.startswith(self.written[:WRITES[place]]))
         if not is_right:
-            raise Failed(f"part {place} is told {told}, and the others {[sense(line) for line in behind]}")
+            raise Failed(f"part {place} is told {told}, and the others {[sense(line) for line in after]}")
         return place
 
     def stores(self, **settings):
@@ -115,7 +115,7 @@ class Blocks(Sweep):
     def is_starved(self, _, number, ended):
         """It ran out of memory, and a part that was not answered is on the tape whole or not at all."""
         count = len(ended.stdout.splitlines())
-        left = {self.of(PARTS[:count + behind]).written for behind in (0, 1)}
+        left = {self.of(PARTS[:count + after]).written for after in (0, 1)}
         return out_of_memory(self, number, ended) and self.tape.read_bytes() in left
 
 

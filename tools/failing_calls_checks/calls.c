@@ -6,12 +6,12 @@
  *   FAIL_NUMBER  which call of these fails, counted from 1 since the program's own start
  *   FAIL_TIMES   how many fail from that one on; 1 unless it is set
  *   FAIL_THEN    errno of the call after these, which fails too, unless it is 0
- *   FAIL_ON      1: all calls behind it fail too
+ *   FAIL_ON      1: all calls after it fail too
  *   FAIL_ERROR   errno of the failed call; 0: it reads or writes no byte and is no error
  *   FAIL_PART    the call, a read or write at a place of a file, moves its bytes divided by this, at least one; FAIL_TIMES
- *                is of those behind it, and 0 unless it is set
- *   FAIL_PIECE   the most bytes that a read of descriptor 0 or a write to descriptor 1 moves, or, where FAIL_CALL is send,
- *                a write to a connection, or, where it is store, a read or a write at a place of a file
+ *                is of those after it, and 0 unless it is set
+ *   FAIL_PIECE   the most bytes that a read of descriptor 0 or a write to descriptor 1 moves, or, if FAIL_CALL is send,
+ *                a write to a connection, or, if it is store, a read or a write at a place of a file
  *   FAIL_REPORT  the descriptor that is told `failed` for each call that failed
  *   FAIL_TRACE   the descriptor that is told each call of the kind unit, in a line: read, write, cut, sync or seek, its
  *                descriptor, offset and bytes, and what it returned, or its errno below 0
@@ -121,7 +121,7 @@ static size_t at_most(size_t count)
     return piece && (size_t)piece < count ? (size_t)piece : count;
 }
 
-/* The same where calls of this kind are chosen. */
+/* The same if calls of this kind are chosen. */
 static size_t at_most_of(const char *call, size_t count)
 {
     return which && !strcmp(call, which) ? at_most(count) : count;

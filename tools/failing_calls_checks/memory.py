@@ -1,10 +1,10 @@
-"""Two initiators of the target of crates/two_initiators, which goes on where an allocation fails.
+"""Two initiators of the target of crates/two_initiators, which goes on if an allocation fails.
 
-A writes 1 MiB to the disk, as its data is asked for, while B writes records to the tape and reads them back, and behind them
-fixed blocks. A resets the disk while B has a WRITE in flight and a command behind it. Each reads what both wrote. Then A
+A writes 1 MiB to the disk, as its data is asked for, while B writes records to the tape and reads them back, and after them
+fixed blocks. A resets the disk while B has a WRITE in flight and a command after it. Each reads what both wrote. Then A
 reserves the disk and goes, and B preempts. Whatever allocation fails, one initiator is closed at the most. It was answered
 the first PDUs of the plain run, and the other one is answered as in a run in which that one sends nothing from the piece on
-at which it was closed, or from the next one on; and what it wrote there is to be read only where it was answered. It is
+at which it was closed, or from the next one on; and what it wrote there is to be read only if it was answered. It is
 closed no earlier as the number of the allocation rises.
 """
 
@@ -18,7 +18,7 @@ from replay.transcript import Run, Step
 from wire import notation, pdu
 
 A, B = range(2)
-OUT_OF_MEMORY = 3  # the status where the program's own needs are not met
+OUT_OF_MEMORY = 3  # the status if the program's own needs are not met
 
 LOGIN = '[Login-Request I T CSG=1 NSG=3 ITT=16 CmdSN=1 | "InitiatorName={}" 00 "TargetName=t1" 00 "InitialR2T=No" 00]'
 READY = "[TEST-UNIT-READY F LUN={} ITT={} CmdSN={}]"
@@ -37,7 +37,7 @@ KEYS = "[SCSI-Command F R ITT={} CmdSN={} ExpectedDataTransferLength=16 CDB=5e00
 RESET = "[Task-Management-Request I Function=5 LUN=0 ITT=9 CmdSN=2 ReferencedTaskTag=0xffffffff]"
 LOGOUT = "[Logout-Request Reason=0 ITT={} CmdSN={}]"
 REWIND, FILEMARK, LOCATE = "010000000000", "100000000100", "2b0000{:08x}000000"
-WRITTEN_AT = (15, 127, 639, 1151, 1663, 2047, 2999)  # each with the block behind it: where one part of A's data ends
+WRITTEN_AT = (15, 127, 639, 1151, 1663, 2047, 2999)  # each with the block after it: where one part of A's data ends
 
 
 def disk_reads(c, number):
@@ -139,8 +139,8 @@ class Memory:
         answered, other = found.answered(c), found.answered(1 - c)
         if pdu.cut(answered)[1] or not self.plain.answered(c).startswith(answered):
             raise Failed(f"what {'AB'[c]} was answered is not how the plain run begins")
-        before, behind = (self.left(c, n).answered(1 - c) for n in (part, part + 1))
-        if other not in (before, behind):
+        before, after = (self.left(c, n).answered(1 - c) for n in (part, part + 1))
+        if other not in (before, after):
             raise Failed(f"with {'AB'[c]} starved at part {part}, the other one is not answered as it must be")
         if other != before and not answered.startswith(self.plain.answered(c, part + 1)):
             raise Failed(f"what {'AB'[c]} did at part {part} is there, and was not answered")

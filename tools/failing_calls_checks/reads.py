@@ -1,5 +1,5 @@
 """Initiators READ one disk in a file over `targetd serve`, each with a segment of its own, while a call of the program
-fails or a write to a connection takes few bytes. What arrives is the disk's content, whole or cut where a connection
+fails or a write to a connection takes few bytes. What arrives is the disk's content, whole or cut if a connection
 ends."""
 
 import errno
@@ -30,8 +30,8 @@ def in_turns():
 
 
 def answer_of(client):
-    """The answer to a request, behind its data, or None where the connection has ended before it is whole. That of a login
-    is without its TSIH, which another has where a connection ended before all were accepted."""
+    """The answer to a request, after its data, or None if the connection has ended before it is whole. That of a login
+    is without its TSIH, which another has if a connection ended before all were accepted."""
     answer = b""
     while header := received(client, pdu.HEADER):
         length = pdu.get(header, pdu.COMMON["DataSegmentLength"])
@@ -48,7 +48,7 @@ def answer_of(client):
 
 
 def exchange(client, sent):
-    """Sends requests, and gives their answers, or None where the connection has ended before the last."""
+    """Sends requests, and gives their answers, or None if the connection has ended before the last."""
     try:
         client.sendall(sent)
         answers = [answer_of(client) for _ in pdu.cut(sent)[0]]
@@ -76,7 +76,7 @@ def check_plain(plain):
 
 
 def check_ended(plain, ended, statuses=(None,)):
-    """At most one connection has ended, or the whole program where it may. All else was answered as in the plain run."""
+    """At most one connection has ended, or the whole program if it may. All else was answered as in the plain run."""
     if ended.status not in statuses or ended.status is None and len(ended.closed) > 1:
         raise Failed(f"status {ended.status}, closed: {sorted(ended.closed)}")
     for (c, _), answer, wanted in zip(PARTS, ended.answers, plain.answers):

@@ -1,10 +1,10 @@
 """Three initiators of one target, over `targetd serve` with a log, one of which resets a unit, while an allocation fails.
 
-A has a WRITE (10) of LUN 1 in flight. B has one of LUN 0 in flight, and behind it a READ of LUN 1 and TEST UNIT
+A has a WRITE (10) of LUN 1 in flight. B has one of LUN 0 in flight, and after it a READ of LUN 1 and TEST UNIT
 READYs of LUN 0, the last of them held. C reads. A resets LUN 0, which removes B's commands of LUN 0, and its READ is
 done in the same event. Then B's data comes and is dropped, all are told of the reset, and A and B write. Whatever
 fails, one initiator is closed at the most. It was answered the first PDUs of the plain run, and all others, and the
-disk, are as in a run in which that one leaves before the part at which it was closed, or behind it. The log tells of that
+disk, are as in a run in which that one leaves before the part at which it was closed, or after it. The log tells of that
 one that it ended by out of memory, and of nobody else.
 """
 
@@ -25,7 +25,7 @@ READ = "[SCSI-Command F R LUN={} ITT=3 CmdSN={} ExpectedDataTransferLength=2048 
 READY = "[TEST-UNIT-READY F LUN=0 ITT={} CmdSN={}]"
 RESET = "[Task-Management-Request I Function=5 LUN=0 ITT=3 CmdSN=2 ReferencedTaskTag=0xffffffff]"
 
-# What is sent, in this order, each part with a ping behind it: its answer is what comes up to that of the ping.
+# What is sent, in this order, each part with a ping after it: its answer is what comes up to that of the ping.
 PARTS = [
     (A, LOGIN.format("a")), (B, LOGIN.format("b")), (C, LOGIN.format("c")),
     (A, WRITE.format(1, 1, 0, 11, 256)),
@@ -69,7 +69,7 @@ SCRIPT = Script(3, [(c, notation.data(text + PING, {})) for c, text in PARTS], e
 
 
 def answered(ended, c):
-    """All that an initiator was answered, but for the TSIH of its login: where a connection is closed before the next
+    """All that an initiator was answered, but for the TSIH of its login: if a connection is closed before the next
     is accepted, that one gets its number."""
     told = b"".join(answer or b"" for (sender, _), answer in zip(PARTS, ended.answers) if sender == c)
     return told and told[:14] + bytes(2) + told[16:]
@@ -109,7 +109,7 @@ def check(plain, ended, left):
         raise Failed("one allocation failed, and several connections were closed")
     check_log(ended)
     others = set(range(SCRIPT.initiators)) - set(ended.closed)
-    wanted = [left(c, part + behind) for c, part in ended.closed.items() for behind in (0, 1)] or [plain]
+    wanted = [left(c, part + after) for c, part in ended.closed.items() for after in (0, 1)] or [plain]
     if seen(ended, others) not in [seen(one, others) for one in wanted]:
         names = "".join("ABC"[c] for c in ended.closed) or "nobody"
         raise Failed(f"with {names} closed, the others or the disk are not as they must be")

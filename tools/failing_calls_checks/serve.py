@@ -36,7 +36,7 @@ class Failed(Exception):
 
 class Script(NamedTuple):
     """How many initiators there are, what is sent, each part by one of them, and how a part's answer is had: it sends
-    the part, and gives the answer and whether the connection is open behind it. And whether there is a log, and what the
+    the part, and gives the answer and whether the connection is open after it. And whether there is a log, and what the
     disk holds at first."""
     initiators: int
     parts: list
@@ -46,8 +46,8 @@ class Script(NamedTuple):
 
 
 class Ended(NamedTuple):
-    """The answer to each part, None where it was not sent; the initiators whose connection had ended, each with the
-    part at which; the disk; the status, where the program ended by itself; how many calls failed; the log."""
+    """The answer to each part, None if it was not sent; the initiators whose connection had ended, each with the
+    part at which; the disk; the status, if the program ended by itself; how many calls failed; the log."""
     answers: list
     closed: dict
     disk: bytes
@@ -58,7 +58,7 @@ class Ended(NamedTuple):
 
 @contextmanager
 def started(program, shim, folder, report, settings, log, disk):
-    """The program on a disk with this content, and the port that it listens on, or None where it has ended."""
+    """The program on a disk with this content, and the port that it listens on, or None if it has ended."""
     (folder / "disk").write_bytes(disk)
     (folder / "config.toml").write_text(CONFIG.format(log, folder / "disk"), encoding="ascii")
     chosen = {f"FAIL_{name.upper()}": str(value) for name, value in settings.items()}
@@ -82,7 +82,7 @@ def connected(port, count):
 
 
 def received(client, count):
-    """So many bytes, or None where the connection has ended before."""
+    """So many bytes, or None if the connection has ended before."""
     data = b""
     while len(data) < count:
         piece = client.recv(count - len(data))

@@ -2,7 +2,7 @@
 
 The one sends a WRITE (10) of 2048 blocks in five parts. The other sends in between a COMPARE AND WRITE
 that finds a difference, one that finds none, and a WRITE (10) with FUA. Whatever fails, each command's
-blocks are changed whole or not at all, and where they are changed the command was answered.
+blocks are changed whole or not at all, and if they are changed the command was answered.
 """
 
 import errno
@@ -34,7 +34,7 @@ PARTS = [
 
 
 class Command(NamedTuple):
-    """A command that writes: the part that it is answered behind, its place on the disk, what it writes there."""
+    """A command that writes: the part that it is answered after, its place on the disk, what it writes there."""
     part: int
     at: int
     content: bytes
@@ -50,7 +50,7 @@ READ_ERROR, WRITE_ERROR, NOT_READY = ((3, 0x1100), (3, 0x0C00), (4, 0x4400))
 
 
 def exchange(client, sent):
-    """Sends a part, and gives the PDU that it is answered by, or None where the connection has ended."""
+    """Sends a part, and gives the PDU that it is answered by, or None if the connection has ended."""
     try:
         client.sendall(sent)
         header = received(client, pdu.HEADER)
@@ -74,7 +74,7 @@ def sense_of(answer):
 
 def check_disk(ended, lost=()):
     """Each command's blocks are as before or as it writes them, but for one that was told of a failed write, of which a
-    part may be there; and it was answered where they are, but for those whose answers may be lost."""
+    part may be there; and it was answered if they are, but for those whose answers may be lost."""
     expected = bytearray(LENGTH)
     for command in COMMANDS:
         found = ended.disk[command.at:command.at + len(command.content)]
@@ -106,8 +106,8 @@ def check_starved(plain, ended):
 
 
 def check_store(plain, ended):
-    """The first answer that is not that of the plain run tells of a failed read or write; behind a failed write the
-    disk is not ready, and behind a failed read it is."""
+    """The first answer that is not that of the plain run tells of a failed read or write; after a failed write the
+    disk is not ready, and after a failed read it is."""
     check_disk(ended)
     if ended.status is not None or None in ended.answers:
         raise Failed("a call on the disk failed, and a connection was closed")

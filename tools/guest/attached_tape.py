@@ -20,7 +20,7 @@ def keeps_archives_of_tar(lab):
     mt(lab, "rewind")
     for name in ("files", "more"):
         guest.says(f"/bin/tar -df /dev/nst0 -C / && mt-st -f /dev/nst0 fsf 1 && echo {name}", LONG)
-    must("File number=2, block number=0" in mt(lab, "status"), "it is not behind the second file")
+    must("File number=2, block number=0" in mt(lab, "status"), "it is not after the second file")
     mt(lab, "eod")
     guest.says("/bin/tar -cf /dev/nst0 /more", LONG)
     mt(lab, "bsf 2")
@@ -99,7 +99,7 @@ def reads_fixed_blocks_up_to_a_filemark(lab):
     guest.says("head -c 7168 /dev/urandom > /tmp/one; head -c 4608 /dev/urandom > /tmp/two")
     guest.says("dd if=/tmp/one of=/dev/nst0 bs=3584 && dd if=/tmp/two of=/dev/nst0 bs=4608 && mt-st -f /dev/nst0 rewind")
     guest.says("dd if=/dev/nst0 of=/tmp/read bs=2048 && cmp /tmp/one /tmp/read")
-    must("File number=1, block number=0" in mt(lab, "status"), "it is not behind the filemark")
+    must("File number=1, block number=0" in mt(lab, "status"), "it is not after the filemark")
     guest.says("dd if=/dev/nst0 of=/tmp/read bs=2048 && cmp /tmp/two /tmp/read")
     guest.says("dd if=/dev/nst0 of=/tmp/read bs=2048; test ! -s /tmp/read")
     mt(lab, "bsf 1")

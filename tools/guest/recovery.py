@@ -82,7 +82,7 @@ def takes_a_reset(option, code):
 
 
 def resets_while_it_writes(lab):
-    """Linux sends no data behind a reset (FastAbort), so one that waits for the data of an R2T is not answered.
+    """Linux sends no data after a reset (FastAbort), so one that waits for the data of an R2T is not answered.
     Then the guest logs in again."""
     mark = begins_to_write(lab, 14)
     status, said = lab.guest.run(f"sg_reset --no-esc --device /dev/{lab.disk()}", LONG)
@@ -91,7 +91,7 @@ def resets_while_it_writes(lab):
     must(responses, "it was not asked for")
     if responses[0] is None:
         must(lab.sent(mark, LOGIN), "it is not answered, and there was no login")
-        raise Skipped("Task Management: a reset waits for data that Linux does not send behind it")
+        raise Skipped("Task Management: a reset waits for data that Linux does not send after it")
     must(responses[0] == COMPLETE and status == 0, (responses, status, said))
 
 
@@ -105,7 +105,7 @@ def logs_in_anew(lab, name, value):
 
 
 def resets_while_it_sends_what_was_asked_for(lab):
-    """With FastAbort = No Linux sends the data of its R2Ts behind a reset, which is then answered."""
+    """With FastAbort = No Linux sends the data of its R2Ts after a reset, which is then answered."""
     logs_in_anew(lab, "FastAbort", "No")
     for seed in range(15, 20):
         mark = begins_to_write(lab, seed)
@@ -120,7 +120,7 @@ def resets_while_it_sends_what_was_asked_for(lab):
 
 
 def watched(lab, mark, offer):
-    """What was seen of R2Ts since then, where so many were offered."""
+    """What was seen of R2Ts since then, if so many were offered."""
     watch = Watch(offer)
     for event in lab.relay.events[mark:]:
         watch.see(event)

@@ -60,7 +60,7 @@ def random_image(path, size, seed):
 
 @contextmanager
 def served(program, size=SIZE, memory=SIZE, seed=None):
-    """A disk in memory, of zeros, and one in a file, of random bytes where a seed is given."""
+    """A disk in memory, of zeros, and one in a file, of random bytes if a seed is given."""
     with folder() as path:
         file = path / "disk"
         if seed is None:

@@ -63,7 +63,7 @@ def kill_while_it_writes(disks, disk, length, count, answered, rewrites=None):
 
 
 def keeps_the_writes(program, length, count, answered, rewrites=None):
-    """Each write is whole or absent on both disks, where the initiator is killed after so many were answered."""
+    """Each write is whole or absent on both disks, if the initiator is killed after so many were answered."""
     for disk in KINDS:
         with served(program, seed=9) as disks, folder() as path:
             old = before(disks, disk)
@@ -95,4 +95,4 @@ def are_whole(found, old, length, count, there, what):
         must(is_new or at not in there, (*what, f"the write at {at} was answered and is not there"))
         written += is_new
     must(written < count, (*what, "it was killed after its last write"))
-    must(found[count * length:] == old[count * length:] and len(found) == SIZE, (*what, "behind the last write"))
+    must(found[count * length:] == old[count * length:] and len(found) == SIZE, (*what, "after the last write"))

@@ -15,7 +15,7 @@ PASSED, FAILED, SKIPPED, UNSEEN = "passed", "failed", "skipped", "unseen"
 # Those that wait some seconds.
 SLOW = {"iSCSI.iSCSIcmdsn.iSCSICmdSnTooHigh", "iSCSI.iSCSIcmdsn.iSCSICmdSnTooLow", "SCSI.Reserve6.ITNexusLoss",
         "SCSI.Reserve6.LUNReset"}
-# What each test says before it begins and when it ends, where the target has no such operation; some look
+# What each test says before it begins and when it ends, if the target has no such operation; some look
 # whether these two know of an operation besides, which is no more than a part of them. Of other tests these
 # are the subject.
 AROUND = ["PERSISTENT RESERVE IN is not implemented.", "REPORT_SUPPORTED_OPCODES is not implemented.",
@@ -24,7 +24,7 @@ SUBJECT = ("SCSI.Prin", "SCSI.Prout", "SCSI.ReportSupportedOpcodes")
 
 
 class Result(NamedTuple):
-    """What a test gave, and why, where it did not pass."""
+    """What a test gave, and why, if it did not pass."""
     state: str
     why: str
 

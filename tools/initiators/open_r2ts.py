@@ -12,7 +12,7 @@ from running.checks import LIMIT, must, succeeds
 from wire import pdu
 from wire.relaying import ANSWERED, SENT, Relay, relaying
 
-MOST = 4  # R2Ts of a command that the target has open at a time, where as many were offered
+MOST = 4  # R2Ts of a command that the target has open at a time, if as many were offered
 FUNCTION, FUNCTION_ANSWER, LOGIN, DATA_OUT, R2T, RESPONSE = 0x02, 0x22, 0x03, 0x05, 0x31, 0x21
 ABORT_TASK = 1
 FUNCTIONS = {ABORT_TASK: "an_abort_task", 2: "an_abort_task_set", 5: "a_reset_of_a_unit", 6: "a_reset_of_a_target"}

@@ -124,7 +124,7 @@ def gives_qemu_the_bytes_at_odd_places_all_in_flight(disks):
     gives_the_same_bytes(disks, "aio_read", "aio_flush")
 
 
-def gives_qemu_nothing_behind_the_end(disks):
+def gives_qemu_nothing_after_the_end(disks):
     for at, count in ((SIZE, 512), (SIZE - 512, 1024), (SIZE + (1 << 40), 1)):
         status, said = run("qemu-io", "-r", "-f", "raw", "-c", f"read {at} {count}", disks.url("file"))
         must("read failed: Input/output error" in said, (at, status, said))

@@ -3,7 +3,7 @@
        removal URL FUNCTION    1 ABORT TASK, 2 ABORT TASK SET, 5 LOGICAL UNIT RESET, 6 TARGET WARM RESET
 
    It sends no data that was not asked for. When SIGUSR1 comes, it asks for the function, and then for what was written:
-   the front of the disk must be as it was before. Then it WRITEs again and reads that back. Ends with status 0 where all
+   the front of the disk must be as it was before. Then it WRITEs again and reads that back. Ends with status 0 if all
    was as it must be. */
 
 #include <iscsi/iscsi.h>

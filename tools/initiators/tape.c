@@ -151,7 +151,7 @@ static void spaces_over_files(void)
     is_there();
     space(FILEMARKS, -2); /* one is there */
     is_there();
-    space(FILEMARKS, 0x7fffff); /* mt eod, where st counts files */
+    space(FILEMARKS, 0x7fffff); /* mt eod, if st counts files */
     is_there();
 }
 
@@ -167,7 +167,7 @@ static void appends_a_file(void)
     read_all();
 }
 
-static void loses_what_is_behind_a_write(void)
+static void loses_what_is_after_a_write(void)
 {
     write_files();
     rewind_tape();
@@ -214,7 +214,7 @@ static void warns_early_and_takes_all_to_the_last_byte(void)
 }
 
 /* The early mark met, and passed by one byte. */
-static void warns_behind_the_early_mark(void)
+static void warns_after_the_early_mark(void)
 {
     for (unsigned more = 0; more < 2; more++) {
         make_empty();
@@ -296,7 +296,7 @@ static void takes_records_of_each_length(void)
     is_there();
 }
 
-/* mt tell and mt seek without the option scsi2logical, REPORT DENSITY SUPPORT, fixed blocks where their length is 0. */
+/* mt tell and mt seek without the option scsi2logical, REPORT DENSITY SUPPORT, fixed blocks if their length is 0. */
 static void refuses_what_is_left_out(void)
 {
     static const unsigned char tell[10] = {0x34, 1}, seek[10] = {0x2b, 4}, density[10] = {0x44, [8] = 64};
@@ -458,7 +458,7 @@ static void keeps_up_with_a_list_by_chance(void)
     read_all();
 }
 
-/* The last: what it leaves is looked for later, where the tape outlives its server. */
+/* The last: what it leaves is looked for later, if the tape outlives its server. */
 static void leaves_three_files(void)
 {
     seeds = 0;
@@ -495,10 +495,10 @@ static const struct check checks[] = {
     CHECK(spaces_over_records),
     CHECK(spaces_over_files),
     CHECK(appends_a_file),
-    CHECK(loses_what_is_behind_a_write),
+    CHECK(loses_what_is_after_a_write),
     CHECK(locates_each_item),
     CHECK(takes_records_of_each_length),
-    CHECK(warns_behind_the_early_mark),
+    CHECK(warns_after_the_early_mark),
     CHECK(warns_early_and_takes_all_to_the_last_byte),
     CHECK(erases_from_here_to_the_end),
     CHECK(does_nothing_while_it_is_unloaded),

@@ -106,7 +106,7 @@ static struct answer answer_of(struct scsi_task *task)
         complain("sense data of %d bytes", task->datain.size);
         return seen;
     }
-    const unsigned char *sense = task->datain.data + 2; /* behind its length */
+    const unsigned char *sense = task->datain.data + 2; /* after its length */
     seen.key = task->sense.key;
     seen.code = task->sense.ascq;
     seen.bits = sense[2] & (FILEMARK | EOM | ILI);
@@ -184,7 +184,7 @@ static unsigned long size_before(void)
     return size;
 }
 
-/* Items of this length take the place of all behind the position, where there is room for them. */
+/* Items of this length take the place of all after the position, if there is room for them. */
 static struct answer put(unsigned number, unsigned length)
 {
     unsigned long size = size_before() + (unsigned long)number * (length + OVERHEAD);
@@ -211,7 +211,7 @@ static struct answer passed(unsigned asked, int is_silent)
     return due;
 }
 
-/* So many fixed blocks, of which those that fit take the place of all behind the position. */
+/* So many fixed blocks, of which those that fit take the place of all after the position. */
 static struct answer put_blocks(unsigned number)
 {
     unsigned long fitting = (capacity - size_before()) / (block + OVERHEAD);
@@ -240,7 +240,7 @@ static struct answer passed_blocks(unsigned number)
     return due;
 }
 
-/* So many records or filemarks are passed, backward where the distance is negative. */
+/* So many records or filemarks are passed, backward if the distance is negative. */
 static struct answer spaced(int code, long distance)
 {
     long left = labs(distance);

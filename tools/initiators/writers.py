@@ -111,7 +111,7 @@ def takes_what_many_initiators_write_at_once(program):
 
 
 def keeps_an_image_of_qcow2(program):
-    """QEMU's own format on the disk itself: a snapshot is kept, and what is written behind it."""
+    """QEMU's own format on the disk itself: a snapshot is kept, and what is written after it."""
     with served(program) as disks, folder() as path:
         image = random_image(path / "image", SIZE // 2, 12)
         expected = bytearray(image.read_bytes())

@@ -1,4 +1,4 @@
-"""How the installed tools are called: each names itself, and ends by one line where it cannot print or lacks something."""
+"""How the installed tools are called: each names itself, and ends by one line if it cannot print or lacks something."""
 
 import os
 import shutil

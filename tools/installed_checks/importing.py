@@ -11,7 +11,7 @@ from running import server
 ACCESS = "whoever reaches the port has the disks"
 UUID = "0b5b4a6e-9a17-4c3e-8c55-2f0d1f6c9a10"
 NEW = "hosts see another disk"
-DIRECTIVES = [  # each in a store, with what is noted of it; nothing where targetd does it anyway
+DIRECTIVES = [  # each in a store, with what is noted of it; nothing if targetd does it anyway
     ("write-cache on", None), ("block-size 512", None), ("device-type disk", None), ("bs-type aio", None),
     ("readonly 0", None),
     ("write-cache off", "write-cache off is not carried over: writes are cached until a host syncs, or asks for FUA"),

@@ -26,7 +26,7 @@ class Skipped(Exception):
 
 
 def needs(command):
-    """The check is skipped where this command is not there."""
+    """The check is skipped if this command is not there."""
     if not shutil.which(command):
         raise Skipped(command)
 

@@ -74,7 +74,7 @@ class Carried:
         (self.notes if notes is None else notes).append(words)
 
     def target(self, where, name):
-        """A target of this name without units yet, or nothing where it cannot be one."""
+        """A target of this name without units yet, or nothing if it cannot be one."""
         why = None
         if not is_text(name) or not name:
             why = "its name is empty, or no text"
@@ -95,7 +95,7 @@ class Carried:
         return target
 
     def unit(self, where, target, lun, serial, file=None, blocks=None):
-        """A disk of a target, or nothing where it cannot be one."""
+        """A disk of a target, or nothing if it cannot be one."""
         name = f"unit {lun}" if file is None else f"the disk {file}"
         why = self.refusal(target, lun, file, blocks)
         if why:
@@ -177,7 +177,7 @@ class Carried:
         return f"[{host.strip('[]')}]:{port}" if ":" in host else f"{host}:{port}"
 
     def document(self):
-        """The configuration, or a refusal where nothing was carried over."""
+        """The configuration, or a refusal if nothing was carried over."""
         self.close()
         if not self.targets:
             raise NotCarried("no target with a disk is carried over")

@@ -1,4 +1,4 @@
-"""How an installed tool is called, what it prints, and how it ends where that cannot be written."""
+"""How an installed tool is called, what it prints, and how it ends if that cannot be written."""
 
 import os
 import signal
@@ -9,7 +9,7 @@ USAGE, UNWRITTEN = 2, 3  # exit statuses
 
 
 class Unwritten(Exception):
-    """Standard output cannot be written, as where its disk is full."""
+    """Standard output cannot be written, as when its disk is full."""
 
 
 def name():

@@ -21,7 +21,7 @@ STANDARD_ERROR = "-"
 
 
 class Told(NamedTuple):
-    """Something to tell. `fault`: the number that the program gives, "socket", "device", or nothing where it
+    """Something to tell. `fault`: the number that the program gives, "socket", "device", or nothing if it
     takes the configuration all the same."""
     line: int
     fault: object
@@ -51,7 +51,7 @@ class Configuration:
     # ---- the types of fields
 
     def field(self, place, key, kind):
-        """The value of a field that is needed, or nothing where a fault was told."""
+        """The value of a field that is needed, or nothing if a fault was told."""
         value = place.table.held.get(key)
         if value is None:
             self.tell(place.line, 3, f'{place.name}: "{key}" is missing')
@@ -63,7 +63,7 @@ class Configuration:
         return None
 
     def number(self, place, key, least, most):
-        """A number within its range, or nothing where a fault was told."""
+        """A number within its range, or nothing if a fault was told."""
         number = self.field(place, key, "integer")
         if number is None or least <= number <= most:
             return number
@@ -71,7 +71,7 @@ class Configuration:
         return None
 
     def named(self, place, key, most):
-        """A text that may be a name, or nothing where a fault was told."""
+        """A text that may be a name, or nothing if a fault was told."""
         name = self.field(place, key, "text")
         if name is None:
             return None
@@ -140,7 +140,7 @@ class Configuration:
             self.taken(line, "socket", f'"listen" is "{listen}", {words}', processes)
 
     def taken(self, line, fault, words, processes):
-        """Processes have what is wanted, which is as it should be where they serve this configuration."""
+        """Processes have what is wanted, which is as it should be if they serve this configuration."""
         if processes and all(is_served_by(process, self.path) for process in processes):
             self.tell(line, None, f"{words}, which serves this configuration")
         else:

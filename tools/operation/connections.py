@@ -58,12 +58,12 @@ def socket_in(line):
 
 
 def inodes_of(process):
-    """The inodes of the sockets that a process has open. Fails where they cannot be seen from here."""
+    """The inodes of the sockets that a process has open. Fails if they cannot be seen from here."""
     return {int(found[1]) for link in Path(f"/proc/{process}/fd").iterdir() if (found := SOCKET.fullmatch(link_of(link)))}
 
 
 def sockets_of(process):
-    """The sockets that a process has open, those that listen first. Fails where they cannot be seen from here."""
+    """The sockets that a process has open, those that listen first. Fails if they cannot be seen from here."""
     inodes = inodes_of(process)
     lines = [line for name in ("tcp", "tcp6") for line in lines_of(f"/proc/{process}/net/{name}")[1:]]
     found = [one for one in map(socket_in, lines) if one.inode in inodes]
@@ -91,7 +91,7 @@ def listeners(host, port):
 
 
 def link_of(path):
-    """What a descriptor leads to, or nothing where it was closed meanwhile."""
+    """What a descriptor leads to, or nothing if it was closed meanwhile."""
     try:
         return os.readlink(path)
     except FileNotFoundError:
@@ -99,7 +99,7 @@ def link_of(path):
 
 
 def lines_of(path):
-    """The lines of a list of the kernel, or none where there is no such list."""
+    """The lines of a list of the kernel, or none if there is no such list."""
     try:
         return Path(path).read_text(encoding="ascii").splitlines()
     except FileNotFoundError:
@@ -114,7 +114,7 @@ def traffic_in(line):
 
 
 def traffic():
-    """What ss tells of each socket that is seen from here, by its inode. Nothing where there is no ss."""
+    """What ss tells of each socket that is seen from here, by its inode. Nothing if there is no ss."""
     try:
         ran = subprocess.run(["ss", "-tineHO"], capture_output=True, text=True, timeout=LIMIT, check=False)
     except (OSError, subprocess.TimeoutExpired):

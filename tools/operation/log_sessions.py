@@ -23,7 +23,7 @@ UNKNOWN = "who has logged in and which units are not ready"
 
 
 class Session(NamedTuple):
-    """A login: the InitiatorName, the target, or nothing where it discovers them, and when, in seconds since 1970."""
+    """A login: the InitiatorName, the target, or nothing if it discovers them, and when, in seconds since 1970."""
     initiator: str
     target: str
     since: float
@@ -36,7 +36,7 @@ class Failure(NamedTuple):
 
 
 class Told(NamedTuple):
-    """What a log tells. `source`: the path of the log, or that it is the journal, or nothing where none could be read.
+    """What a log tells. `source`: the path of the log, or that it is the journal, or nothing if none could be read.
     `sessions`: by the addresses of their hosts. `failures`: by the names of targets, as the log has them, and LUNs. `notes`:
     what it does not tell."""
     source: str
@@ -97,7 +97,7 @@ def lines_of(path, started):
 
 
 def journal_of(process):
-    """The lines that the journal has of a process since the system began, or nothing where there is no journalctl."""
+    """The lines that the journal has of a process since the system began, or nothing if there is no journalctl."""
     try:
         ran = subprocess.run(["journalctl", "--quiet", "--no-pager", "--boot", "--output=cat", f"_PID={process}"],
                              capture_output=True, text=True, errors="replace", timeout=LIMIT, check=False)

@@ -11,7 +11,7 @@ PAUSE = 0.005  # seconds between two looks
 
 
 def state_of(process):
-    """The state of a process in one letter, or nothing where it is gone."""
+    """The state of a process in one letter, or nothing if it is gone."""
     try:
         told = Path(f"/proc/{process}/stat").read_text(encoding="utf-8", errors="replace")
     except (FileNotFoundError, ProcessLookupError):
@@ -44,5 +44,5 @@ def end(process, patience):
         has_stopped = reaches(process, STOPPED + OVER, patience)
         send(process, signal.SIGTERM)
     finally:
-        send(process, signal.SIGCONT)  # it does not stay stopped, also where this program is ended meanwhile
+        send(process, signal.SIGCONT)  # it does not stay stopped, also if this program is ended meanwhile
     return has_stopped

@@ -11,13 +11,13 @@ from operation import toml_lines
 from operation.connections import LISTENING, sockets_of
 from operation.log_sessions import STANDARD_ERROR
 
-STARTED = 19  # the place of the time of the start among the fields behind the name
+STARTED = 19  # the place of the time of the start among the fields after the name
 ROUNDED = 0.1  # seconds by which that time may be too early
 MEMORY = re.compile(r"^Vm(HWM|RSS):\s+(\d+) kB$", re.MULTILINE)
 
 
 class Unit(NamedTuple):
-    """A unit of a configuration. `file`: its path, where it is not in memory. `size`: the bytes of that file, where it
+    """A unit of a configuration. `file`: its path, if it is not in memory. `size`: the bytes of that file, if it
     is there. `is_open`: the process has it open."""
     lun: int
     kind: str
@@ -35,7 +35,7 @@ class Target(NamedTuple):
 
 class Process(NamedTuple):
     """A process that serves. `started`: seconds since 1970. `memory` and `most_memory`: bytes. `sockets`: what it has
-    open, or nothing where that cannot be seen. `log`: the path of its log, `-` where it is standard error, or nothing where it
+    open, or nothing if that cannot be seen. `log`: the path of its log, `-` if it is standard error, or nothing if it
     has none. `notes`: what cannot be seen or may be otherwise."""
     number: int
     configuration: str
@@ -57,9 +57,9 @@ def configuration_in(words):
     """The path of the configuration that these words serve, or nothing."""
     if len(words) < 3 or not Path(words[0]).name.startswith("targetd") or words[1] != "serve":
         return None
-    for word, behind in zip(words[2:], [*words[3:], None]):
+    for word, after in zip(words[2:], [*words[3:], None]):
         if word == "--config":
-            return behind
+            return after
         if word.startswith("--config="):
             return word.removeprefix("--config=")
     return None
@@ -110,7 +110,7 @@ def held(table, key, other=None):
 
 
 def scalar(table, key):
-    """The text or the number of a key, or nothing where its value is another."""
+    """The text or the number of a key, or nothing if its value is another."""
     value = held(table, key)
     return value if isinstance(value, (str, int)) else None
 
@@ -167,7 +167,7 @@ def served_by(path, folder, opened, started):
 
 
 def process_of(number):
-    """What is told of a process, or nothing where it does not serve."""
+    """What is told of a process, or nothing if it does not serve."""
     try:
         named = configuration_in(words_of(number))
         if named is None:

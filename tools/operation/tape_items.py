@@ -39,7 +39,7 @@ class Pieces:
         self.file, self.start, self.held = file, 0, b""
 
     def at(self, place, count):
-        """The bytes that are held, and where in them this place stands, with so many bytes behind it."""
+        """The bytes that are held, and where in them this place stands, with so many bytes after it."""
         if not self.start <= place <= self.start + len(self.held) - count:
             size = PIECE if place <= self.start + len(self.held) else JUMP
             self.start, self.held = place, os.pread(self.file.fileno(), size, place)

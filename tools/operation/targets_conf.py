@@ -65,7 +65,7 @@ def unquoted(value):
 
 
 def included(line):
-    """What an include names, or nothing where the line is none."""
+    """What an include names, or nothing if the line is none."""
     words = (line[2:-2] if line.startswith("<<") and line.endswith(">>") else line).split(None, 1)
     return unquoted(words[1].strip()) if len(words) == 2 and words[0].lower() in ("include", "includeoptional") else None
 

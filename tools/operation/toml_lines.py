@@ -107,7 +107,7 @@ class Reader:
                 self.member(here, "dotted")
             self.take(SPACE)
             if not self.take(REST):
-                self.fail("more stands behind what the line says, or a control character in it")
+                self.fail("more stands after what the line says, or a control character in it")
         return root
 
     def header(self, root):
@@ -159,7 +159,7 @@ class Reader:
     def member(self, outer, made, deep=0):
         """A key and its value."""
         line, keys = self.line(), self.keys()
-        self.needs("=", "there is no = behind the key")
+        self.needs("=", "there is no = after the key")
         self.take(SPACE)
         for key in keys[:-1]:
             found = outer.held.get(key)

@@ -81,7 +81,7 @@ def unbound(address, error):
 
 
 def kind_of(file):
-    """What an open file is where it is neither a file nor a block device, or nothing."""
+    """What an open file is if it is neither a file nor a block device, or nothing."""
     mode = os.fstat(file.fileno()).st_mode
     return next((words for is_kind, words in KINDS if is_kind(mode)), None)
 
@@ -137,7 +137,7 @@ def log_fault(path, units):
 
 
 def unmade_log(path):
-    """Why the file of a log cannot be made at a path where there is none, or nothing."""
+    """Why the file of a log cannot be made at a path if there is none, or nothing."""
     folder, name = os.path.split(path)
     if not os.path.isdir(folder or "."):
         return "cannot be written to: its folder is not there"

@@ -43,7 +43,7 @@ def depends(program):
 
 
 def checked(program):
-    """Fails where a program is not targetd of the version of the sources."""
+    """Fails if a program is not targetd of the version of the sources."""
     first = told(program, "--help").partition("\n")[0]
     if first != f"targetd {version()}":
         raise Unfit(f"{program} says {first!r} to --help, and the sources are of version {version()}")
@@ -59,7 +59,7 @@ def crates():
 
 
 def built_from(program):
-    """What a program was built from. Fails where `make build` left it, and the sources are others now."""
+    """What a program was built from. Fails if `make build` left it, and the sources are others now."""
     noted, now = sources.noted(program), sources.digest_of(TOP, crates())
     if program == BUILT and noted.get("sources") != now:
         raise Unfit(f"{program} is not known to be built from the sources as they are: 'make build' builds it")

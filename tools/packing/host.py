@@ -1,4 +1,4 @@
-"""A host that logs in and writes, and logs in again where its connection ends, as initiators do."""
+"""A host that logs in and writes, and logs in again if its connection ends, as initiators do."""
 
 import socket
 import struct

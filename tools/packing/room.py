@@ -62,7 +62,7 @@ def raise_loopback():
 
 
 def mount(*words):
-    """Mounts something, or skips the check where that cannot be done here."""
+    """Mounts something, or skips the check if that cannot be done here."""
     tried = subprocess.run(["mount", *map(str, words)], capture_output=True, text=True, check=False)
     if tried.returncode:
         raise Skipped(f"{words[1]} cannot be mounted: {tried.stderr.strip()}")

@@ -1,5 +1,5 @@
 #!/usr/bin/python3
-"""Stands in for systemctl where no systemd runs: it starts and stops targetd.service by the command lines of its unit, as its
+"""Stands in for systemctl if no systemd runs: it starts and stops targetd.service by the command lines of its unit, as its
 user and in its folder, and keeps what it was called with in /run/calls."""
 
 import os

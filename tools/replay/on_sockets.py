@@ -1,7 +1,8 @@
 """A case on `targetd serve`: its connections are sockets of loopback, and the system takes few bytes of an answer at a time.
 
-A step is made once the program has read all that was sent before, so that events of several connections keep their order.
-Numbers that the case leaves free below the one that it opens are taken by connections on which nothing comes."""
+An event of another connection than the last is made once the program has read all that was sent before, so that they
+keep their order. Numbers that the case leaves free below the one that it opens are taken by connections on which nothing
+comes."""
 
 import itertools
 import os
@@ -12,9 +13,10 @@ import struct
 import subprocess
 import time
 from collections import defaultdict
-from contextlib import contextmanager, suppress
-from typing import NamedTuple
+from contextlib import closing, contextmanager, suppress
+from pathlib import Path
 
+from operation.connections import socket_in
 from replay.program import TimeLimit, folder_with
 from running.patience import LIMIT
 
@@ -31,14 +33,8 @@ class Unlike(Exception):
     """A connection is answered otherwise."""
 
 
-class Row(NamedTuple):
-    """What the system says of the program's end of a connection: whether it is accepted, and the bytes that it has not read."""
-    is_accepted: bool
-    unread: int
-
-
 def events(run):
-    """The events of a run, up to the line that is refused, and what each must print; nothing if the run is of something else."""
+    """The events of a run, up to the line that is refused, and what each must print; nothing if it is of something else."""
     refused = REFUSED.fullmatch(run.stderr)
     if run.words[:1] != [b"replay"] or run.streams or run.status and not refused:
         return []
@@ -51,23 +47,18 @@ def events(run):
 
 def are_listed():
     """Whether the system lists connections of loopback."""
+    if not Path("/proc/net/tcp").exists():
+        return False
     with socket.create_server(("127.0.0.1", 0)) as server, socket.create_connection(server.getsockname()) as client:
-        return row(ends(server.getsockname(), client.getsockname())) is not None
+        return listed(server.getsockname(), client.getsockname()) is not None
 
 
-def ends(ours, theirs):
-    """The ends of a connection, as the system lists them (proc(5))."""
-    return f" {digits(*ours)} {digits(*theirs)} "
-
-
-def row(names):
-    """What the system says of a connection with these ends, or None if it lists none."""
-    try:
-        with open("/proc/net/tcp", encoding="ascii") as lines:
-            fields = next((line.split() for line in lines if names in line), None)
-    except FileNotFoundError:
-        return None
-    return fields and Row(fields[9] != "0", int(fields[4].partition(":")[2], 16))
+def listed(ours, theirs):
+    """The program's end of a connection, as the system lists it (proc(5)), or None."""
+    digits, names = f":{theirs[1]:04X} ", tuple(f"{host}:{port}" for host, port in (ours, theirs))
+    with open("/proc/net/tcp", encoding="ascii") as lines:
+        found = (socket_in(line) for line in lines if digits in line)
+        return next((one for one in found if (one.local, one.remote) == names), None)
 
 
 def printed_on(printed):
@@ -86,11 +77,6 @@ def addresses():
     """Addresses of loopback that are as long as that of the configurations."""
     for number in itertools.islice(NUMBERS, 9):
         yield f"127.{number // 81 % 9 + 1}.{number // 9 % 9 + 1}.{number % 9 + 1}"
-
-
-def digits(host, port):
-    """An address as the system lists it (proc(5))."""
-    return f"{struct.unpack('=I', socket.inet_aton(host))[0]:08X}:{port:04X}"
 
 
 @contextmanager
@@ -116,9 +102,8 @@ class Client:
 
     def __init__(self, host):
         self.socket = socket.create_connection((host, PORT), LIMIT)
-        self.ends = ends((host, PORT), self.socket.getsockname())
+        self.ends = (host, PORT), self.socket.getsockname()
         self.socket.setsockopt(socket.IPPROTO_TCP, socket.TCP_NODELAY, 1)
-        self.wait(lambda it: it and it.is_accepted)
         self.socket.setblocking(False)
 
     def fileno(self):
@@ -127,29 +112,37 @@ class Client:
     def wait(self, is_so):
         """Waits until it is so of the program's end."""
         until = time.monotonic() + LIMIT
-        while not is_so(row(self.ends)):
+        while not is_so(listed(*self.ends)):
             if time.monotonic() > until:
                 raise TimeLimit
             time.sleep(0.0005)
 
 
 class Connections:
-    """The connections of a run, by their numbers."""
+    """The connections of a run, by their numbers. `last`: the one on which bytes came last, if any did."""
 
     def __init__(self, host):
-        self.host, self.clients = host, {}
+        self.host, self.clients, self.last = host, {}, None
+
+    def begin(self, number):
+        """Waits until the program has read what was sent last, if that was on another connection than this one."""
+        if self.last != number and self.last in self.clients:
+            self.clients[self.last].wait(lambda end: not end or not end.unread)
+        self.last = number
 
     def open(self, number):
-        """Opens a connection, unless it is one on which nothing came. The program takes the lowest number that is free."""
+        """Opens a connection, unless it is one on which nothing came. The program takes the lowest number that is free, and
+        accepts in order. An inode tells that it has accepted the last."""
         for free in range(number + 1):
             if free not in self.clients:
                 self.clients[free] = Client(self.host)
+        self.clients[number].wait(lambda end: end and end.inode)
 
     def gone(self, number):
         """Ends a connection."""
         client = self.clients.pop(number)
         client.socket.close()
-        client.wait(lambda it: it is None)
+        client.wait(lambda end: end is None)
 
     def send(self, number, data, wanted, closed):
         """Sends bytes, and reads what each connection is sent because of them."""
@@ -209,6 +202,7 @@ def make(connections, event, printed):
     """Makes one step, and compares what is answered."""
     kind, number = event[1], int(event[2])
     wanted, closed = printed_on(printed.replace(LISTEN.hex().encode(), f"{connections.host}:{PORT}".encode().hex().encode()))
+    connections.begin(number)
     if kind == b"open":
         connections.open(number)
     if kind == b"gone":
@@ -216,8 +210,6 @@ def make(connections, event, printed):
     connections.send(number, bytes.fromhex((event[3] or b"").decode()), wanted, closed)
     for c in closed:
         connections.end(c)
-    if number in connections.clients:
-        connections.clients[number].wait(lambda it: not it or not it.unread)
 
 
 def answered_otherwise(program, run, library):
@@ -226,14 +218,14 @@ def answered_otherwise(program, run, library):
     if not steps:
         return None
     piece = FEW if sum(len(printed) // 2 for _, printed in steps) < LONG else PIECE
-    with serving(program, run, library, piece) as (process, host):
-        connections = Connections(host)
-        try:
+    at = 0
+    try:
+        with serving(program, run, library, piece) as (process, host), closing(Connections(host)) as connections:
             for at, (event, printed) in enumerate(steps, 1):
                 make(connections, event, printed)
             connections.all_is_said()
-        except (Unlike, OSError) as fault:
-            return f"over sockets, event {at}: {fault or type(fault).__name__}"
-        finally:
-            connections.close()
-        return None if process.poll() is None else f"over sockets: status {process.poll()}"
+            if process.poll() is not None:
+                raise Unlike(f"the program ended with status {process.poll()}")
+    except (Unlike, OSError) as fault:
+        return f"over sockets, event {at}: {fault or type(fault).__name__}"
+    return None

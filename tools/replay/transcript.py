@@ -155,7 +155,7 @@ class Statements:
         takers[word](rest.strip(), at if word == ">" else word)
 
     def words(self, rest, _):
-        """The words behind the program's name, quoted as in a shell; \\xNN is a byte."""
+        """The words after the program's name, quoted as in a shell; \\xNN is a byte."""
         if self.run.words is not None:
             raise Malformed("the words are there already")
         self.run.words = words_in(substituted(rest, self.names))

@@ -9,7 +9,7 @@ PROOF = 3 << 30  # the bytes of memory that the proof of a crate takes at most
 
 
 def needs_rt(tool):
-    """Ends a tool, with one line, where the command of the kit is not on the path."""
+    """Ends a tool, with one line, if the command of the kit is not on the path."""
     if not shutil.which("rt"):
         sys.exit(f"{tool}: there is no rt on the path: it is the command of the Rattle kit, which builds the crates (README, "
                  "'By the kit')")

@@ -32,7 +32,7 @@ def install(packages):
 
 
 def apt(words, limit):
-    """Runs apt-get. Gives what it said last where it failed, or nothing."""
+    """Runs apt-get. Gives what it said last if it failed, or nothing."""
     try:
         ran = subprocess.run([*APT, *words], capture_output=True, text=True, timeout=limit, check=False,
                              stdin=subprocess.DEVNULL,

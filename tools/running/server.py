@@ -19,7 +19,7 @@ class Server(NamedTuple):
 
 @contextmanager
 def listening(*words, **settings):
-    """Starts a server that says in its first line, behind its last colon, on which port it listens."""
+    """Starts a server that says in its first line, after its last colon, on which port it listens."""
     with subprocess.Popen(words, **settings, stdin=subprocess.DEVNULL, stdout=subprocess.PIPE, text=True) as process:
         late = threading.Timer(LIMIT, process.kill)
         late.start()

@@ -42,7 +42,7 @@ def note(program, sources):
 
 
 def noted(program):
-    """What was kept of a program, by its words, or nothing where that was of another one or is not there."""
+    """What was kept of a program, by its words, or nothing if that was of another one or is not there."""
     try:
         lines = record_of(program).read_text(encoding="utf-8").splitlines()
     except FileNotFoundError:

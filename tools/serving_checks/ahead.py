@@ -1,5 +1,5 @@
 """What the ports read ahead of the target: sessions in any pieces, many commands at once, resets, ends and violations
-with commands behind them, slow clients beside busy ones."""
+with commands after them, slow clients beside busy ones."""
 
 import random
 import select
@@ -85,7 +85,7 @@ def answers_the_whole_requests_of_one_who_ends_at_any_byte():
                 client.shutdown(socket.SHUT_WR)
                 count = sum(length for end, length in ((80, 104), (128, 68), (176, 48)) if sent >= end)
                 data = read(client, len(answers(0)) + 1)
-                assert data[16:] == answers(0)[16:count] and len(data) == count, f"behind {sent} bytes: {data.hex()}"
+                assert data[16:] == answers(0)[16:count] and len(data) == count, f"after {sent} bytes: {data.hex()}"
 
 
 def ends_only_the_connection_that_is_reset_with_commands_ahead():
@@ -99,7 +99,7 @@ def ends_only_the_connection_that_is_reset_with_commands_ahead():
             assert are_good(read(steady, pdu.HEADER), 125 + number) == 1, number
 
 
-def carries_out_nothing_behind_a_violation():
+def carries_out_nothing_after_a_violation():
     content = bytes([7]) * 512
     with disk_file(bytes(512 * 8)) as (path, units), serving(units=units) as (_, address):
         for before in (0, 1, 30):
@@ -129,8 +129,8 @@ def begins_with_nothing_ahead_under_a_number_that_was_used():
                 assert read(second, len(answers(0)))[16:] == answers(0)[16:]
 
 
-def answers_what_came_behind_urgent_data():
-    # A read ends at the mark of the urgent byte, which is no part of the stream. Nothing more comes behind it.
+def answers_what_came_after_urgent_data():
+    # A read ends at the mark of the urgent byte, which is no part of the stream. Nothing more comes after it.
     with serving() as (process, address), connect(address) as client:
         with stopped(process):
             client.sendall(LOGIN + READY)
@@ -238,7 +238,7 @@ def answers_another_while_one_is_busy():
 
 
 def serves_two_that_are_busy_side_by_side():
-    # One behind the other they would take twice as many turns.
+    # One after the other they would take twice as many turns.
     with serving("127.0.0.1:0", "--turns", str(SETTING_UP + BUSY)) as (process, address):
         for client in two_that_send_at_once(address, process, (BUSY, BUSY)):
             assert are_good(read(client, pdu.HEADER * BUSY)) == BUSY
@@ -250,9 +250,9 @@ CHECKS = [
     answers_all_that_came_before_an_end,
     answers_the_whole_requests_of_one_who_ends_at_any_byte,
     ends_only_the_connection_that_is_reset_with_commands_ahead,
-    carries_out_nothing_behind_a_violation,
+    carries_out_nothing_after_a_violation,
     begins_with_nothing_ahead_under_a_number_that_was_used,
-    answers_what_came_behind_urgent_data,
+    answers_what_came_after_urgent_data,
     serves_a_slow_client_beside_63_floods,
     goes_on_for_the_others_while_one_does_not_read,
     answers_commands_in_pieces_of_any_length,

@@ -139,7 +139,7 @@ def links_of(process):
 
 
 def has_streams_alone_below_three(process, closed, those):
-    """Each descriptor of a stream is what it was, or /dev/null where it was closed, and these files and a socket have
+    """Each descriptor of a stream is what it was, or /dev/null if it was closed, and these files and a socket have
     others."""
     links = links_of(process)
     above = [link for number, link in links.items() if number not in STREAMS]

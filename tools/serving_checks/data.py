@@ -11,7 +11,7 @@ BLOCK, LONGEST = 512, 2048  # bytes of a block, and blocks of a READ at most
 SEGMENTS = (512, 513, 4096, 262144, 16777215)
 READS = 6  # of 1 MiB: their answers are more than a system takes of a connection nobody reads from
 SIPS = (1, 47, 48, 49, 1000, 2304)  # bytes that are taken at a time
-FIRST = 124  # the CmdSN behind that of READY
+FIRST = 124  # the CmdSN after that of READY
 PARTS = ((1, 2048), (511, 8192), (512, 8192), (513, 8192), (4095, 65536), (4096, 65536), (65536, 262144), (262144, 1 << 20))
 
 
@@ -37,13 +37,13 @@ def sipped(client, count, sips):
     data = bytearray()
     while len(data) < count:
         piece = client.recv(min(next(sips), count - len(data)))
-        assert piece, f"the answers end behind {len(data)} of {count} bytes"
+        assert piece, f"the answers end after {len(data)} of {count} bytes"
         data += piece
     return bytes(data)
 
 
 def data_of(client, segment, sips):
-    """The data of a READ, which comes in segments that are no longer than they may be, and behind which it is GOOD."""
+    """The data of a READ, which comes in segments that are no longer than they may be, and after which it is GOOD."""
     data = bytearray()
     while True:
         header = sipped(client, pdu.HEADER, sips)
@@ -122,9 +122,9 @@ def writes_data_that_comes_in_parts_of_each_length():
             for number, (most, length) in enumerate(PARTS, 125):
                 for one in (client, other):
                     content = chance.randbytes(length)
-                    behind = path.read_bytes()[length:]
+                    after = path.read_bytes()[length:]
                     assert is_written(one, number, content, most), most
-                    assert path.read_bytes() == content + behind, most
+                    assert path.read_bytes() == content + after, most
 
 
 CHECKS = [

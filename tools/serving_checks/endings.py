@@ -26,7 +26,7 @@ CLONE_NEWNET = 0x40000000  # sched(7)
 
 
 def reads(count):
-    """READs of 256 KiB each, one behind the other."""
+    """READs of 256 KiB each, one after the other."""
     return b"".join(read_10(125 + n, BLOCKS * n, BLOCKS) for n in range(count))
 
 
@@ -185,4 +185,4 @@ CHECKS = [
 if may_make_networks():
     CHECKS.append(gives_the_place_of_a_peer_that_is_gone_to_another)
 else:
-    print("not shown, where no network namespaces can be made: that the place of a peer that is gone is given to another")
+    print("not shown, since no network namespaces can be made: that the place of a peer that is gone is given to another")

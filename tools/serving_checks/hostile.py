@@ -15,7 +15,7 @@ from wire import notation, pdu
 
 MEBIBYTE = 1 << 20
 PING = 262144  # bytes of data, as many as a PDU may bear
-# What one connection may make the program hold where nothing is read of it: what waits to be sent, up to 1 MiB and the
+# What one connection may make the program hold if nothing is read of it: what waits to be sent, up to 1 MiB and the
 # answer that passes this mark, a frame that is not whole, and what is ahead.
 MOST_HELD = 2 * MEBIBYTE
 SLACK = 32 * MEBIBYTE  # what the C library may keep for itself
@@ -43,7 +43,7 @@ def gives_back(process, before):
 
 
 def pushed(client, data, most, sent=0):
-    """Sends this again and again, behind what was sent of it before, until so many bytes were taken or more, or nothing is
+    """Sends this again and again, after what was sent of it before, until so many bytes were taken or more, or nothing is
     for half a second. How many were."""
     client.setblocking(False)
     while sent < most and select.select([], [client], [], 0.5)[1]:
@@ -85,8 +85,8 @@ def goes_on(client, number):
     return time.monotonic() - began
 
 
-def goes_on_behind_resets(client, number):
-    """A client is answered, but is told first where another one has reset the units: the number of its next command."""
+def goes_on_after_resets(client, number):
+    """A client is answered, but is told first if another one has reset the units: the number of its next command."""
     client.sendall(ready(number))
     header = read(client, pdu.HEADER)
     told = read(client, 20) if header[:4] == b"\x21\x80\0\x02" else b""
@@ -94,7 +94,7 @@ def goes_on_behind_resets(client, number):
         assert header[:4] == b"\x21\x80\0\0" and header[16:20] == struct.pack(">I", number), header.hex()
         return number + 1
     assert told[4] == 0x06 and told[14:16] == b"\x29\x03", told.hex()
-    return goes_on_behind_resets(client, number + 1)
+    return goes_on_after_resets(client, number + 1)
 
 
 def stops_reading_pings_whose_answers_nobody_reads():
@@ -235,7 +235,7 @@ def drops_counted_data_of_a_command_that_another_session_removed():
                     other.sendall(RESET_0)
                     assert read(other, pdu.HEADER)[:3] == b"\x22\x80\0"
                     client.sendall(data[count:])
-                    goes_on_behind_resets(client, 126)
+                    goes_on_after_resets(client, 126)
 
 
 def answers_the_others_beside_floods_of_headers():
@@ -287,7 +287,7 @@ def ends_no_other_session_by_random_pdus():
                     wild.sendall(random_pdus(chance, 20))
                 except (BrokenPipeError, ConnectionResetError):
                     pass
-            number = goes_on_behind_resets(other, number)
+            number = goes_on_after_resets(other, number)
         assert gives_back(process, before), resident(process) - before
 
 

@@ -36,7 +36,7 @@ def limited(room):
 
 
 def needs_room():
-    """A check is skipped where the program takes more addresses before it begins."""
+    """A check is skipped if the program takes more addresses before it begins."""
     ran = subprocess.run([*limited(ROOM), PROGRAM, "--help"], capture_output=True, timeout=LIMIT, check=False)
     if ran.returncode != 2:
         raise Skipped("the program takes more addresses than it is given, as one with checks at run time does")
@@ -91,7 +91,7 @@ def most_resident(process):
 
 
 class Stranger(threading.Thread):
-    """Logs in for ever, and begins anew where it is closed."""
+    """Logs in for ever, and begins anew if it is closed."""
 
     def __init__(self, address, kind):
         super().__init__()
@@ -162,13 +162,13 @@ DATA = "[Data-Out {} ITT={} TTT={} DataSN={} BufferOffset={} DataSegmentLength={
 
 
 class Session:
-    """An initiator that writes at places of its own and reads them back, and logs in again where it is closed. Where `wait`
+    """An initiator that writes at places of its own and reads them back, and logs in again if it is closed. If `wait`
     is given, it waits so in the middle of each WRITE."""
 
     def __init__(self, address, number=0, wait=None):
         self.address, self.name, self.first = address, b"session%d" % number, number * PLACES * BLOCKS
         self.client, self.wait, self.number, self.writes, self.closings = None, wait, 0, 0, 0
-        self.answered = {}  # what each place holds, where its last WRITE was answered
+        self.answered = {}  # what each place holds, if its last WRITE was answered
         self.begins()
 
     def begins(self):
@@ -212,7 +212,7 @@ class Session:
         return self.told(command, content[:sent], content[sent:])
 
     def keeps(self, place):
-        """A place holds what was written there, where that was answered."""
+        """A place holds what was written there, if that was answered."""
         read_it = f"[SCSI-Command F R ITT={{0}} CmdSN={{0}} ExpectedDataTransferLength={BYTES} " \
                   f"CDB=2800{self.first + place * BLOCKS:08x}00{BLOCKS:04x}]"
         data, status, _ = self.told(read_it)

@@ -49,7 +49,7 @@ def answers(connection):
 
 
 def within(descriptors):
-    """Words that give the program behind them no more descriptors than these, until it is told otherwise."""
+    """Words that give the program after them no more descriptors than these, until it is told otherwise."""
     return ["sh", "-c", f'ulimit -S -n {descriptors}; exec "$@"', "sh"] if descriptors else []
 
 
@@ -114,17 +114,17 @@ def is_closed(client):
 
 
 def connection_in(data):
-    """The connection on which these are the answers as ever. None where they are not."""
+    """The connection on which these are the answers as ever. None if they are not."""
     return next((c for c in range(CONNECTIONS) if data == answers(c)), None)
 
 
 def connection_of(client):
-    """The connection of a client whose requests wait, once it is answered. None where it is not answered as ever."""
+    """The connection of a client whose requests wait, once it is answered. None if it is not answered as ever."""
     return connection_in(read(client, len(answers(0))))
 
 
 def is_answered(client, number, connection=None):
-    """A client is answered as ever, on this connection where one is given. Those who connect one behind the other
+    """A client is answered as ever, on this connection if one is given. Those who connect one after the other
     may be accepted in any order, so only one who is alone, or follows those who were answered, knows its own."""
     client.sendall(requests(number))
     found = connection_of(client)
@@ -165,7 +165,7 @@ def read_10(number, address, blocks):
 
 
 def answer_of(client):
-    """The data that comes, and the status and sense data of the SCSI Response behind it."""
+    """The data that comes, and the status and sense data of the SCSI Response after it."""
     data = b""
     while True:
         header = read(client, pdu.HEADER)

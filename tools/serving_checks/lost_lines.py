@@ -15,7 +15,7 @@ IN_BOUNDS = ["sh", "-c", "trap '' XFSZ; exec \"$@\"", "sh"]
 TIME = len("2026-01-01T00:00:00Z ")
 CAME, ENDED = "connection 1 from 127.0.0.1:", "session of connection 1 ended: logout"
 LOST = "3 lines could not be written"
-# Of the line of a connection: none, one, the time and more, all that comes before the newline, where a port has five digits.
+# Of the line of a connection: none, one, the time and more, all that comes before the newline, if a port has five digits.
 FRONTS = (0, 1, 30, TIME + len(CAME) + 5)
 
 

@@ -1,4 +1,4 @@
-/* Lets no program that this is loaded into (LD_PRELOAD) open /dev/null, as where a system has none. */
+/* Lets no program that this is loaded into (LD_PRELOAD) open /dev/null, as on a system that has none. */
 #define _GNU_SOURCE
 #include <errno.h>
 #include <fcntl.h>

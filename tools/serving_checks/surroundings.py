@@ -114,7 +114,7 @@ def sends_what_waits_with_any_number_of_bytes_unread():
                         return f"READ {n}"
                 rest = rest_of(client)
                 sent.result()
-                return None if rest == (b"", False) else f"{rest[1]} behind {len(rest[0])} bytes more"
+                return None if rest == (b"", False) else f"{rest[1]} after {len(rest[0])} bytes more"
 
         with ThreadPoolExecutor(CONNECTIONS) as pool_of_senders:
             faults = {amounts[n]: fault for n, fault in enumerate(pool.map(fault_of, range(CONNECTIONS))) if fault}
@@ -138,7 +138,7 @@ def row_of(here, there):
 
 
 def needs_rows():
-    """The check is skipped where the system does not tell what it knows of a connection."""
+    """The check is skipped if the system does not tell what it knows of a connection."""
     with socket.create_server(("127.0.0.1", 0)) as listener, connect(listener.getsockname()) as one:
         other, (_, there) = listener.accept()
         with other:

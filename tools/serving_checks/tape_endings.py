@@ -1,6 +1,6 @@
 """A tape in a file whose program ends in the middle of writing records: each record that was answered is there, and the
 next start has the tape. What stands after the position is cut first, and a record goes into the file by one call, so the
-file is torn only where the system ends that call in its middle: Linux does between two pages, for a signal that kills.
+file is torn only if the system ends that call in its middle: Linux does between two pages, for a signal that kills.
 How often a signal alone does so depends on the machine, so it is counted and not refused; what is torn is cut here as
 targetd-mend-tape cuts it. By the orderly stop of targetd-stop, which waits until the program is inside no call, no file
 is torn."""
@@ -24,7 +24,7 @@ ENDS, MANY_ENDS = 10, 200  # of each kind
 STOPS, MANY_STOPS = 3, 100
 LONGEST = 0.03  # seconds until the end
 GROWTH = 1  # seconds in which the file must have grown
-BEFORE, BEHIND = [item(b"before")] * 5, [item(b"behind")] * 5
+BEFORE, AFTER = [item(b"before")] * 5, [item(b"after")] * 5
 
 
 class Way(NamedTuple):
@@ -90,7 +90,7 @@ def answered_until(tape, length, *ending):
 
 def one_end(chance, way, length, is_at_end):
     """Whether the file was torn by one end in the middle of writing; what was answered is there all the same."""
-    content = b"".join(BEFORE + ([] if is_at_end else BEHIND))
+    content = b"".join(BEFORE + ([] if is_at_end else AFTER))
     with tape_file(content, CAPACITY) as (path, units):
         with serving(units=units) as (process, address), connect(address) as client:
             tape = Tape(client)
@@ -102,7 +102,7 @@ def one_end(chance, way, length, is_at_end):
         with path.open("r+b") as file:
             found = tape_items.items_of(file)
             whole = file.seek(0) or file.read(len(written))
-            if answered or is_at_end or found.records != len(BEFORE + BEHIND):
+            if answered or is_at_end or found.records != len(BEFORE + AFTER):
                 assert whole == written, f"of {answered} records that were answered some are not there"
             if found.fault:
                 file.truncate(found.end)

@@ -103,7 +103,7 @@ def sent(text):
 
 
 def answered(client):
-    """The opcode of the next PDU that comes. None where the connection is closed."""
+    """The opcode of the next PDU that comes. None if the connection is closed."""
     header = read(client, pdu.HEADER)
     length = int.from_bytes(header[5:8], "big")
     read(client, length + pdu.padding(length))

@@ -30,7 +30,7 @@ LOGIN_STATUSES = {
     0x020A: "session does not exist"}
 OPERATIONS = {0x00: "TEST UNIT READY", 0x03: "REQUEST SENSE", 0x12: "INQUIRY",
               0x28: "READ (10)", 0x2A: "WRITE (10)", 0xA0: "REPORT LUNS"}
-# Fields that say nothing where they are 0, and that are told in another way.
+# Fields that say nothing if they are 0, and that are told in another way.
 QUIET = {"VersionMax", "VersionMin", "VersionActive", "CID", "ATTR", "ExpStatSN", "Response",
          "ExpDataSN", "ResidualCount", "ExpectedDataTransferLength"}
 APART = {"Byte0", "Byte1", "TotalAHSLength", "DataSegmentLength", "LUN", "CDB", "OperationCode",

@@ -77,7 +77,7 @@ class Reader:
         self.names = names
 
     def item(self):
-        """The bytes of the next item, or None where there is none."""
+        """The bytes of the next item, or None if there is none."""
         if not self.rest or self.rest[0]["mark"] in ("]", "|"):
             return None
         token = self.rest.pop(0)

@@ -104,7 +104,7 @@ class Relay:
         return self.rewrites(event.data) if self.rewrites and event.side == SENT else event.data
 
     def keep(self, events):
-        """Keeps events before their bytes go on, so that an answer stands behind its request."""
+        """Keeps events before their bytes go on, so that an answer stands after its request."""
         with self.lock:
             for event in events:
                 self.events.append(event)
@@ -145,7 +145,7 @@ def is_sent(sink, piece):
 
 
 def shut_down(end, how):
-    """Tells the other side that nothing more comes, where it is still there."""
+    """Tells the other side that nothing more comes, if it is still there."""
     try:
         end.shutdown(how)
     except OSError:
