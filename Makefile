@@ -37,7 +37,7 @@ package:
 	@./tools/package "$(PROGRAM)"
 
 # The gate: the proofs, the wrong bodies, the cases, sockets, initiators, failing calls, the pages. On four processors
-# it takes 30 to 70 minutes, by their speed.
+# it takes 30 to 80 minutes, by their speed.
 test:
 	@./tools/test
 

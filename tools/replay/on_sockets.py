@@ -13,12 +13,14 @@ import struct
 import subprocess
 import time
 from collections import defaultdict
-from contextlib import closing, contextmanager, suppress
+from contextlib import ExitStack, closing, contextmanager, suppress
 from pathlib import Path
 
 from operation.connections import socket_in
+from operation.orderly_stop import OVER, reaches
 from replay.program import TimeLimit, folder_with
 from running.patience import LIMIT
+from running.server import listening
 
 EVENT = re.compile(rb"(open|gone|bytes) (\d+)(?: ((?:[0-9a-f]{2})*))?\n")
 REFUSED = re.compile(rb"targetd: line (\d+) refused\n")
@@ -27,6 +29,7 @@ PORT = 3260
 FEW, LONG, PIECE = 1, 16384, 47  # bytes of an answer that are taken at a time; of long answers, and of those at a time
 RESET = struct.pack("ii", 1, 0)  # a close that leaves nothing in the system (SO_LINGER)
 NUMBERS = itertools.count(os.getpid())
+WAITING = "S"  # the state of a program that waits (proc(5))
 
 
 class Unlike(Exception):
@@ -85,15 +88,15 @@ def serving(program, run, library, piece):
     settings = {**os.environ, "LD_PRELOAD": str(library), "FAIL_CALL": "send", "FAIL_PIECE": str(piece)}
     for host in addresses():
         files = {name: content.replace(LISTEN, f"{host}:{PORT}".encode()) for name, content in run.files.items()}
-        with folder_with(files) as folder, subprocess.Popen(
-                [program, "serve", *run.words[1:]], cwd=folder, env=settings, stdin=subprocess.DEVNULL,
-                stdout=subprocess.PIPE, stderr=subprocess.DEVNULL) as process:
+        with ExitStack() as stack:
+            folder = stack.enter_context(folder_with(files))
+            words = [program, "serve", *run.words[1:]]
             try:
-                if process.stdout.readline():
-                    yield process, host
-                    return
-            finally:
-                process.kill()
+                server = stack.enter_context(listening(*words, cwd=folder, env=settings, stderr=subprocess.DEVNULL))
+            except OSError:
+                continue
+            yield server.process, host
+            return
     raise Unlike("it listens on no address")
 
 
@@ -167,8 +170,11 @@ class Connections:
             if client.socket.recv(1):
                 raise Unlike(f"connection {number} is answered more")
 
-    def all_is_said(self):
-        """Nothing more comes."""
+    def all_is_said(self, process):
+        """Nothing more comes, once the program has read all and waits for more, or has ended."""
+        self.begin(None)
+        if not reaches(process.pid, (WAITING, *OVER), LIMIT):
+            raise TimeLimit
         for number, client in self.clients.items():
             if select.select([client], [], [], 0)[0]:
                 raise Unlike(f"connection {number} is answered more, or closed")
@@ -223,7 +229,7 @@ def answered_otherwise(program, run, library):
         with serving(program, run, library, piece) as (process, host), closing(Connections(host)) as connections:
             for at, (event, printed) in enumerate(steps, 1):
                 make(connections, event, printed)
-            connections.all_is_said()
+            connections.all_is_said(process)
             if process.poll() is not None:
                 raise Unlike(f"the program ended with status {process.poll()}")
     except (Unlike, OSError) as fault:
