@@ -1,14 +1,17 @@
 -- The nexuses that are joined to a unit, as its code keeps them.
-use Rattle.std.specs.Prelude.{◌≡◌, ⊤, ℕ, List, Option, Some, None, slice_get}
+use Rattle.std.specs.Prelude.{◌≡◌, ℕ, false, List, map, AllPairs}
+use Rattle.scsi_sense.specs.Nexus.{NexusName, same_nexus}
 use Rattle.scsi_unit.specs.declared.joined.Joined.{Joined}
-use Rattle.scsi_unit.specs.Joined.{place_of}
 
 pub record JoinedState : Type 0 where
   pub items : List Joined
   -- the number for which there is room
   pub room : ℕ
 
--- own: the nexus that stands at this place stands at none before it
-abbrev pub StandsFirst : Option ℕ → List Joined → Type 0
-StandsFirst None joined = ⊤
-StandsFirst (Some at) joined = (j : Joined) → slice_get joined at ≡ Some j → place_of j.nexus joined ≡ Some at
+-- the names of these nexuses
+abbrev pub nexuses : List Joined → List NexusName
+nexuses joined = map (λ j. j.nexus) joined
+
+-- own: no nexus is joined twice
+unfoldable pub AreDistinct : List Joined → Type 0
+AreDistinct joined = AllPairs (λ a b. same_nexus a b ≡ false) (nexuses joined)

@@ -1,6 +1,7 @@
 //! The nexuses that are joined to a unit.
 
-ghost use Rattle.std.specs.Prelude.{◌≡◌, ◌<◌, [], length, map, IfSome, OnOk};
+ghost use Rattle.std.specs.Prelude.{◌≡◌, ◌<◌, ◌↔◌, [], length, map, slice_get, IfSome, IsSomeAnd, IsTrue, OnOk};
+ghost use Rattle.scsi_sense.specs.Nexus.{same_nexus};
 ghost use Rattle.scsi_unit.specs.Joined.{place_of, newly_joined, with_nexus, without_nexus, told, told_in, raised_where, raised_for, raised_for_others, raised_in, raised_for_all, raised_due};
 
 use scsi_reserve::Due;
@@ -20,29 +21,31 @@ pub(crate) struct Joined {
 #[derive(Drop)]
 pub(crate) struct JoinedList {
     list: Vec<Joined>,
-    /// The place of the nexus that was looked for last, so that it is compared with no other.
-    found: Option<usize>,
+    /// The place of the nexus that was looked for last. It or the next one is tried first: sessions often send in the
+    /// order in which they joined.
+    found: usize,
 }
 
 impl Model for JoinedList {
     ghost use Rattle.std.specs.Prelude.{vec_capacity};
-    ghost use Rattle.scsi_unit.specs.JoinedList.{JoinedState, StandsFirst};
+    ghost use Rattle.scsi_unit.specs.JoinedList.{JoinedState, AreDistinct};
 
     ghost Value = { JoinedState };
 
     ghost view = { λ joined. record { items = joined.list.items; room = vec_capacity joined.list } };
 
-    ghost invariant = { λ joined. StandsFirst joined.found joined.list.items };
+    ghost invariant = { λ joined. AreDistinct joined.list.items };
 }
 
 impl JoinedList {
     /// Returns the list of no nexus.
+    #[tactic(auto, unfolding(crate::specs::JoinedList::AreDistinct))]
     pub fn new(alloc: Global) -> JoinedList
         ensures { result.items ≡ [] }
     {
         JoinedList {
             list: Vec::new(alloc),
-            found: None,
+            found: 0,
         }
     }
 
@@ -54,17 +57,20 @@ impl JoinedList {
         self.list.reserve(1)
     }
 
-    /// Returns the place of a nexus: that of the one found last, if it is the same, else that of a search.
+    /// Returns the place of a nexus. Tries the place of the one looked for last, and then the next, before it searches.
     fn place(&self, nexus: &Nexus) -> Option<usize>
         ensures value { result ≡ place_of nexus.now self.now.items }
         ensures bound { IfSome result (λ at. at < length self.now.items) }
     {
-        if let Some(at) = self.found {
-            if at < self.list.len() && self.list[at].nexus.is_same(nexus) {
-                return Some(at);
-            }
+        let joined = self.list.as_slice();
+        let next = self.found.wrapping_add(1);
+        if stands_at(joined, self.found, nexus) {
+            Some(self.found)
+        } else if stands_at(joined, next, nexus) {
+            Some(next)
+        } else {
+            position(joined, nexus)
         }
-        position(self.list.as_slice(), nexus)
     }
 
     /// Returns the first attention that is pending for the nexus, which stays pending. Keeps the place of the nexus, so
@@ -75,7 +81,9 @@ impl JoinedList {
         ensures same { self.new ≡ self.old }
     {
         let place = self.place(nexus);
-        self.found = place;
+        if let Some(at) = place {
+            self.found = at;
+        }
         pending_at(self.list.as_slice(), place)
     }
 
@@ -83,7 +91,6 @@ impl JoinedList {
     pub fn raise(&mut self, nexus: &Nexus, attention: Attention)
         ensures { self.new.items ≡ raised_for nexus.now attention self.old.items }
     {
-        self.found = None;
         raise(self.list.as_mut_slice(), nexus, attention);
     }
 
@@ -91,7 +98,6 @@ impl JoinedList {
     pub fn raise_for_others(&mut self, nexus: &Nexus, attention: Attention)
         ensures { self.new.items ≡ raised_for_others nexus.now attention self.old.items }
     {
-        self.found = None;
         raise_for_others(self.list.as_mut_slice(), nexus, attention);
     }
 
@@ -99,7 +105,6 @@ impl JoinedList {
     pub fn raise_for_all(&mut self, attention: Attention)
         ensures { self.new.items ≡ raised_for_all attention self.old.items }
     {
-        self.found = None;
         raise_for_all(self.list.as_mut_slice(), attention);
     }
 
@@ -107,9 +112,15 @@ impl JoinedList {
     pub fn raise_due(&mut self, due: &[Due])
         ensures { self.new.items ≡ raised_due due.now self.old.items }
     {
-        self.found = None;
         raise_due(self.list.as_mut_slice(), due);
     }
+}
+
+/// Returns whether the nexus stands at this place.
+fn stands_at(joined: &[Joined], at: usize, nexus: &Nexus) -> bool
+    ensures { IsTrue result ↔ IsSomeAnd (slice_get joined.now at) (λ j. IsTrue (same_nexus j.nexus nexus.now)) }
+{
+    at < joined.len() && joined[at].nexus.is_same(nexus)
 }
 
 /// Returns the place of a nexus among those that are joined.
@@ -134,7 +145,6 @@ pub(crate) fn join(joined: &mut JoinedList, nexus: Nexus)
     requires { length joined.old.items < joined.old.room }
     ensures { joined.new.items ≡ with_nexus nexus joined.old.items }
 {
-    joined.found = None;
     match position(joined.list.as_slice(), &nexus) {
         None => joined.list.push_reserved(entry(nexus)),
         Some(at) => joined.list[at] = entry(nexus),
@@ -145,7 +155,6 @@ pub(crate) fn join(joined: &mut JoinedList, nexus: Nexus)
 pub(crate) fn leave(joined: &mut JoinedList, nexus: &Nexus)
     ensures { joined.new.items ≡ without_nexus nexus.now joined.old.items }
 {
-    joined.found = None;
     if let Some(at) = position(joined.list.as_slice(), nexus) {
         let _ = joined.list.remove(at);
     }
@@ -159,7 +168,6 @@ pub(crate) fn tell(joined: &mut JoinedList, nexus: &Nexus) -> Option<Attention>
 {
     let at = joined.place(nexus)?;
     let code = joined.list[at].attentions.first()?;
-    joined.found = None;
     let entry = &mut joined.list[at];
     entry.attentions.clear_first();
     Some(code)
