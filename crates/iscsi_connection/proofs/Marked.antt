@@ -1,11 +1,13 @@
 -- What was found of connections, of which those are to be looked at again that were lent since.
-use Rattle.std.proofs.Common.{◌≡◌, ◌≢◌, ℕ, ◌+◌, ◌<◌, ◌≤◌, List, set, get_or, Bool, true, false, sym, ap, ◌∙◌, inl, inr, arith}
-use Rattle.std.proofs.lemmas.Bool.{cases_lt}
+use Rattle.std.proofs.Common.{◌≡◌, ◌≢◌, ℕ, ◌+◌, ◌<◌, ◌≤◌, List, length, set, get_or, Bool, true, false, ◌&&◌, not, sym, ap, ◌∙◌, inl, inr, arith}
+use Rattle.std.specs.Prelude.{nat_lt}
+use Rattle.std.proofs.lemmas.Bool.{cases_lt, lt-ltb, ltb-true}
 use Rattle.std.proofs.lemmas.Bool.Decides.{eqb_tells}
 use Rattle.std.proofs.lemmas.List.{get_or-set_other}
 use Rattle.iscsi_connection.specs.NumberSet.{is_in}
-use Rattle.iscsi_connection.specs.Connections.{IsTrueOfOthers}
-use Rattle.iscsi_world.specs.Machine.{LinkState, free_link}
+use Rattle.iscsi_connection.specs.Connections.{IsTrueOfOthers, has_to_send}
+use Rattle.iscsi_world.specs.Machine.{LinkState, free_link, is_free}
+use Rattle.iscsi_world.proofs.Choices.{and_true}
 
 -- all are to be looked at
 pub of_no_others : (is_so : LinkState → Bool) (all : ℕ) (links : List LinkState) → ((c : ℕ) → c < 64 → is_in all c ≡ true) → IsTrueOfOthers is_so all links
@@ -48,3 +50,14 @@ passed_with is_so others links from at c is passed out le own = λ d begun below
       let same : d ≡ c = omega (arith, below, behind) in
       ap (λ (k : ℕ). is_so (get_or links k free_link)) same ∙ own)
 ]
+
+-- ---- those that are stalled
+
+pub is_to_send : (link : LinkState) → not (is_free link.phase) ≡ true → 0 < length link.waiting → has_to_send link ≡ true
+is_to_send link open_ some = ap (λ (b : Bool). b && nat_lt 0 (length link.waiting)) open_ ∙ lt-ltb 0 (length link.waiting) some
+
+pub stalled_open : (link : LinkState) → has_to_send link ≡ true → not (is_free link.phase) ≡ true
+stalled_open link e = (and_true (not (is_free link.phase)) (nat_lt 0 (length link.waiting)) e).0
+
+pub stalled_waits : (link : LinkState) → has_to_send link ≡ true → 0 < length link.waiting
+stalled_waits link e = ltb-true 0 (length link.waiting) (and_true (not (is_free link.phase)) (nat_lt 0 (length link.waiting)) e).1

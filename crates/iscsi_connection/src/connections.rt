@@ -1,9 +1,9 @@
 //! All connections, and which of them are known to be idle since their last change.
 
-ghost use Rattle.std.specs.Prelude.{◌≡◌, ◌<◌, ◌≤◌, ℕ, true, length, replicate, slice_index_or, slice_set, IfOk, IfSome, IfNone};
+ghost use Rattle.std.specs.Prelude.{◌≡◌, ◌<◌, ◌≤◌, ℕ, true, not, length, replicate, slice_index_or, slice_set, IfOk, IfSome, IfNone};
 ghost use Rattle.std.specs.Borrow.{sem};
 ghost use Rattle.iscsi_connection.specs.Lending.{LendsLink};
-ghost use Rattle.iscsi_world.specs.Machine.{free_link, is_settled, is_silent};
+ghost use Rattle.iscsi_world.specs.Machine.{free_link, is_free, is_settled, is_silent};
 
 use crate::connection::Connection;
 use crate::number_set::NumberSet;
@@ -21,11 +21,13 @@ pub struct Connections {
     unsettled: NumberSet,
     /// A superset of the connections that are closing or have bytes to send.
     busy: NumberSet,
+    /// A superset of the connections that are not open or have no bytes to send.
+    unstalled: NumberSet,
 }
 
 impl Model for Connections {
     ghost use Rattle.std.specs.Prelude.{◌≡◌, length, List};
-    ghost use Rattle.iscsi_connection.specs.Connections.{IsTrueOfOthers};
+    ghost use Rattle.iscsi_connection.specs.Connections.{IsTrueOfOthers, has_to_send};
     ghost use Rattle.iscsi_world.specs.Machine.{LinkState, is_settled, is_silent};
 
     ghost Value = { List LinkState };
@@ -33,7 +35,7 @@ impl Model for Connections {
     ghost view = { λ l. l.items.items };
 
     ghost invariant = { λ l. (length l.items.items ≡ 64) × IsTrueOfOthers (λ (link : LinkState). is_settled link.phase) l.unsettled l.items.items
-        × IsTrueOfOthers is_silent l.busy l.items.items };
+        × IsTrueOfOthers is_silent l.busy l.items.items × IsTrueOfOthers has_to_send l.unstalled l.items.items };
 }
 
 /// Returns all connections, none of them open.
@@ -57,6 +59,7 @@ impl Connections {
             items,
             unsettled: NumberSet::all(),
             busy: NumberSet::all(),
+            unstalled: NumberSet::all(),
         })
     }
 
@@ -77,7 +80,7 @@ impl Connections {
         &self.items[c]
     }
 
-    /// Borrows the connection with this number mutably, and marks it as no longer known to be idle.
+    /// Borrows the connection with this number mutably, and marks it as no longer known to be idle or stalled.
     #[inline]
     pub fn at_mut(&mut self, c: usize) -> &mut Connection
         requires { c < 64 }
@@ -86,6 +89,7 @@ impl Connections {
     {
         self.unsettled.insert(c);
         self.busy.insert(c);
+        self.unstalled.insert(c);
         &mut self.items[c]
     }
 
@@ -133,6 +137,29 @@ impl Connections {
         ensures none { IfNone result ((d : ℕ) → from ≤ d → d < 64 → is_silent (slice_index_or self.now d free_link) ≡ true) }
     {
         self.busy.next_from(from)
+    }
+
+    /// Notes that bytes wait on a connection whose peer takes none now.
+    #[inline]
+    #[tactic(auto, using(crate::proofs::Marked::is_to_send))]
+    pub fn note_stalled(&mut self, c: usize)
+        requires in_range { c < 64 }
+        requires open { not (is_free (slice_index_or self.old c free_link).phase) ≡ true }
+        requires waits { 0 < length (slice_index_or self.old c free_link).waiting }
+        ensures { self.new ≡ self.old }
+    {
+        self.unstalled.remove(c);
+    }
+
+    /// Returns whether the connection was noted as stalled since its last change: it is open, and bytes wait.
+    #[inline]
+    #[tactic(auto, using(crate::proofs::Marked::stalled_open, crate::proofs::Marked::stalled_waits))]
+    pub fn is_stalled(&self, c: usize) -> bool
+        requires { c < 64 }
+        ensures open { result ≡ true → not (is_free (slice_index_or self.now c free_link).phase) ≡ true }
+        ensures waits { result ≡ true → 0 < length (slice_index_or self.now c free_link).waiting }
+    {
+        !self.unstalled.contains(c)
     }
 
     /// Clears the busy flag if the connection is idle: nothing waits to be sent, and it is not closing.

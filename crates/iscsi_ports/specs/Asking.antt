@@ -117,7 +117,7 @@ module _ {K : Type 0} where
     has_read = flags_with (gave answer) c true ports.has_read;
   }
 
-  -- own: of a write it is remembered how much was offered, also where it is put off
+  -- own: of a write it is remembered how much was offered, also where `write` puts it off
   abbrev pub after_offering : ℕ → ℕ → SocketPorts K → Readiness
   after_offering c offered ports =
       record ports.readiness { turns = after_offer c offered (flag_of c ports.has_read) ports.readiness.turns }

@@ -1,7 +1,7 @@
 //! A listener and its connections, each a port that may be ready.
 
-ghost use Rattle.std.specs.Prelude.{◌≡◌, ◌<◌, ◌≤◌, ◌++◌, ◌∷◌, List, [], Bool, true, length};
-ghost use Rattle.iscsi_ports.specs.Log.{Entry, Read, Wrote, Close};
+ghost use Rattle.std.specs.Prelude.{◌≡◌, ◌<◌, ◌≤◌, ◌++◌, ◌∷◌, List, [], Bool, true, false, length};
+ghost use Rattle.iscsi_ports.specs.Log.{Bytes, Entry, Read, Wrote, Close};
 ghost use Rattle.iscsi_ports.specs.Results.{carried_by, carried_read, count_of, read_count, poll_entry, accept_entry, LendsSome};
 
 use crate::read_buffer::ReadBuffer;
@@ -62,6 +62,17 @@ pub trait Ports {
         ensures count { count_of result ≤ length bytes.now }
         ensures log { tells self.new ≡ true → log self.new ≡ log self.old ++ Wrote c (length bytes.now) (carried_by result bytes.now) ∷ [] }
         ensures back { tells self.new ≡ true → tells self.old ≡ true };
+
+    /// Puts off a write of these bytes if the connection is known to take none now. Returns whether it did; if not, nothing
+    /// changes, and [`write`](Ports::write) is to be called.
+    fn puts_off(&mut self, c: usize, bytes: &[u8]) -> bool
+        requires { c < 64 }
+        ensures log { result ≡ true → tells self.new ≡ true → log self.new ≡ log self.old ++ Wrote c (length bytes.now) (Bytes []) ∷ [] }
+        ensures back { tells self.new ≡ true → tells self.old ≡ true }
+        ensures same { result ≡ false → self.new ≡ self.old }
+    {
+        false
+    }
 
     /// Learns that the target closes a connection since an allocation failed. Does nothing else.
     fn starved(&mut self, _c: usize)

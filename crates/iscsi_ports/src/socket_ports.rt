@@ -8,9 +8,10 @@ ghost use Rattle.std.specs.Result.{IsErrOf};
 ghost use Rattle.std.specs.Net.Grammar.{IsSocketText};
 ghost use Rattle.std.specs.declared.net.socket_addr.SocketAddr.{SocketAddr};
 ghost use Rattle.iscsi_ports.specs.Results.{buffer_of, carried_by, carried_read, count_of, read_count, poll_entry, accept_entry, LendsSome};
-ghost use Rattle.iscsi_ports.specs.Log.{Listened, Located, Read, Wrote, Close};
+ghost use Rattle.iscsi_ports.specs.Log.{Bytes, Listened, Located, Read, Wrote, Close};
 ghost use Rattle.iscsi_ports.specs.Calls.{Polling, Naming, Accepting, Writing, PuttingOff, Closing, ip_octets, moved, accepted, read_carried, write_carried, log_by, token_after};
 ghost use Rattle.iscsi_ports.specs.Readiness as ready;
+ghost use Rattle.iscsi_ports.specs.Flags.{flag_of};
 ghost use Rattle.iscsi_ports.specs.Readiness.{forgotten, IsReadBy};
 ghost use Rattle.iscsi_ports.specs.Polls.{IsNoLonger};
 ghost use Rattle.iscsi_ports.specs.Asking as asking;
@@ -383,6 +384,24 @@ impl<K: SocketCalls + Drop> Ports for SocketPorts<K> {
         self.carried = carried_after(answer, self.carried);
         self.most_unasked = most_after(answer, self.most_unasked);
         write_told(answer)
+    }
+
+    fn puts_off(&mut self, c: usize, bytes: &[u8]) -> bool
+        requires { c < 64 }
+        ensures full { result ≡ flag_of c self.old.readiness.full }
+        ensures put_off { result ≡ true
+            → (K.calls self.new.sockets ≡ PuttingOff c (length bytes.now) ∷ K.calls self.old.sockets)
+            × (self.new ≡ record self.old { sockets = self.new.sockets }) }
+        ensures log { result ≡ true → log_by (K.calls self.new.sockets) ≡ log_by (K.calls self.old.sockets)
+            ++ Wrote c (length bytes.now) (Bytes []) ∷ [] }
+        ensures same { result ≡ false → self.new ≡ self.old }
+        ensures in_time { AsksInTime (K.calls self.old.sockets) self.old → AsksInTime (K.calls self.new.sockets) self.new }
+    {
+        if !self.readiness.is_full(c) {
+            return false;
+        }
+        self.sockets.note_put_off(c, bytes.len());
+        true
     }
 
     fn close(&mut self, c: usize)

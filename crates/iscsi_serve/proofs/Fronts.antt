@@ -15,7 +15,7 @@ pub none_offered : (offered waiting : List ℕ) → (0 < length waiting → 0 < 
 none_offered offered [] some none = refl
 none_offered offered (byte ∷ bytes) some none = (let is = some (omega arith) in absurd (omega arith))
 
-not_zero : (n : ℕ) → eqb (suc n) 0 ≡ false
+pub not_zero : (n : ℕ) → eqb (suc n) 0 ≡ false
 not_zero n = search rules
 
 pub same_none : (offered waiting : List ℕ) → offered ≡ take (length offered) waiting → (0 < length waiting → 0 < length offered)

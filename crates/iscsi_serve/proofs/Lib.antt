@@ -9,4 +9,5 @@ pub mod Turning
 pub mod Closing
 pub mod Flags
 pub mod Passing
+mod Stalled
 mod ReadSteps

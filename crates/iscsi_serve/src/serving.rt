@@ -1,9 +1,9 @@
 //! The loop, turn by turn.
 
-ghost use Rattle.std.specs.Prelude.{◌≡◌, ◌<◌, ◌≤◌, ◌++◌, ◌∷◌, [], List, true, false, ◌||◌, ◌&&◌, ◌==◌, length, slice_index_or, OnOk, IfErr};
+ghost use Rattle.std.specs.Prelude.{◌≡◌, ◌<◌, ◌≤◌, ◌++◌, ◌∷◌, [], List, Bool, true, false, ◌||◌, ◌&&◌, ◌==◌, length, slice_index_or, OnOk, IfErr};
 ghost use Rattle.iscsi_target.specs.Bounded.{Bounded};
 ghost use Rattle.iscsi_target.specs.History.{connections};
-ghost use Rattle.iscsi_target.specs.Machine.{IsSound, ReflectsSoundness, IsSure, is_open_at, is_closing};
+ghost use Rattle.iscsi_target.specs.Machine.{IsSound, ReflectsSoundness, IsSure, link_at, is_open_at, is_closing};
 ghost use Rattle.iscsi_ports.specs.Log.{Entry, AcceptFailed};
 ghost use Rattle.iscsi_serve.specs.Served.{StaysServed, ComesOutServed};
 ghost use Rattle.iscsi_serve.specs.Turn.{Moment, moment, log_of, beginning, free_number as lowest_free, HasAccepted, Accepts, Reads, Writes, Closes, InOrder, Carries, EndsTurn, EndsTurns};
@@ -74,7 +74,7 @@ fn write_open<P: Ports, S: Store>(
         return;
     }
     match ports.write(c, offered) {
-        IoResult::Bytes(0) => {}
+        IoResult::Bytes(0) => target.note_stalled(c),
         IoResult::Bytes(count) => target.sent(c, count),
         IoResult::End | IoResult::Fault => ended[c] = true,
     }
@@ -82,7 +82,7 @@ fn write_open<P: Ports, S: Store>(
 
 /// Writes what waits on a connection, as many bytes as the ports accept. Returns whether the connection is then to be
 /// closed.
-fn write_one<P: Ports, S: Store>(
+fn write_waiting<P: Ports, S: Store>(
     ports: &mut P,
     target: &mut Target<S>,
     ended: &mut [bool; CONNECTIONS],
@@ -101,6 +101,37 @@ fn write_one<P: Ports, S: Store>(
     }
     write_open(ports, target, ended, c);
     is_done(target, ended, c)
+}
+
+/// Puts off the write of a stalled connection if the ports still take none of its bytes. Returns whether it did.
+fn put_off<P: Ports, S: Store>(ports: &mut P, target: &Target<S>, c: usize) -> bool
+    requires { c < 64 }
+    ensures does { result ≡ true → (ended : List Bool) → StepsBy (Writes c) (P.tells ports.old) (P.tells ports.new)
+        (P.log ports.old) (P.log ports.new) target.now target.now ended ended }
+    ensures open { result ≡ true → is_open_at target.now c ≡ true }
+    ensures waits { result ≡ true → 0 < length (link_at target.now c).waiting }
+    ensures same { result ≡ false → ports.new ≡ ports.old }
+{
+    target.is_stalled(c) && ports.puts_off(c, target.out(c))
+}
+
+/// Makes the write of a connection, or puts it off. Returns whether the connection is then to be closed.
+fn write_one<P: Ports, S: Store>(
+    ports: &mut P,
+    target: &mut Target<S>,
+    ended: &mut [bool; CONNECTIONS],
+    c: usize,
+) -> bool
+    requires { c < 64 }
+    ensures does { StepsBy (Writes c) (P.tells ports.old) (P.tells ports.new) (P.log ports.old) (P.log ports.new) target.old target.new ended.old ended.new }
+    ensures others { KeepsOthers c target.old target.new ended.old ended.new }
+    ensures due { result ≡ is_to_close ended.new target.new c }
+{
+    // A connection that takes nothing is not looked at: there is a turn for each PDU of the others.
+    if put_off(ports, target, c) {
+        return ended[c];
+    }
+    write_waiting(ports, target, ended, c)
 }
 
 /// Closes a connection that has ended, or that the target has closed and on which nothing waits.

@@ -178,6 +178,25 @@ impl<S: Store> Target<S> {
         self.connections.is_silent(c)
     }
 
+    /// Notes that bytes wait on an open connection, and that its peer takes none now.
+    pub fn note_stalled(&mut self, c: usize)
+        requires in_range { c < 64 }
+        requires open { is_open_at self.old c ≡ true }
+        requires waits { 0 < length (link_at self.old c).waiting }
+        ensures { self.new ≡ self.old }
+    {
+        self.connections.note_stalled(c);
+    }
+
+    /// Returns whether the connection was noted as stalled since its last change: it is open, and bytes wait.
+    pub fn is_stalled(&self, c: usize) -> bool
+        requires { c < 64 }
+        ensures open { result ≡ true → is_open_at self.now c ≡ true }
+        ensures waits { result ≡ true → 0 < length (link_at self.now c).waiting }
+    {
+        self.connections.is_stalled(c)
+    }
+
     /// Returns the next connection, from `from` on, to be looked at for bytes to send or for its end. On each one
     /// that is skipped nothing waits, and it is not closing.
     pub fn next_busy(&self, from: usize) -> Option<usize>

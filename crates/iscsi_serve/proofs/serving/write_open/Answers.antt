@@ -1,10 +1,11 @@
-use Rattle.std.proofs.Common.{◌≡◌, ◌<◌, length, refl, rules, inl, inr, arith}
+use Rattle.std.proofs.Common.{◌≡◌, ◌<◌, length, refl, rules, inl, inr}
 use Rattle.iscsi_ports.specs.Log.{Wrote, Fault, End}
 use Rattle.iscsi_serve.specs.Served.{MayHappen, MayComeOut}
-use Rattle.iscsi_serve.proofs.Closing.{open_sent, sent_none, others_same, others_sent, others_ended}
+use Rattle.iscsi_serve.proofs.Closing.{open_sent, others_same, others_sent, others_ended}
 use Rattle.iscsi_serve.proofs.Fronts.{none_offered}
 use Rattle.iscsi_serve.proofs.Goings.{empty_write, write_some, write_ended}
-use Rattle.iscsi_serve.proofs.Keeping.{keeps_same, keeps_told, write_stays, nothing_stays}
+use Rattle.iscsi_serve.proofs.Keeping.{keeps_same, keeps_told, write_stays}
+use Rattle.iscsi_serve.proofs.Stalled.{nothing_written, others_kept}
 use Rattle.iscsi_serve.proofs.serving.write_open.Goals as goal
 
 pub returns-then-is_empty-clause-does : goal.returns-then-is_empty-clause-does
@@ -19,24 +20,9 @@ returns-then-is_empty-clause-does g c =
 pub returns-in-Bytes-eq0-clause-does : goal.returns-in-Bytes-eq0-clause-does
 returns-in-Bytes-eq0-clause-does g c =
     let some : 0 < length c.out-offered.result.now = search rules in
-    record {
-      keeps = record {
-        back = c.write.ensures.back;
-        each = λ number sound. sound;
-        sure = λ sure. sure;
-        served = λ tells sound.
-            nothing_stays MayHappen _ _ c.args.target.now c.args.c c.out-offered.result.now c.requires.in_range c.requires.open
-            c.out-offered.ensures.front (rw c.in-Bytes-eq0.field-0-test at (c.in-Bytes-eq0.ensures.log tells));
-        came = λ tells.
-            nothing_stays (MayComeOut c.args.target.now) _ _ c.args.target.now c.args.c c.out-offered.result.now c.requires.in_range c.requires.open
-            c.out-offered.ensures.front (rw c.in-Bytes-eq0.field-0-test at (c.in-Bytes-eq0.ensures.log tells));
-        bounded = λ bounded. bounded;
-      };
-      goes = λ tells.
-          write_some _ _ c.args.target.now _ _ c.args.c 0 c.out-offered.result.now c.requires.open c.out-offered.ensures.front
-          c.out-offered.ensures.ends some (omega arith)
-          (rw c.in-Bytes-eq0.field-0-test at (c.in-Bytes-eq0.ensures.log tells)) (sent_none c.args.target.now c.args.c);
-    }
+    nothing_written _ _ _ _ c.args.target.now c.note_stalled.new.self c.args.ended.now c.args.c c.out-offered.result.now c.requires.in_range
+    c.requires.open c.out-offered.ensures.front c.out-offered.ensures.ends some c.write.ensures.back
+    (λ tells. rw c.in-Bytes-eq0.field-0-test at (c.in-Bytes-eq0.ensures.log tells)) c.note_stalled.ensures
 
 pub returns-in-Bytes-clause-does : goal.returns-in-Bytes-clause-does
 returns-in-Bytes-clause-does g c =
@@ -86,7 +72,8 @@ pub returns-then-is_empty-clause-others : goal.returns-then-is_empty-clause-othe
 returns-then-is_empty-clause-others g c = others_same c.args.target.now c.args.ended.now c.args.c
 
 pub returns-in-Bytes-eq0-clause-others : goal.returns-in-Bytes-eq0-clause-others
-returns-in-Bytes-eq0-clause-others g c = others_same c.args.target.now c.args.ended.now c.args.c
+returns-in-Bytes-eq0-clause-others g c =
+    others_kept c.args.target.now c.note_stalled.new.self c.args.ended.now c.args.c c.note_stalled.ensures
 
 pub returns-in-Bytes-clause-open : goal.returns-in-Bytes-clause-open
 returns-in-Bytes-clause-open g c = open_sent c.args.target.now _ c.args.c _ c.requires.open c.sent.ensures.now

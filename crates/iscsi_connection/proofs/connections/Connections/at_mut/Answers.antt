@@ -1,6 +1,7 @@
 use Rattle.std.proofs.Common.{◌∙◌}
 use Rattle.std.proofs.lemmas.List.{length-set}
 use Rattle.iscsi_world.specs.Machine.{LinkState, is_settled, is_silent}
+use Rattle.iscsi_connection.specs.Connections.{has_to_send}
 use Rattle.iscsi_connection.proofs.Marked.{lent_of_others}
 use Rattle.iscsi_connection.proofs.connections.Connections.at_mut.Goals as goal
 
@@ -12,4 +13,6 @@ invariant_of-self-lent c w =
           c.insert.ensures.own c.insert.ensures.others c.self.invariant.1,
       lent_of_others is_silent c.self.inside.busy c.insert-2.new.self links c.args.c w c.insert-2.ensures.own c.insert-2.ensures.others
           c.self.invariant.2,
+      lent_of_others has_to_send c.self.inside.unstalled c.insert-3.new.self links c.args.c w c.insert-3.ensures.own c.insert-3.ensures.others
+          c.self.invariant.3,
     )

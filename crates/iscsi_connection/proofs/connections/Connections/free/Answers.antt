@@ -1,6 +1,7 @@
 use Rattle.std.proofs.Common.{List, length, ap, ◌∙◌}
 use Rattle.std.proofs.lemmas.List.{length-replicate}
 use Rattle.iscsi_world.specs.Machine.{LinkState, is_settled, is_silent, free_link}
+use Rattle.iscsi_connection.specs.Connections.{has_to_send}
 use Rattle.iscsi_connection.proofs.Marked.{of_no_others}
 use Rattle.iscsi_connection.proofs.connections.Connections.free.Goals as goal
 
@@ -10,4 +11,5 @@ invariant_of-result c =
       ap (λ (all : List LinkState). length all) c.in_ok-items.ensures ∙ length-replicate 64 free_link,
       of_no_others (λ (link : LinkState). is_settled link.phase) c.all.result links c.all.ensures,
       of_no_others is_silent c.all-2.result links c.all-2.ensures,
+      of_no_others has_to_send c.all-3.result links c.all-3.ensures,
     )
