@@ -121,6 +121,10 @@ impl<P: Ports + Peers + Drop, O: Observer + Drop> Ports for ObservedPorts<P, O> 
         result
     }
 
+    fn puts_off(&mut self, c: usize, bytes: &[u8]) -> bool {
+        self.ports.puts_off(c, bytes)
+    }
+
     fn starved(&mut self, c: usize) {
         self.observer.starved(c);
         self.ports.starved(c);
