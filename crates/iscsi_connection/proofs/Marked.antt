@@ -5,7 +5,7 @@ use Rattle.std.proofs.lemmas.Bool.{cases_lt, lt-ltb, ltb-true}
 use Rattle.std.proofs.lemmas.Bool.Decides.{eqb_tells}
 use Rattle.std.proofs.lemmas.List.{get_or-set_other}
 use Rattle.iscsi_connection.specs.NumberSet.{is_in}
-use Rattle.iscsi_connection.specs.Connections.{IsTrueOfOthers, has_to_send}
+use Rattle.iscsi_connection.specs.Connections.{IsTrueOfOthers, IsKnownOfOthers, has_to_send}
 use Rattle.iscsi_world.specs.Machine.{LinkState, free_link, is_free}
 use Rattle.iscsi_world.proofs.Choices.{and_true}
 
@@ -61,3 +61,18 @@ stalled_open link e = (and_true (not (is_free link.phase)) (nat_lt 0 (length lin
 
 pub stalled_waits : (link : LinkState) → has_to_send link ≡ true → 0 < length link.waiting
 stalled_waits link e = ltb-true 0 (length link.waiting) (and_true (not (is_free link.phase)) (nat_lt 0 (length link.waiting)) e).1
+
+-- ---- those of which it is known whether it is so
+
+pub none_known : (is_so : LinkState → Bool) (all known : ℕ) (links : List LinkState) → ((c : ℕ) → c < 64 → is_in all c ≡ true)
+    → IsKnownOfOthers is_so all known links
+none_known is_so all known links every = λ c lt out. (let in_it = every c lt in absurd cc)
+
+pub lent_of_known : (is_so : LinkState → Bool) (old new known : ℕ) (links : List LinkState) (c : ℕ) (link : LinkState)
+    → is_in new c ≡ true → ((d : ℕ) → d ≢ c → is_in new d ≡ is_in old d) → IsKnownOfOthers is_so old known links
+    → IsKnownOfOthers is_so new known (set links c link)
+lent_of_known is_so old new known links c link own others is = λ d below out. elim (eqb_tells c d) [
+  | inl same ↦ (let in_it : is_in new d ≡ true = ap (λ (k : ℕ). is_in new k) (sym same.1) ∙ own in absurd cc)
+  | inr differ ↦
+      is d below (sym (others d (λ e. differ.1 (sym e))) ∙ out) ∙ sym (ap is_so (get_or-set_other links c d link free_link (λ e. differ.1 (sym e))))
+]

@@ -2,6 +2,7 @@
 
 ghost use Rattle.std.specs.Prelude.{◌≡◌, ◌<◌, ◌≤◌, ℕ, true, not, length, replicate, slice_index_or, slice_set, IfOk, IfSome, IfNone};
 ghost use Rattle.std.specs.Borrow.{sem};
+ghost use Rattle.iscsi_connection.specs.Connections.{is_full};
 ghost use Rattle.iscsi_connection.specs.Lending.{LendsLink};
 ghost use Rattle.iscsi_world.specs.Machine.{free_link, is_free, is_settled, is_silent};
 
@@ -23,11 +24,15 @@ pub struct Connections {
     busy: NumberSet,
     /// A superset of the connections that are not open or have no bytes to send.
     unstalled: NumberSet,
+    /// A superset of the connections of which it is not known whether they are full.
+    uncounted: NumberSet,
+    /// Which of the others are full.
+    full: NumberSet,
 }
 
 impl Model for Connections {
     ghost use Rattle.std.specs.Prelude.{◌≡◌, length, List};
-    ghost use Rattle.iscsi_connection.specs.Connections.{IsTrueOfOthers, has_to_send};
+    ghost use Rattle.iscsi_connection.specs.Connections.{IsTrueOfOthers, IsKnownOfOthers, has_to_send, is_full};
     ghost use Rattle.iscsi_world.specs.Machine.{LinkState, is_settled, is_silent};
 
     ghost Value = { List LinkState };
@@ -35,7 +40,8 @@ impl Model for Connections {
     ghost view = { λ l. l.items.items };
 
     ghost invariant = { λ l. (length l.items.items ≡ 64) × IsTrueOfOthers (λ (link : LinkState). is_settled link.phase) l.unsettled l.items.items
-        × IsTrueOfOthers is_silent l.busy l.items.items × IsTrueOfOthers has_to_send l.unstalled l.items.items };
+        × IsTrueOfOthers is_silent l.busy l.items.items × IsTrueOfOthers has_to_send l.unstalled l.items.items
+        × IsKnownOfOthers is_full l.uncounted l.full l.items.items };
 }
 
 /// Returns all connections, none of them open.
@@ -60,6 +66,8 @@ impl Connections {
             unsettled: NumberSet::all(),
             busy: NumberSet::all(),
             unstalled: NumberSet::all(),
+            uncounted: NumberSet::all(),
+            full: NumberSet::all(),
         })
     }
 
@@ -80,7 +88,8 @@ impl Connections {
         &self.items[c]
     }
 
-    /// Borrows the connection with this number mutably, and marks it as no longer known to be idle or stalled.
+    /// Borrows the connection with this number mutably, and marks it as changed: it is not known any more to be idle,
+    /// stalled or full.
     #[inline]
     pub fn at_mut(&mut self, c: usize) -> &mut Connection
         requires { c < 64 }
@@ -90,6 +99,7 @@ impl Connections {
         self.unsettled.insert(c);
         self.busy.insert(c);
         self.unstalled.insert(c);
+        self.uncounted.insert(c);
         &mut self.items[c]
     }
 
@@ -160,6 +170,34 @@ impl Connections {
         ensures waits { result ≡ true → 0 < length (slice_index_or self.now c free_link).waiting }
     {
         !self.unstalled.contains(c)
+    }
+
+    /// Notes whether the connection is full, unless that is known.
+    pub fn note_full(&mut self, c: usize)
+        requires { c < 64 }
+        ensures { self.new ≡ self.old }
+    {
+        if !self.uncounted.contains(c) {
+            return;
+        }
+        if self.items[c].is_full() {
+            self.full.insert(c);
+        } else {
+            self.full.remove(c);
+        }
+        self.uncounted.remove(c);
+    }
+
+    /// Returns whether more than 1,048,576 bytes wait on the connection, so that it is not to be read.
+    #[inline]
+    pub fn is_full(&self, c: usize) -> bool
+        requires { c < 64 }
+        ensures { result ≡ is_full (slice_index_or self.now c free_link) }
+    {
+        if self.uncounted.contains(c) {
+            return self.items[c].is_full();
+        }
+        self.full.contains(c)
     }
 
     /// Clears the busy flag if the connection is idle: nothing waits to be sent, and it is not closing.

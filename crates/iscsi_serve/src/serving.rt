@@ -129,6 +129,7 @@ fn write_one<P: Ports, S: Store>(
 {
     // A connection that takes nothing is not looked at: there is a turn for each PDU of the others.
     if put_off(ports, target, c) {
+        target.note_full(c);
         return ended[c];
     }
     write_waiting(ports, target, ended, c)

@@ -197,6 +197,14 @@ impl<S: Store> Target<S> {
         self.connections.is_stalled(c)
     }
 
+    /// Notes whether more than 1,048,576 bytes wait on the connection, so that they are not counted again until it changes.
+    pub fn note_full(&mut self, c: usize)
+        requires { c < 64 }
+        ensures { self.new ≡ self.old }
+    {
+        self.connections.note_full(c);
+    }
+
     /// Returns the next connection, from `from` on, to be looked at for bytes to send or for its end. On each one
     /// that is skipped nothing waits, and it is not closing.
     pub fn next_busy(&self, from: usize) -> Option<usize>

@@ -235,8 +235,11 @@ impl<S: Store> Target<S> {
         requires open { is_open_at self.now c ≡ true }
         ensures { result ≡ want_of (link_at self.now c) }
     {
+        if self.connections.is_full(c) {
+            return 0;
+        }
         let connection = self.connections.at(c);
-        if connection.phase().is_closing() || connection.is_full() {
+        if connection.phase().is_closing() {
             return 0;
         }
         connection.want()

@@ -1,8 +1,8 @@
 use Rattle.std.proofs.Common.{List, length, ap, ◌∙◌}
 use Rattle.std.proofs.lemmas.List.{length-replicate}
 use Rattle.iscsi_world.specs.Machine.{LinkState, is_settled, is_silent, free_link}
-use Rattle.iscsi_connection.specs.Connections.{has_to_send}
-use Rattle.iscsi_connection.proofs.Marked.{of_no_others}
+use Rattle.iscsi_connection.specs.Connections.{has_to_send, is_full}
+use Rattle.iscsi_connection.proofs.Marked.{of_no_others, none_known}
 use Rattle.iscsi_connection.proofs.connections.Connections.free.Goals as goal
 
 pub invariant_of-result : goal.invariant_of-result
@@ -12,4 +12,5 @@ invariant_of-result c =
       of_no_others (λ (link : LinkState). is_settled link.phase) c.all.result links c.all.ensures,
       of_no_others is_silent c.all-2.result links c.all-2.ensures,
       of_no_others has_to_send c.all-3.result links c.all-3.ensures,
+      none_known is_full c.all-4.result c.all-5.result links c.all-4.ensures,
     )

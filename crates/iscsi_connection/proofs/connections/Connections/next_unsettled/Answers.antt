@@ -14,6 +14,7 @@ loop-c-init c = record {
   others = c.self.invariant.1;
   silent = c.self.invariant.2;
   stalled = c.self.invariant.3;
+  counted = c.self.invariant.4;
   reached = omega arith;
   passed = λ d from below. absurd (omega (arith, from, below));
 }
@@ -36,13 +37,14 @@ loop-c-preserved c =
       others = found_of_others settled c.loop-c.self-inside.unsettled c.remove.new.self links k here c.remove.ensures.others inv.others;
       silent = inv.silent;
       stalled = inv.stalled;
+      counted = inv.counted;
       reached = (let reached = inv.reached in omega (arith, reached, found.0));
       passed = passed_with settled c.loop-c.self-inside.unsettled links c.args.from c.loop-c.at k inv.others inv.passed c.in-Some.ensures.before
           (omega (arith, found.1)) here;
     }
 
 pub invariant_of-self : goal.invariant_of-self
-invariant_of-self c = (let inv = c.loop-c.invariant in (inv.count, inv.others, inv.silent, inv.stalled))
+invariant_of-self c = (let inv = c.loop-c.invariant in (inv.count, inv.others, inv.silent, inv.stalled, inv.counted))
 
 pub returns-then-not-is_settled-clause-same : goal.returns-then-not-is_settled-clause-same
 returns-then-not-is_settled-clause-same c = c.loop-c.invariant.same ∙ c.self.view_is
@@ -60,7 +62,7 @@ returns-then-not-is_settled-clause-before c =
     λ d from below. ap (λ (links : List LinkState). settled (get_or links d free_link)) (sym (inv.same ∙ c.self.view_is)) ∙ passed d from below
 
 pub invariant_of-self-in_default : goal.invariant_of-self-in_default
-invariant_of-self-in_default c = (let inv = c.loop-c.invariant in (inv.count, inv.others, inv.silent, inv.stalled))
+invariant_of-self-in_default c = (let inv = c.loop-c.invariant in (inv.count, inv.others, inv.silent, inv.stalled, inv.counted))
 
 pub returns-clause-same : goal.returns-clause-same
 returns-clause-same c = c.loop-c.invariant.same ∙ c.self.view_is
