@@ -50,6 +50,14 @@ fn tell_starved<P: Ports>(ports: &mut P, starved: Option<usize>)
     }
 }
 
+/// Returns whether a connection is open. A stalled one is, without a look at it.
+fn is_open<S: Store>(target: &Target<S>, c: usize) -> bool
+    requires { c < 64 }
+    ensures { result ≡ is_open_at target.now c }
+{
+    target.is_stalled(c) || target.is_open(c)
+}
+
 /// Returns how many bytes to read from a connection: 0 if no read is due.
 fn room_for<S: Store>(target: &Target<S>, named: &Named, c: usize) -> usize
     requires { c < 64 }
@@ -57,7 +65,7 @@ fn room_for<S: Store>(target: &Target<S>, named: &Named, c: usize) -> usize
     ensures due { 0 < result → IsDue named.now c result target.now }
     ensures bound { result ≤ 65536 }
 {
-    if !named.connections[c] || !target.is_open(c) {
+    if !named.connections[c] || !is_open(target, c) {
         return 0;
     }
     target.want(c).min(MOST_READ)
