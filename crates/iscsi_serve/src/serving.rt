@@ -80,29 +80,6 @@ fn write_open<P: Ports, S: Store>(
     }
 }
 
-/// Writes what waits on a connection, as many bytes as the ports accept. Returns whether the connection is then to be
-/// closed.
-fn write_waiting<P: Ports, S: Store>(
-    ports: &mut P,
-    target: &mut Target<S>,
-    ended: &mut [bool; CONNECTIONS],
-    c: usize,
-) -> bool
-    requires { c < 64 }
-    ensures does { StepsBy (Writes c) (P.tells ports.old) (P.tells ports.new) (P.log ports.old) (P.log ports.new) target.old target.new ended.old ended.new }
-    ensures others { KeepsOthers c target.old target.new ended.old ended.new }
-    ensures due { result ≡ is_to_close ended.new target.new c }
-{
-    if target.is_silent(c) {
-        return has_ended(target, ended, c);
-    }
-    if !target.is_open(c) {
-        return false;
-    }
-    write_open(ports, target, ended, c);
-    is_done(target, ended, c)
-}
-
 /// Puts off the write of a stalled connection if the ports still take none of its bytes. Returns whether it did.
 fn put_off<P: Ports, S: Store>(ports: &mut P, target: &Target<S>, c: usize) -> bool
     requires { c < 64 }
@@ -115,7 +92,8 @@ fn put_off<P: Ports, S: Store>(ports: &mut P, target: &Target<S>, c: usize) -> b
     target.is_stalled(c) && ports.puts_off(c, target.out(c))
 }
 
-/// Makes the write of a connection, or puts it off. Returns whether the connection is then to be closed.
+/// Writes what waits on a connection, as many bytes as the ports accept. Returns whether the connection is then to be
+/// closed.
 fn write_one<P: Ports, S: Store>(
     ports: &mut P,
     target: &mut Target<S>,
@@ -132,7 +110,14 @@ fn write_one<P: Ports, S: Store>(
         target.note_full(c);
         return ended[c];
     }
-    write_waiting(ports, target, ended, c)
+    if target.is_silent(c) {
+        return has_ended(target, ended, c);
+    }
+    if !target.is_open(c) {
+        return false;
+    }
+    write_open(ports, target, ended, c);
+    is_done(target, ended, c)
 }
 
 /// Closes a connection that has ended, or that the target has closed and on which nothing waits.
