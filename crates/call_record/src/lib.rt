@@ -12,10 +12,11 @@
 //! Promised:
 //!
 //! - [`Record::new`] has no call in it.
-//! - [`Record::note`] puts a call in front of those noted before.
+//! - [`Record::note`] puts a call in front of those noted before, [`Record::note_joined`] one whose bytes lie in four
+//!   slices.
 //!
-//! These two are proved by hand, since they set what no memory holds; the body of `note` is empty. Whether a note is
-//! true of its call is for the reader of the noting function to check: the note is beside the call.
+//! The first and the last are proved by hand, since they set what no memory holds; the body of the last is empty. Whether
+//! a note is true of its call is for the reader of the noting function to check: the note is beside the call.
 #![tactic(auto)]
 
 mod record;
