@@ -26,9 +26,9 @@ length-torn at n old new within kept = omega (arith, kept.no_shorter, kept.no_lo
 
 -- a write within the content keeps its length, also where it failed
 pub length-kept : {E : Type 0} (result : Result (Unit {0}) E) (at n : ℕ) (bytes old new : List ℕ) → length bytes ≡ n → at + n ≤ length old
-    → OnOk result (at + n ≤ length old → new ≡ written at bytes old) → OnErr result (at + n ≤ length old → KeepsOutside at n old new) → length new ≡ length old
-length-kept (Ok value) at n bytes old new long within said torn = ap length (said within) ∙ length-written at bytes old (omega arith)
-length-kept (Err fault) at n bytes old new long within said torn = length-torn at n old new within (torn within)
+    → OnOk result (new ≡ written at bytes old) → OnErr result (KeepsOutside at n old new) → length new ≡ length old
+length-kept (Ok value) at n bytes old new long within is torn = ap length is ∙ length-written at bytes old (omega arith)
+length-kept (Err fault) at n bytes old new long within is torn = length-torn at n old new within torn
 
 -- the bytes that are read
 pub read-blocks : (first count n long : ℕ) (content : List ℕ) → first + count ≤ n → long ≡ block_length * count

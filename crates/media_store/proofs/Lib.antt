@@ -6,3 +6,4 @@ pub mod PartsRead
 pub mod PartsWritten
 pub mod Tries
 pub mod Outcomes
+pub mod BySlice

@@ -1,6 +1,6 @@
 //! A store in a file.
 
-ghost use Rattle.std.specs.Prelude.{◌≡◌, ◌+◌, ◌≤◌, ◌∷◌, [], ℕ, List, length, true, false, is_ok, IsTrue, IsOk, IsErr, IfOk, OnOk, OnErr, slice_range};
+ghost use Rattle.std.specs.Prelude.{◌≡◌, ◌+◌, ◌<◌, ◌≤◌, ◌^◌, ◌∷◌, [], ℕ, List, length, take, true, false, is_ok, IsTrue, IsOk, IsErr, IfOk, OnOk, OnErr, slice_range};
 ghost use Rattle.media_store.specs.Again.{Tries};
 ghost use Rattle.media_store.specs.Calls.{Opened, Measured, NotMeasured, Resized, NotResized, Synced, NotSynced, SyncRefused};
 ghost use Rattle.media_store.specs.Content.{resized, written, KeepsOutside, KeepsFront};
@@ -14,7 +14,9 @@ use crate::fault::StoreFault;
 use crate::file_calls::FileCalls;
 use crate::start::Start;
 use crate::store::Store;
+use crate::unwritten::Unwritten;
 use crate::whole::{read_whole, write_whole};
+use data_parts::Data;
 use std::marker::{Model, PhantomData};
 
 /// The bytes of an open file, or of a block device. Each call is one call of the system, or a few if the system does a
@@ -110,7 +112,20 @@ impl<C: FileCalls, S: Start> Store for FileStore<C, S> {
         ensures failures { self.new.failures ≡ counted result self.old.failures }
         ensures ended { HasEnded (is_ok result) at (length bytes.now) self.old.calls self.new.calls }
     {
-        write_whole(&mut self.calls, at, bytes)
+        let data = Data::whole(bytes);
+        write_whole(&mut self.calls, at, Unwritten::new(&data, bytes.len()))
+    }
+
+    fn write_parts(&mut self, at: u64, count: u64, data: &Data) -> Result<(), StoreFault>
+        requires enough { count ≤ length «data».now }
+        ensures written { OnOk result (self.new.content ≡ written at (take count «data».now) self.old.content) }
+        ensures torn { OnErr result (KeepsOutside at count self.old.content self.new.content) }
+        ensures honest { self.new.honest ≡ self.old.honest }
+        ensures synced { self.new.synced ≡ false }
+        ensures failures { self.new.failures ≡ counted result self.old.failures }
+        ensures ended { HasEnded (is_ok result) at count self.old.calls self.new.calls }
+    {
+        write_whole(&mut self.calls, at, Unwritten::new(data, count as usize))
     }
 
     fn set_len(&mut self, len: u64) -> Result<(), StoreFault>

@@ -4,6 +4,7 @@ ghost use Rattle.std.specs.Prelude.{◌≡◌, ◌≤◌, ◌∷◌, List, lengt
 ghost use Rattle.media_store.specs.Calls.{FileCall, GaveUp, SyncRefused, measuring, reading, writing, resizing, syncing};
 ghost use Rattle.media_store.specs.Replay.{sync_has_failed as sync_has_failed_in};
 
+use crate::unwritten::Unwritten;
 use std::io;
 
 /// An open file whose calls are noted. Nothing is promised of what a call does or answers, only that
@@ -22,7 +23,7 @@ pub trait FileCalls {
         ensures noted { calls self.new ≡ reading at buf.new result ∷ calls self.old };
 
     /// Writes a front of the bytes from an offset on. Returns the number of bytes.
-    fn write_some(&mut self, at: u64, bytes: &[u8]) -> io::Result<usize>
+    fn write_some(&mut self, at: u64, bytes: &Unwritten) -> io::Result<usize>
         ensures count { IfOk result (λ count. count ≤ length bytes.now) }
         ensures noted { calls self.new ≡ writing at bytes.now result ∷ calls self.old };
 

@@ -17,7 +17,7 @@
 //!
 //! Promised of every store: a call that fails raises the count of failures by one, and no other does.
 //! A failed write changes nothing outside its range, a failed read nothing at all. If a store is `atomic`, as one in
-//! memory is, no failed call changes a byte.
+//! memory is, no failed call changes a byte, but a write of several slices may stop between two.
 #![tactic(auto)]
 
 mod again;
@@ -28,9 +28,11 @@ mod file_calls;
 mod interruption;
 mod lying;
 mod memory;
+mod slices;
 mod start;
 mod store;
 mod system_file;
+mod unwritten;
 mod whole;
 
 pub use fail::{Call, FailStore};
@@ -42,3 +44,4 @@ pub use memory::MemStore;
 pub use start::{Start, Unknown};
 pub use store::Store;
 pub use system_file::{SystemFile, UnopenedFile};
+pub use unwritten::Unwritten;

@@ -1,11 +1,12 @@
 //! What every store does.
 
-ghost use Rattle.std.specs.Prelude.{◌≡◌, ◌+◌, ◌≤◌, ℕ, List, length, Bool, false, is_ok, IsTrue, IsOk, IfOk, IfSome, OnOk, OnErr, slice_range};
+ghost use Rattle.std.specs.Prelude.{◌≡◌, ◌+◌, ◌<◌, ◌≤◌, ◌^◌, ℕ, List, length, take, Bool, false, is_ok, IsTrue, IsOk, IfOk, IfSome, OnOk, OnErr, slice_range};
 ghost use Rattle.media_store.specs.Content.{resized, written, KeepsOutside, KeepsFront};
 ghost use Rattle.media_store.specs.Failures.{counted};
 ghost use Rattle.media_store.specs.Honesty.{HasAgreed};
 
 use crate::fault::StoreFault;
+use data_parts::Data;
 
 /// A list of bytes that is kept somewhere. Offsets and lengths are in bytes.
 ///
@@ -34,8 +35,8 @@ pub trait Store {
     /// How many bytes a steady store has room for.
     ghost reach: { Self → ℕ };
 
-    /// Whether a call that fails leaves the content as it was. So what is said of this content after a failure holds of
-    /// the content before any call that may fail.
+    /// Whether a call that fails leaves the content as it was, but for `write_parts`. So what is said of this content
+    /// after a failure holds of the content before any call that may fail.
     ghost atomic: { Self → Bool };
 
     /// Returns the number of bytes.
@@ -89,6 +90,34 @@ pub trait Store {
         ensures atomic { atomic self.new ≡ atomic self.old }
         ensures succeeds { IsTrue (steady self.old) → at + length bytes.now ≤ length (content self.old) → IsOk result }
         ensures grows { IsTrue (steady self.old) → at + length bytes.now ≤ reach self.old → IsOk result };
+
+    /// Writes the first `count` bytes of the data, which may lie in several slices, from an offset on, past the end too.
+    /// Where it fails, any bytes may stand in the range.
+    fn write_parts(&mut self, at: u64, count: u64, data: &Data) -> Result<(), StoreFault>
+        requires range { at + count < 2 ^ 64 }
+        requires some { 0 < count }
+        requires enough { count ≤ length «data».now }
+        ensures written { OnOk result (content self.new ≡ written at (take count «data».now) (content self.old)) }
+        ensures torn { OnErr result (KeepsOutside at count (content self.old) (content self.new)) }
+        ensures honest { honest self.new ≡ honest self.old }
+        ensures synced { synced self.new ≡ false }
+        ensures failures { failures self.new ≡ counted result (failures self.old) }
+        ensures steady { steady self.new ≡ steady self.old }
+        ensures reach { reach self.new ≡ reach self.old }
+        ensures atomic { atomic self.new ≡ atomic self.old }
+        ensures succeeds { IsTrue (steady self.old) → at + count ≤ length (content self.old) → IsOk result }
+        ensures grows { IsTrue (steady self.old) → at + count ≤ reach self.old → IsOk result }
+    {
+        let (mut front, mut behind) = data.split_front();
+        let mut done = 0;
+        while done < count {
+            let bytes = &front[..front.len().min((count - done) as usize)];
+            self.write_at(at + done, bytes)?;
+            done += bytes.len() as u64;
+            (front, behind) = behind.split_front();
+        }
+        Ok(())
+    }
 
     /// Cuts the content to a length, or fills it up with zeros. Where it fails, the end may lie
     /// anywhere between.

@@ -1,16 +1,19 @@
 //! The calls on a file of the operating system. Each method makes one call of the kit and then notes it with its
-//! answer. The kit makes an open, a cut and a sync again that a signal interrupts, without a note. The clauses pin the
+//! answer. A write of several slices is two: the first puts the place of the file at the offset, and has no note of its
+//! own. The kit makes an open, a cut and a sync again that a signal interrupts, without a note. The clauses pin the
 //! notes to the answers; that the call made is the one that is noted, a reader has to see here.
 
-ghost use Rattle.std.specs.Prelude.{◌≡◌, ◌∷◌, [], IfOk, IfErr};
+ghost use Rattle.std.specs.Prelude.{◌≡◌, ◌≤◌, ◌∷◌, [], length, IfOk, IfErr};
 ghost use Rattle.media_store.specs.Calls.{Opened, calls_of};
 ghost use Rattle.media_store.specs.Opening.{IsRefused};
 
 use crate::file_calls::FileCalls;
 use crate::interruption::is_interrupted;
+use crate::slices::Slices;
+use crate::unwritten::Unwritten;
 use call_record::Record;
 use std::fs::{File, OpenOptions};
-use std::io::{self, Seek, SeekFrom};
+use std::io::{self, IoSlice, Seek, SeekFrom};
 use std::marker::Model;
 use std::os::unix::fs::FileExt;
 use std::rt::Files;
@@ -99,6 +102,24 @@ impl SystemFile {
     }
 }
 
+/// Writes a front of the bytes of some slices at an offset.
+fn write_slices(file: &mut File, at: u64, slices: &Slices) -> io::Result<usize>
+    ensures { IfOk result (λ count. count ≤ length slices.now) }
+{
+    let (first, second, third, fourth) = slices.parts();
+    if second.is_empty() {
+        return file.write_at(first, at);
+    }
+    // The kit writes several slices at the place of the file alone.
+    file.seek(SeekFrom::Start(at))?;
+    file.write_vectored(&[
+        IoSlice::new(first),
+        IoSlice::new(second),
+        IoSlice::new(third),
+        IoSlice::new(fourth),
+    ])
+}
+
 impl FileCalls for SystemFile {
     ghost calls = { λ opened. opened };
 
@@ -126,19 +147,19 @@ impl FileCalls for SystemFile {
         answer
     }
 
-    fn write_some(&mut self, at: u64, bytes: &[u8]) -> io::Result<usize> {
-        let answer = self.file.write_at(bytes, at);
-        let offered = bytes.len() as u64;
+    fn write_some(&mut self, at: u64, bytes: &Unwritten) -> io::Result<usize> {
+        let slices = bytes.slices();
+        let answer = write_slices(&mut self.file, at, &slices);
+        let asked = [WRITE, at, bytes.len() as u64];
         match &answer {
             Ok(count) => {
-                let taken = &bytes[..*count];
-                self.noted.note(&[WRITE, at, offered], taken, &[true]);
+                let (first, second, third, fourth) = slices.front(*count).parts();
+                let noted = &mut self.noted;
+                noted.note_joined(&asked, first, second, third, fourth, &[true]);
             }
-            Err(error) => self.noted.note(
-                &[WRITE, at, offered],
-                &[],
-                &[false, is_interrupted(error)],
-            ),
+            Err(error) => self
+                .noted
+                .note(&asked, &[], &[false, is_interrupted(error)]),
         }
         answer
     }

@@ -1,5 +1,6 @@
 //! The store that keeps the bytes of a disk or a tape.
 
+use data_parts::Data;
 use media_store::{FileStore, MemStore, Store, StoreFault, SystemFile};
 
 /// A store in memory, or a store `F` in a file.
@@ -55,6 +56,13 @@ impl<F: Store> Store for MediumStore<F> {
         match self {
             MediumStore::Memory(store) => store.write_at(at, bytes),
             MediumStore::File(store) => store.write_at(at, bytes),
+        }
+    }
+
+    fn write_parts(&mut self, at: u64, count: u64, data: &Data) -> Result<(), StoreFault> {
+        match self {
+            MediumStore::Memory(store) => store.write_parts(at, count, data),
+            MediumStore::File(store) => store.write_parts(at, count, data),
         }
     }
 

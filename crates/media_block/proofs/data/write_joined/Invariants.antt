@@ -1,4 +1,4 @@
-use Rattle.std.proofs.Common.{◌≡◌, ◌≤◌, ◌+◌, ◌-◌, ◌==◌, ◌++◌, length, take, drop, false, if◌then◌else◌}
+use Rattle.std.proofs.Common.{◌≡◌, ◌<◌, ◌≤◌, ◌-◌, ◌++◌, length, take, drop, false}
 use Rattle.media_store.specs.Content.{written}
 use Rattle.media_block.proofs.data.write_joined.Given as goal
 
@@ -10,9 +10,8 @@ invariant-loop-done g l = record {
   honest : g.S.Store.honest l.store ≡ g.S.Store.honest l.initial.store;
   steady : g.S.Store.steady l.store ≡ g.S.Store.steady l.initial.store;
   failures : g.S.Store.failures l.store ≡ g.S.Store.failures l.initial.store;
-  synced : g.S.Store.synced l.store ≡ (if l.done == 0 then g.S.Store.synced l.initial.store else false);
-  content : l.at + l.count ≤ length (g.S.Store.content l.initial.store)
-      → g.S.Store.content l.store ≡ written l.at (take l.done l.«data») (g.S.Store.content l.initial.store);
+  synced : 0 < l.done → g.S.Store.synced l.store ≡ false;
+  content : g.S.Store.content l.store ≡ written l.at (take l.done l.«data») (g.S.Store.content l.initial.store);
 }
 
 abbrev pub decreases-loop-done : goal.decreases-loop-done

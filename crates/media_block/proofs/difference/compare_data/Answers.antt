@@ -1,7 +1,7 @@
 use Rattle.std.proofs.Common.{◌≡◌, ℕ, ◌+◌, List, ◌++◌, length, take, drop, arith, rules, ap, sym, ◌∙◌}
 use Rattle.std.proofs.lemmas.List.{length-append, length-drop, length-take-le, drop-append-le, drop-drop}
 use Rattle.media_store.proofs.Reading.{only_read_then}
-use Rattle.media_block.proofs.Slices.{front-slice}
+use Rattle.media_store.proofs.BySlice.{front-slice}
 use Rattle.media_block.proofs.Differences.{found-difference, same-more}
 use Rattle.media_block.proofs.difference.compare_data.Goals as goal
 

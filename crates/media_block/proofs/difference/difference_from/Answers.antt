@@ -1,6 +1,6 @@
 use Rattle.std.proofs.Common.{◌≡◌, ◌+◌, ◌≤◌, length, take, drop, slice_range, refl, arith, sym, ◌∙◌}
 use Rattle.std.proofs.lemmas.List.{length-take-le, length-drop}
-use Rattle.media_block.proofs.Slices.{front-slice, behind-slice}
+use Rattle.media_store.proofs.BySlice.{front-slice, behind-slice}
 use Rattle.media_block.proofs.Differences.{found-difference, same-more, slice-whole}
 use Rattle.media_block.proofs.difference.difference_from.Goals as goal
 

@@ -2,7 +2,7 @@ use Rattle.std.proofs.Common.{◌≡◌, ℕ, ◌+◌, ◌-◌, ◌≤◌, List,
 use Rattle.std.proofs.Math.Seq.{take-add}
 use Rattle.std.proofs.lemmas.List.{length-append, length-take-le, length-drop, take_at, drop-append-le, drop-drop}
 use borrow.Rule.Slice.PartMut.{put_mid, post_of}
-use Rattle.media_block.proofs.Slices.{front-slice}
+use Rattle.media_store.proofs.BySlice.{front-slice}
 use Rattle.media_block.proofs.filling.fill.Goals as goal
 
 -- the front of a buffer once more bytes were put after its first

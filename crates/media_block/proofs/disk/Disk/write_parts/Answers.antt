@@ -49,11 +49,10 @@ returns-clause-written g c =
     let range = rw (← c.self.view_is) at c.requires.range in
     let n = block_length * c.args.count in
     rw (← c.self.view_is) (on_ok_weaker c.write_data.result
-    (λ said honest.
+    (λ is honest.
     let long = c.self.invariant.1 honest in
     written-blocks c.args.first c.args.count c.self.inside.block_count (take n c.args.«data».now) content
-    (g.S.Store.content c.write_data.new.store) (omega (arith, count_is, range)) long (length-take-le n c.args.«data».now c.requires.enough)
-    (said (omega (arith, count_is, range, long))))
+    (g.S.Store.content c.write_data.new.store) (omega (arith, count_is, range)) long (length-take-le n c.args.«data».now c.requires.enough) is)
     c.write_data.ensures.written)
 
 pub returns-clause-torn : goal.returns-clause-torn
@@ -65,7 +64,7 @@ returns-clause-torn g c =
     (λ kept honest.
     let long = c.self.invariant.1 honest in
     torn-blocks c.args.first c.args.count c.self.inside.block_count (block_length * c.args.count) content
-    (g.S.Store.content c.write_data.new.store) (omega (arith, count_is, range)) long refl (kept (omega (arith, count_is, range, long))))
+    (g.S.Store.content c.write_data.new.store) (omega (arith, count_is, range)) long refl kept)
     c.write_data.ensures.torn)
 
 pub returns-clause-length : goal.returns-clause-length

@@ -1,0 +1,39 @@
+use Rattle.std.proofs.Common.{◌≡◌, length}
+use Rattle.std.proofs.lemmas.List.{length-take-le}
+use Rattle.media_store.specs.Replay.{origin_by}
+use Rattle.media_store.proofs.Ended.{HasEnded-counted}
+use Rattle.media_store.proofs.Outcomes.{OnOk-tested, OnErr-always, put-written, put-torn}
+use Rattle.media_store.proofs.file.FileStoreStore.write_parts.Goals as goal
+
+pub returns-clause-written : goal.returns-clause-written
+returns-clause-written g c =
+    let origin = origin_by g.S.Start.held g.S.Start.torn in
+    rw (← c.self.view_is, ← c.new.ensures) (OnOk-tested c.write_whole.result (λ ok.
+    put-written origin _ _ _ _ _ (c.write_whole.ensures origin) ok))
+
+pub returns-clause-torn : goal.returns-clause-torn
+returns-clause-torn g c =
+    let origin = origin_by g.S.Start.held g.S.Start.torn in
+    let long : length c.new.result ≡ c.args.count = rw c.new.ensures (length-take-le c.args.count c.args.«data».now c.requires.enough) in
+    rw (← c.self.view_is, ← long) (OnErr-always c.write_whole.result (put-torn origin _ _ _ _ _ (c.write_whole.ensures origin)))
+
+pub returns-clause-honest : goal.returns-clause-honest
+returns-clause-honest g c =
+    let origin = origin_by g.S.Start.held g.S.Start.torn in
+    rw (← c.self.view_is) (c.write_whole.ensures origin).honest
+
+pub returns-clause-synced : goal.returns-clause-synced
+returns-clause-synced g c =
+    let origin = origin_by g.S.Start.held g.S.Start.torn in
+    (c.write_whole.ensures origin).synced
+
+pub returns-clause-failures : goal.returns-clause-failures
+returns-clause-failures g c =
+    let origin = origin_by g.S.Start.held g.S.Start.torn in
+    rw (← c.self.view_is) (HasEnded-counted _ _ _ _ _ (c.write_whole.ensures origin).ended)
+
+pub returns-clause-ended : goal.returns-clause-ended
+returns-clause-ended g c =
+    let origin = origin_by g.S.Start.held g.S.Start.torn in
+    let long : length c.new.result ≡ c.args.count = rw c.new.ensures (length-take-le c.args.count c.args.«data».now c.requires.enough) in
+    rw (← c.self.view_is, ← long) (c.write_whole.ensures origin).ended

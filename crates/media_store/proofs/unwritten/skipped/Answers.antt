@@ -1,0 +1,18 @@
+use Rattle.std.proofs.Common.{◌+◌, length, arith, ◌∙◌, ◌≤◌}
+use Rattle.std.proofs.lemmas.List.{length-append}
+use Rattle.media_store.proofs.BySlice.{drop-first}
+use Rattle.media_store.proofs.unwritten.skipped.Goals as goal
+
+pub loop-left-preserved : goal.loop-left-preserved
+loop-left-preserved c =
+    let left = c.loop-left.left in
+    let front = c.loop-left.front.now in
+    let behind = c.loop-left.behind in
+    let joined = c.split_front.ensures.joined in
+    let within : left ≤ length front + length behind = simp length-append at c.loop-left.invariant.within in
+    record {
+      within = rw (← joined) (omega (arith, within));
+      some = λ more. c.split_front.ensures.some (omega (arith, within, more));
+      any = λ _ more. c.split_front.ensures.some (omega (arith, (rw (← joined) at more)));
+      rest = rw (← joined) (drop-first left front behind (omega arith) ∙ c.loop-left.invariant.rest);
+    }
