@@ -1,6 +1,7 @@
 -- A disk as a list of blocks (SBC-3 "Logical blocks"), and what commands do to it.
-use Rattle.std.specs.Prelude.{◌≡◌, ℕ, zero, suc, ◌+◌, ◌*◌, ◌≤◌, ◌/◌, ◌%◌, List, [], ◌∷◌, ◌++◌, length, take, drop, Bool, ◌==◌, ◌&&◌, nat_lt, Option, Some, None, option_map, slice_range, if◌then◌else◌}
+use Rattle.std.specs.Prelude.{◌≡◌, ℕ, zero, suc, ◌+◌, ◌*◌, ◌≤◌, ◌/◌, ◌%◌, List, [], ◌∷◌, ◌++◌, length, take, drop, Bool, ◌==◌, ◌&&◌, ◌<◌, nat_lt, Option, Some, None, option_map, slice_range, if◌then◌else◌, IsTrue, Result, IsOk, IfOk, IfSome}
 use Rattle.std.specs.List.{concat}
+use Rattle.media_store.specs.Failures.{counted}
 
 -- profile: the length of a block in bytes
 abbrev pub block_length : ℕ
@@ -50,3 +51,12 @@ pub record DiskState : Type 0 where
   pub failures : ℕ
   pub honest : Bool
   pub steady : Bool
+
+-- own: a comparison of bytes with as many blocks only reads, and returns the least index at which they differ
+pub record HasCompared {E : Type 0} (first count : ℕ) (bytes : List ℕ) (result : Result (Option ℕ) E) (old new : DiskState) : Type 0 where
+  pub compared : IfOk result (λ at. IsTrue new.honest → at ≡ first_difference (data_of old.blocks first count) bytes)
+  pub within : IfOk result (λ at. IfSome at (λ n. n < block_length * count))
+  pub none : count ≡ 0 → IsOk result
+  pub back : IsTrue new.honest → IsTrue old.honest
+  pub disk : new ≡ record old { failures = counted result old.failures; honest = new.honest }
+  pub succeeds : IsTrue old.steady → IsTrue old.honest → IsOk result × (new ≡ old)

@@ -3,7 +3,7 @@
 ghost use Rattle.std.specs.Prelude.{◌≡◌, ◌+◌, ◌*◌, ◌<◌, ◌≤◌, ◌==◌, length, take, replicate, true, false, is_ok, if◌then◌else◌, IsTrue, IsOk, IfOk, IfSome, IfErr, OnOk, OnErr};
 ghost use Rattle.media_store.specs.Failures.{counted};
 ghost use Rattle.media_block.specs.Fault.{failures_after};
-ghost use Rattle.media_block.specs.Blocks.{block_length, blocks_of, is_disk, disk_of, data_of, replaced, first_difference, AreWhole, KeepsOthers};
+ghost use Rattle.media_block.specs.Blocks.{block_length, blocks_of, is_disk, disk_of, data_of, replaced, first_difference, AreWhole, KeepsOthers, HasCompared};
 
 use crate::data::write_data;
 use crate::difference::{compare_data, difference_from};
@@ -221,13 +221,7 @@ impl<S: Store> Disk<S> {
     ) -> Result<Option<usize>, StoreFault>
         requires range { first + count ≤ length self.old.blocks }
         requires enough { block_length * count ≤ length «data».now }
-        ensures compared { IfOk result (λ at. IsTrue self.new.honest
-            → at ≡ first_difference (data_of self.old.blocks first count) (take (block_length * count) «data».now)) }
-        ensures within { IfOk result (λ at. IfSome at (λ n. n < block_length * count)) }
-        ensures none { count ≡ 0 → IsOk result }
-        ensures back { IsTrue self.new.honest → IsTrue self.old.honest }
-        ensures disk { self.new ≡ record self.old { failures = counted result self.old.failures; honest = self.new.honest } }
-        ensures succeeds { IsTrue self.old.steady → IsTrue self.old.honest → IsOk result × (self.new ≡ self.old) }
+        ensures { HasCompared first count (take (block_length * count) «data».now) result self.old self.new }
     {
         self.compare_in(first, count, data, &mut [0; PART_LENGTH])
     }
@@ -242,13 +236,7 @@ impl<S: Store> Disk<S> {
     ) -> Result<Option<usize>, StoreFault>
         requires range { first + count ≤ length self.old.blocks }
         requires enough { block_length * count ≤ length «data».now }
-        ensures compared { IfOk result (λ at. IsTrue self.new.honest
-            → at ≡ first_difference (data_of self.old.blocks first count) (take (block_length * count) «data».now)) }
-        ensures within { IfOk result (λ at. IfSome at (λ n. n < block_length * count)) }
-        ensures none { count ≡ 0 → IsOk result }
-        ensures back { IsTrue self.new.honest → IsTrue self.old.honest }
-        ensures disk { self.new ≡ record self.old { failures = counted result self.old.failures; honest = self.new.honest } }
-        ensures succeeds { IsTrue self.old.steady → IsTrue self.old.honest → IsOk result × (self.new ≡ self.old) }
+        ensures { HasCompared first count (take (block_length * count) «data».now) result self.old self.new }
     {
         self.compare_in(first, count, data, &mut [0; LONG_PART_LENGTH])
     }
@@ -264,13 +252,7 @@ impl<S: Store> Disk<S> {
         requires range { first + count ≤ length self.old.blocks }
         requires enough { block_length * count ≤ length «data».now }
         requires room { 0 < length held.old }
-        ensures compared { IfOk result (λ at. IsTrue self.new.honest
-            → at ≡ first_difference (data_of self.old.blocks first count) (take (block_length * count) «data».now)) }
-        ensures within { IfOk result (λ at. IfSome at (λ n. n < block_length * count)) }
-        ensures none { count ≡ 0 → IsOk result }
-        ensures back { IsTrue self.new.honest → IsTrue self.old.honest }
-        ensures disk { self.new ≡ record self.old { failures = counted result self.old.failures; honest = self.new.honest } }
-        ensures succeeds { IsTrue self.old.steady → IsTrue self.old.honest → IsOk result × (self.new ≡ self.old) }
+        ensures { HasCompared first count (take (block_length * count) «data».now) result self.old self.new }
     {
         compare_data(
             &mut self.store,
