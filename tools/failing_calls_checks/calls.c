@@ -24,6 +24,7 @@
 #include <sys/socket.h>
 #include <sys/syscall.h>
 #include <sys/types.h>
+#include <sys/uio.h>
 #include <unistd.h>
 
 extern void *__libc_malloc(size_t);
@@ -203,6 +204,33 @@ ssize_t pwrite64(int descriptor, const void *bytes, size_t count, off_t at)
 ssize_t pwrite(int descriptor, const void *bytes, size_t count, off_t at)
 {
     return pwrite64(descriptor, bytes, count, at);
+}
+
+#define SLICES 16 /* more than the program writes with one call */
+
+/* Writes the front of some slices at the place of a file, at most so many bytes. */
+static ssize_t write_front(int descriptor, const struct iovec *slices, int many, size_t most)
+{
+    struct iovec front[SLICES];
+    int used = 0;
+    for (; used < many && used < SLICES && most; used++) {
+        front[used] = slices[used];
+        if (front[used].iov_len > most)
+            front[used].iov_len = most;
+        most -= front[used].iov_len;
+    }
+    return syscall(SYS_writev, descriptor, front, used);
+}
+
+/* As a write at a place: that of the file, which was sought before. */
+ssize_t writev(int descriptor, const struct iovec *slices, int many)
+{
+    off_t at = syscall(SYS_lseek, descriptor, 0, SEEK_CUR);
+    size_t count = 0;
+    for (int k = 0; k < many; k++)
+        count += slices[k].iov_len;
+    ssize_t moved = fails_on_file() ? failed() : write_front(descriptor, slices, many, at_most_of_file(count));
+    return traced("write", descriptor, at, count, moved);
 }
 
 int fsync(int descriptor)

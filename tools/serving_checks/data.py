@@ -12,7 +12,8 @@ SEGMENTS = (512, 513, 4096, 262144, 16777215)
 READS = 6  # of 1 MiB: their answers are more than a system takes of a connection nobody reads from
 SIPS = (1, 47, 48, 49, 1000, 2304)  # bytes that are taken at a time
 FIRST = 124  # the CmdSN after that of READY
-PARTS = ((1, 2048), (511, 8192), (512, 8192), (513, 8192), (4095, 65536), (4096, 65536), (65536, 262144), (262144, 1 << 20))
+PARTS = ((1, 2048), (511, 8192), (512, 8192), (513, 8192), (4095, 65536), (4096, 65536), (4096, 20480), (8192, 262144),
+         (65536, 262144), (65536, 1 << 20), (262144, 1 << 20))  # bytes of a Data-Out at most, and of the WRITE
 
 
 def logged_in(client, segment):
@@ -102,11 +103,11 @@ def data_outs(number, tag, content, at, most):
                     for n, start in enumerate(starts) for part in [content[start:start + most]])
 
 
-def is_written(client, number, content, most):
-    """A WRITE at the front of the disk is GOOD whose data comes in Data-Outs of so many bytes at most."""
+def is_written(client, number, first, content, most):
+    """A WRITE from this block on is GOOD whose data comes in Data-Outs of so many bytes at most."""
     client.sendall(notation.data(f"[SCSI-Command F W ITT={number} CmdSN={number} "
                                  f"ExpectedDataTransferLength={len(content)} "
-                                 f"CDB=2a000000000000{len(content) // BLOCK:04x}00]", {}))
+                                 f"CDB=2a00{first:08x}00{len(content) // BLOCK:04x}00]", {}))
     fields = pdu.LAYOUTS["R2T"][2]
     while (header := read(client, pdu.HEADER))[0] == pdu.LAYOUTS["R2T"][0]:
         at, length = (pdu.get(header, fields[name]) for name in ("BufferOffset", "DesiredDataTransferLength"))
@@ -121,10 +122,11 @@ def writes_data_that_comes_in_parts_of_each_length():
             assert is_answered(client, 1) and is_answered(other, 2)
             for number, (most, length) in enumerate(PARTS, 125):
                 for one in (client, other):
-                    content = chance.randbytes(length)
-                    after = path.read_bytes()[length:]
-                    assert is_written(one, number, content, most), most
-                    assert path.read_bytes() == content + after, most
+                    content, held = chance.randbytes(length), path.read_bytes()
+                    first = chance.randrange(LONGEST - length // BLOCK + 1)
+                    at = BLOCK * first
+                    assert is_written(one, number, first, content, most), most
+                    assert path.read_bytes() == held[:at] + content + held[at + length:], most
 
 
 CHECKS = [
