@@ -23,7 +23,7 @@ pub(crate) const MOST_READ: usize = 65_536;
 pub(crate) const HEADER: usize = 48;
 
 /// The least room, in bytes, for which the buffer of a half-read PDU is lent to the ports. Less is copied.
-const LEAST_FILLED: usize = 16_384;
+const LEAST_FILLED: usize = 4_096;
 
 /// A buffer for a read, and for the next header after it.
 pub(crate) type ReadBuffer = [u8; MOST_READ + HEADER];
