@@ -19,7 +19,8 @@ pub enum Call {
     Sync,
 }
 
-/// Another store that fails from some call on. A call that it refuses does not reach that store.
+/// Another store that fails from some call on. A call that it refuses does not reach that store. A write of several
+/// slices is a write of each.
 #[derive(Drop)]
 pub struct FailStore<S: Store> {
     store: S,
