@@ -112,8 +112,7 @@ impl<C: FileCalls, S: Start> Store for FileStore<C, S> {
         ensures failures { self.new.failures ≡ counted result self.old.failures }
         ensures ended { HasEnded (is_ok result) at (length bytes.now) self.old.calls self.new.calls }
     {
-        let data = Data::whole(bytes);
-        write_whole(&mut self.calls, at, Unwritten::new(&data, bytes.len()))
+        self.write_parts(at, bytes.len() as u64, &Data::whole(bytes))
     }
 
     fn write_parts(&mut self, at: u64, count: u64, data: &Data) -> Result<(), StoreFault>

@@ -11,7 +11,7 @@ use std::marker::Model;
 pub struct Unwritten<'a> {
     front: &'a [u8],
     /// The data after them, and perhaps bytes that are not to be written.
-    behind: Data<'a>,
+    more: Data<'a>,
     /// How many bytes are to be written.
     len: usize,
 }
@@ -21,25 +21,25 @@ impl<'a> Model for Unwritten<'a> {
 
     ghost Value = { List ℕ };
 
-    ghost view = { λ u. take u.len (u.front.now ++ u.behind) };
+    ghost view = { λ u. take u.len (u.front.now ++ u.more) };
 
-    ghost invariant = { λ u. (u.len ≤ length (u.front.now ++ u.behind)) × (0 < u.len → 0 < length u.front.now) };
+    ghost invariant = { λ u. (u.len ≤ length (u.front.now ++ u.more)) × (0 < u.len → 0 < length u.front.now) };
 }
 
 /// Returns what lies after the first `n` of some bytes followed by data: bytes that lie together, and the data after them.
-fn skipped<'a>(bytes: &'a [u8], behind: Data<'a>, n: usize) -> (&'a [u8], Data<'a>)
-    requires within { n ≤ length (bytes.now ++ behind) }
+fn skipped<'a>(bytes: &'a [u8], more: Data<'a>, n: usize) -> (&'a [u8], Data<'a>)
+    requires within { n ≤ length (bytes.now ++ more) }
     requires some { 0 < n → 0 < length bytes.now }
-    ensures joined { result.0.now ++ result.1 ≡ drop n (bytes.now ++ behind.entry) }
-    ensures some { 0 < length bytes.now → n < length (bytes.now ++ behind.entry) → 0 < length result.0.now }
+    ensures joined { result.0.now ++ result.1 ≡ drop n (bytes.now ++ more.entry) }
+    ensures some { 0 < length bytes.now → n < length (bytes.now ++ more.entry) → 0 < length result.0.now }
 {
-    let (mut front, mut behind) = (bytes, behind);
+    let (mut front, mut more) = (bytes, more);
     let mut left = n;
     while left > 0 && left >= front.len() {
         left -= front.len();
-        (front, behind) = behind.split_front();
+        (front, more) = more.split_front();
     }
-    (&front[left..], behind)
+    (&front[left..], more)
 }
 
 impl<'a> Unwritten<'a> {
@@ -48,10 +48,10 @@ impl<'a> Unwritten<'a> {
         requires { count ≤ length «data».now }
         ensures { result ≡ take count «data».now }
     {
-        let (front, behind) = data.split_front();
+        let (front, more) = data.split_front();
         Unwritten {
             front,
-            behind,
+            more,
             len: count,
         }
     }
@@ -68,11 +68,11 @@ impl<'a> Unwritten<'a> {
         requires { n ≤ length self }
         ensures { result ≡ drop n self.entry }
     {
-        let Unwritten { front, behind, len } = self;
-        let (front, behind) = skipped(front, behind, n);
+        let Unwritten { front, more, len } = self;
+        let (front, more) = skipped(front, more, n);
         Unwritten {
             front,
-            behind,
+            more,
             len: len - n,
         }
     }
@@ -82,9 +82,9 @@ impl<'a> Unwritten<'a> {
         ensures front { result ≡ take (length result) self.now }
         ensures some { 0 < length self.now → 0 < length result }
     {
-        let (second, behind) = self.behind.split_front();
-        let (third, behind) = behind.split_front();
-        let (fourth, _) = behind.split_front();
+        let (second, more) = self.more.split_front();
+        let (third, more) = more.split_front();
+        let (fourth, _) = more.split_front();
         Slices::new(self.front, second, third, fourth).front(self.len)
     }
 }

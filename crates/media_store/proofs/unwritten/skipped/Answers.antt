@@ -7,12 +7,12 @@ pub loop-left-preserved : goal.loop-left-preserved
 loop-left-preserved c =
     let left = c.loop-left.left in
     let front = c.loop-left.front.now in
-    let behind = c.loop-left.behind in
+    let more = c.loop-left.more in
     let joined = c.split_front.ensures.joined in
-    let within : left ≤ length front + length behind = simp length-append at c.loop-left.invariant.within in
+    let within : left ≤ length front + length more = simp length-append at c.loop-left.invariant.within in
     record {
       within = rw (← joined) (omega (arith, within));
-      some = λ more. c.split_front.ensures.some (omega (arith, within, more));
-      any = λ _ more. c.split_front.ensures.some (omega (arith, (rw (← joined) at more)));
-      rest = rw (← joined) (drop-first left front behind (omega arith) ∙ c.loop-left.invariant.rest);
+      some = λ some. c.split_front.ensures.some (omega (arith, within, some));
+      any = λ _ some. c.split_front.ensures.some (omega (arith, (rw (← joined) at some)));
+      rest = rw (← joined) (drop-first left front more (omega arith) ∙ c.loop-left.invariant.rest);
     }

@@ -3,10 +3,10 @@ use Rattle.media_store.proofs.unwritten.skipped.Given as goal
 
 abbrev pub invariant-loop-left : goal.invariant-loop-left
 invariant-loop-left l = record {
-  within : l.left ≤ length (l.front ++ l.behind);
+  within : l.left ≤ length (l.front ++ l.more);
   some : 0 < l.left → 0 < length l.front;
-  any : 0 < length l.bytes → l.left < length (l.front ++ l.behind) → 0 < length l.front;
-  rest : drop l.left (l.front ++ l.behind) ≡ drop l.n (l.bytes ++ l.initial.behind);
+  any : 0 < length l.bytes → l.left < length (l.front ++ l.more) → 0 < length l.front;
+  rest : drop l.left (l.front ++ l.more) ≡ drop l.n (l.bytes ++ l.initial.more);
 }
 
 abbrev pub decreases-loop-left : goal.decreases-loop-left
