@@ -46,6 +46,9 @@ COMMANDS = [
     Command(11, 3001 * 512, b"\x66" * 256 + b"\x77" * 256),
 ]
 MISCOMPARED = 5  # the part whose command finds a difference
+# Bytes that a call on the disk moves at most. The parts of the long WRITE, of which one call writes four, have 8192, 57344,
+# then 262144 bytes.
+MOVED = [97, 4096, 8191, 8192, 8193, 65535, 65536, 65537, 327679, 327681, 600000]
 READ_ERROR, WRITE_ERROR, NOT_READY = ((3, 0x1100), (3, 0x0C00), (4, 0x4400))
 
 
@@ -170,6 +173,8 @@ class Writes:
 SWEEPS = [
     ("each allocation fails", lambda w: w.each(check_starved, call="allocation", error=errno.ENOMEM)),
     ("each call on the disk fails", lambda w: w.each(check_store, call="store", error=errno.EIO)),
+    ("each call on the disk is interrupted", lambda w: w.each(check_unchanged, call="store", error=errno.EINTR)),
+    ("calls on the disk move pieces of each size", lambda w: w.whole(MOVED, "store")),
     ("each read of a connection fails", lambda w: w.each(check_broken, call="receive", error=errno.ECONNRESET)),
     ("each write to a connection fails", lambda w: w.each(check_broken, call="send", error=errno.EPIPE)),
     ("each read of a connection is interrupted", lambda w: w.each(check_unchanged, call="receive", error=errno.EINTR)),
