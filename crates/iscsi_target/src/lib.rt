@@ -11,7 +11,7 @@
 //!                  └──────────────────────────────────────────────────┘
 //! ```
 //!
-//! One connection from its opening to its end. These lines are proved, as those of `src/example.rt`:
+//! One connection from its opening to its end. These lines are proved, as those of `example.rt` in `two_initiators`:
 //!
 //! ```rust
 //! // A failed allocation closes one connection; the others go on.
@@ -40,7 +40,6 @@
 
 mod config;
 mod event;
-mod example;
 mod history;
 mod incoming;
 pub mod laws;

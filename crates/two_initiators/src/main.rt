@@ -12,6 +12,8 @@
 //! at the answers to the other initiator. If the program itself is out of memory, it ends with status 3.
 #![tactic(auto)]
 
+mod example;
+
 use hex::FromHexError;
 use iscsi_target::{Config, Memory, Serial, Starved, Target, Unit, Units};
 use media_block::{BLOCK_LENGTH, Disk};

@@ -1,11 +1,10 @@
-//! The example of the crate's page. Nothing calls it: it is here to be proved.
+//! The example of the page of `iscsi_target`. Nothing calls it: it is here to be proved.
 
 ghost use Rattle.std.specs.Prelude.{◌≡◌, ◌<◌, false, OnOk};
 ghost use Rattle.iscsi_world.specs.Machine.{is_open_at};
 
-use crate::target::Target;
+use iscsi_target::{Memory, Target};
 use media_store::Store;
-use target_limits::Memory;
 
 /// Opens a connection under a free number, feeds what arrived on it, writes a front of the answer, and ends it.
 fn answer<S: Store>(
