@@ -1,0 +1,12 @@
+use Rattle.std.proofs.Common.{arith}
+use Rattle.std.proofs.lemmas.Grind.{common_steps}
+use Rattle.data_parts.proofs.parts.push_piece.Goals as goal
+
+pub returns : goal.returns
+returns = grind (arith, common_steps)
+
+pub returns-then-is_empty : goal.returns-then-is_empty
+returns-then-is_empty = grind (arith, common_steps)
+
+pub returns-then-joins : goal.returns-then-joins
+returns-then-joins = grind (arith, common_steps)
