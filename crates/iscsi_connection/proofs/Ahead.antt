@@ -6,7 +6,7 @@ use Rattle.std.specs.Prelude.{nat_lt}
 use Rattle.iscsi_pdu.specs.Header.{header_length, data_length, additional_length, opcode_number}
 use Rattle.iscsi_pdu.specs.Segment.{most_data, padded}
 use Rattle.iscsi_pdu.specs.Parts.{is_data_out}
-use Rattle.iscsi_pdu.specs.Frames.{Frame, rest, has_frame, first_frame, frame_length, missing, wanted}
+use Rattle.iscsi_pdu.specs.Frames.{Frame, has_frame, first_frame, frame_length, missing, wanted}
 use Rattle.iscsi_pdu.proofs.Frames.{has_frame-true, drop_shorter, frames_taken, rest_taken}
 use Rattle.iscsi_pdu.proofs.Cuts.{has_frame-append, first_frame-append, behind-append, frame_length-append, data_length-append, data_length-take}
 use Rattle.iscsi_pdu.proofs.Fields.{fields, not_long}
