@@ -3,6 +3,7 @@ use Rattle.iscsi_pdu.specs.Parts.{HoldsOne}
 use Rattle.iscsi_pdu.proofs.Fields.{fields}
 use Rattle.iscsi_framer.proofs.Taking.{Begun, Counted, forgotten, lends, lends_one, lends_nothing, lends_nothing_one, ends}
 use Rattle.iscsi_pdu.proofs.DataOuts.{one_nothing}
+use Rattle.std.proofs.lemmas.Grind.{common_steps}
 use Rattle.iscsi_framer.proofs.framer.Framer.lend.Goals as goal
 
 pub forget-requires : goal.forget-requires
@@ -95,3 +96,12 @@ pub returns-clause-one : goal.returns-clause-one
 returns-clause-one c =
     let none = ap (λ (x : List ℕ). x ++ c.clear-2.new.self) c.clear.ensures ∙ c.clear-2.ensures in
     subst HoldsOne (sym none) one_nothing
+
+pub invariant_of-self : goal.invariant_of-self
+invariant_of-self = grind (arith, common_steps)
+
+pub invariant_of-self-2 : goal.invariant_of-self-2
+invariant_of-self-2 = grind (arith, common_steps)
+
+pub invariant_of-self-then-had-used : goal.invariant_of-self-then-had-used
+invariant_of-self-then-had-used = grind (arith, common_steps)
