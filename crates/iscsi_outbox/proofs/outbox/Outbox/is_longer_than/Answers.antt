@@ -1,0 +1,9 @@
+use Rattle.std.proofs.Common.{arith}
+use Rattle.std.proofs.lemmas.Grind.{common_steps}
+use Rattle.iscsi_outbox.proofs.outbox.Outbox.is_longer_than.Goals as goal
+
+pub returns : goal.returns
+returns = grind (arith, common_steps)
+
+pub returns-in_default : goal.returns-in_default
+returns-in_default = grind (arith, common_steps)
