@@ -1,5 +1,6 @@
 use Rattle.std.proofs.Common.{◌≡◌, ◌∷◌, ◌++◌, ◌∙◌, [], ap, replicate, None, arith}
 use Rattle.std.proofs.lemmas.List.{replicate_more}
+use Rattle.std.proofs.lemmas.Grind.{common_steps}
 use Rattle.iscsi_ports.proofs.places.free_places.Goals as goal
 
 pub loop-preserved : goal.loop-preserved
@@ -16,3 +17,12 @@ returns-clause-free g c =
 
 pub loop-init : goal.loop-init
 loop-init g c = c.in_ok-places.ensures.items
+
+pub returns-in_err-places : goal.returns-in_err-places
+returns-in_err-places = grind (arith, common_steps)
+
+pub returns-in_err-push : goal.returns-in_err-push
+returns-in_err-push = grind (arith, common_steps)
+
+pub returns-clause-count : goal.returns-clause-count
+returns-clause-count = grind (arith, common_steps)

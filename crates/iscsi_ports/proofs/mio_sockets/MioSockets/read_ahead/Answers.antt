@@ -5,6 +5,7 @@ use Rattle.iscsi_ports.specs.Log.{Read}
 use Rattle.iscsi_ports.specs.Calls.{log_by, read_carried}
 use Rattle.iscsi_ports.specs.Readiness.{after_taking}
 use Rattle.iscsi_ports.proofs.Accounts.{accounted_reading}
+use Rattle.std.proofs.lemmas.Grind.{common_steps}
 use Rattle.iscsi_ports.proofs.mio_sockets.MioSockets.read_ahead.Goals as goal
 
 pub invariant_of-self-2-clause-accounted : goal.invariant_of-self-2-clause-accounted
@@ -59,3 +60,15 @@ returns-clause-readiness c =
     omega (arith, c.hand-handed.ensures.count, c.of-ahead.ensures.count, ap length place_is, length-drop handed c.of-ahead.result) in
     (rw c.in-Ok.is at c.took.ensures)
     ∙ ap (λ count. after_taking c.args.c (Ok count) 65584 c.args.readiness.now) all
+
+pub returns-in-Err : goal.returns-in-Err
+returns-in-Err = grind (arith, common_steps)
+
+pub invariant_of-self-clause-ahead_places : goal.invariant_of-self-clause-ahead_places
+invariant_of-self-clause-ahead_places = grind (arith, common_steps)
+
+pub returns-clause-count : goal.returns-clause-count
+returns-clause-count = grind (arith, common_steps)
+
+pub returns-clause-unasked : goal.returns-clause-unasked
+returns-clause-unasked = grind (arith, common_steps)
