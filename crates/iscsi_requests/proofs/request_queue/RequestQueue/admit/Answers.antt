@@ -1,6 +1,7 @@
-use Rattle.std.proofs.Common.{◌≡◌, Some, ◌∙◌, refl}
+use Rattle.std.proofs.Common.{◌≡◌, Some, ◌∙◌, refl, arith}
 use Rattle.slab.specs.Slab.{get}
 use Rattle.iscsi_requests.proofs.Lines.{requests_at-push, SameLines-other}
+use Rattle.std.proofs.lemmas.Grind.{common_steps}
 use Rattle.iscsi_requests.proofs.request_queue.RequestQueue.admit.Goals as goal
 
 pub returns-clause-ok : goal.returns-clause-ok
@@ -18,3 +19,21 @@ returns-clause-ok c =
       same.same_queue,
       ← c.self.view_is,
     ) refl
+
+pub invariant_of-self : goal.invariant_of-self
+invariant_of-self = grind (arith, common_steps)
+
+pub invariant_of-self-2 : goal.invariant_of-self-2
+invariant_of-self-2 = grind (arith, common_steps)
+
+pub invariant_of-self-in_err-key : goal.invariant_of-self-in_err-key
+invariant_of-self-in_err-key = grind (arith, common_steps)
+
+pub returns-in_err-key : goal.returns-in_err-key
+returns-in_err-key = grind (arith, common_steps)
+
+pub returns-in_err-reserve : goal.returns-in_err-reserve
+returns-in_err-reserve = grind (arith, common_steps)
+
+pub returns-clause-err : goal.returns-clause-err
+returns-clause-err = grind (arith, common_steps)

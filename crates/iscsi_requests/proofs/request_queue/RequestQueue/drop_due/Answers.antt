@@ -1,6 +1,7 @@
 use Rattle.std.proofs.Common.{◌<◌, ◌+◌, length, arith}
 use Rattle.iscsi_requests.specs.RequestQueue.{times, keys_in}
 use Rattle.iscsi_requests.proofs.Lines.{first_out, once-remove}
+use Rattle.std.proofs.lemmas.Grind.{common_steps}
 use Rattle.iscsi_requests.proofs.request_queue.RequestQueue.drop_due.Goals as goal
 
 pub invariant_of-self : goal.invariant_of-self
@@ -17,3 +18,6 @@ invariant_of-self c =
 
 pub returns : goal.returns
 returns c = grind (arith, first_out)
+
+pub returns-then-is_empty : goal.returns-then-is_empty
+returns-then-is_empty = grind (arith, common_steps)

@@ -1,4 +1,4 @@
-use Rattle.std.proofs.Common.{◌≡◌, ℕ, List, drop, remove, refl, sym, ap, subst, ◌∙◌}
+use Rattle.std.proofs.Common.{◌≡◌, ℕ, List, drop, remove, refl, sym, ap, subst, ◌∙◌, arith}
 use Rattle.iscsi_order.specs.WindowState.{WindowKeys, with_key}
 use Rattle.iscsi_order.specs.WindowState as windows
 use Rattle.iscsi_requests.specs.Functions.{plug}
@@ -6,6 +6,7 @@ use Rattle.iscsi_requests.specs.State.{TaskLists, holding, takes_all, one_fewer,
 use Rattle.iscsi_requests.specs.RequestQueue.{lists_of, keys_in, AreLines, moves_all, requests_at}
 use Rattle.iscsi_requests.proofs.Heads.{same_head, same_tail}
 use Rattle.iscsi_requests.proofs.Lines.{Replaced, counted_out, replaced, marked_known}
+use Rattle.std.proofs.lemmas.Grind.{common_steps}
 use Rattle.iscsi_requests.proofs.request_queue.RequestQueue.plug_behind_first.Goals as goal
 use Rattle.iscsi_requests.proofs.request_queue.RequestQueue.plug_behind_first.Goals.{After-drop-frame-inside}
 
@@ -47,3 +48,12 @@ returns-clause-numbers c past frame others is s =
     c.numbers-numbers.ensures past
     (subst (λ (w : WindowKeys). windows.Stands past (windows.marked w)) (sym counted) (marked_known c.remove-frame.result c.remove-frame.new.self
     c.self.inside.window (remove c.self.inside.due.items 0) c.self.inside.queue.items r.once known))
+
+pub invariant_of-self : goal.invariant_of-self
+invariant_of-self = grind (arith, common_steps)
+
+pub returns-in_err-reserve : goal.returns-in_err-reserve
+returns-in_err-reserve = grind (arith, common_steps)
+
+pub returns-clause-err : goal.returns-clause-err
+returns-clause-err = grind (arith, common_steps)

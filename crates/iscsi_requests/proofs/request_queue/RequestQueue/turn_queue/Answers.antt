@@ -5,6 +5,7 @@ use Rattle.iscsi_requests.specs.RequestQueue.{times, keys_in, requests_at, lists
 use Rattle.iscsi_requests.proofs.Heads.{same_head}
 use Rattle.iscsi_requests.proofs.Voiding.{turned}
 use Rattle.iscsi_requests.proofs.Lines.{found_at, requests_at-remove_first, requests_at-push}
+use Rattle.std.proofs.lemmas.Grind.{common_steps}
 use Rattle.iscsi_requests.proofs.request_queue.RequestQueue.turn_queue.Goals as goal
 
 pub returns-else-has_frame : goal.returns-else-has_frame
@@ -30,3 +31,12 @@ returns-else-has_frame c frame others is =
       tail,
       ← c.self.view_is,
     ) (sym (turned c.args.reach.now frame others (lists_of requests c.self.inside.window due queue) stays))
+
+pub invariant_of-self : goal.invariant_of-self
+invariant_of-self = grind (arith, common_steps)
+
+pub returns-in_default : goal.returns-in_default
+returns-in_default = grind (arith, common_steps)
+
+pub returns-then-has_frame : goal.returns-then-has_frame
+returns-then-has_frame = grind (arith, common_steps)
