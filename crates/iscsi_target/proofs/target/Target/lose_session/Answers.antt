@@ -1,8 +1,9 @@
-use Rattle.std.proofs.Common.{length, ap}
+use Rattle.std.proofs.Common.{length, ap, arith}
 use Rattle.std.proofs.lemmas.List.{length-set}
 use Rattle.iscsi_world.specs.SessionCalls.{LosesInSession}
 use Rattle.iscsi_world.specs.Machine.{Machine}
 use Rattle.iscsi_world.proofs.Lending.{lent_was, lent_is, units_were, units_are, lent_holds, lent_so}
+use Rattle.std.proofs.lemmas.Grind.{common_steps}
 use Rattle.iscsi_target.proofs.target.Target.lose_session.Goals as goal
 
 pub invariant_of-self : goal.invariant_of-self
@@ -24,3 +25,9 @@ returns-clause-calls g c =
     (units_were all machine c.args.target _ _ c.requires.target units c.index_mut-units.ensures.value)
     (units_are all machine c.args.target c.lose.new.units c.requires.target units)
     c.lose.ensures.calls
+
+pub returns-clause-changes : goal.returns-clause-changes
+returns-clause-changes = grind (arith, common_steps)
+
+pub returns-clause-count : goal.returns-clause-count
+returns-clause-count = grind (arith, common_steps)
