@@ -10,3 +10,6 @@ returns-clause-few c =
 
 pub returns-clause-value : goal.returns-clause-value
 returns-clause-value c = grind (arith, common_steps)
+
+pub returns-then-not-lacks_data : goal.returns-then-not-lacks_data
+returns-then-not-lacks_data = grind (arith, common_steps)
