@@ -1,6 +1,7 @@
 use Rattle.std.proofs.Common.{◌+◌, length, arith, ◌∙◌, ◌≤◌}
 use Rattle.std.proofs.lemmas.List.{length-append}
 use Rattle.media_store.proofs.BySlice.{drop-first}
+use Rattle.std.proofs.lemmas.Grind.{common_steps}
 use Rattle.media_store.proofs.unwritten.skipped.Goals as goal
 
 pub loop-left-preserved : goal.loop-left-preserved
@@ -16,3 +17,6 @@ loop-left-preserved c =
       any = λ _ some. c.split_front.ensures.some (omega (arith, (rw (← joined) at some)));
       rest = rw (← joined) (drop-first left front more (omega arith) ∙ c.loop-left.invariant.rest);
     }
+
+pub returns : goal.returns
+returns = grind (arith, common_steps)
