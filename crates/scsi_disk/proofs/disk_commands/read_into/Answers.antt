@@ -1,6 +1,7 @@
 use Rattle.std.proofs.Common.{◌≡◌, ◌-◌, ◌*◌, min, ap, ◌∙◌, arith}
 use Rattle.media_block.specs.Blocks.{DiskState}
 use Rattle.scsi_disk.proofs.Pieces.{still_same, read_more, all_long}
+use Rattle.std.proofs.lemmas.Grind.{common_steps}
 use Rattle.scsi_disk.proofs.disk_commands.read_into.Goals as goal
 
 pub loop-number-preserved : goal.loop-number-preserved
@@ -29,3 +30,21 @@ returns-clause-length g c =
     let last : c.loop-number.number ≡ c.args.pieces = omega arith in
     all_long c.args.piece c.args.range.count c.args.pieces c.args.range.first c.args.disk.now.blocks c.loop-number.disk.honest c.loop-number.buffer.items
     c.requires.some c.requires.piece c.requires.pieces (rw last at c.loop-number.invariant.begun)
+
+pub returns-in_err-read_piece : goal.returns-in_err-read_piece
+returns-in_err-read_piece = grind (arith, common_steps)
+
+pub returns-clause-back : goal.returns-clause-back
+returns-clause-back = grind (arith, common_steps)
+
+pub returns-clause-disk : goal.returns-clause-disk
+returns-clause-disk = grind (arith, common_steps)
+
+pub returns-clause-laid : goal.returns-clause-laid
+returns-clause-laid = grind (arith, common_steps)
+
+pub returns-clause-read : goal.returns-clause-read
+returns-clause-read = grind (arith, common_steps)
+
+pub returns-clause-succeeds : goal.returns-clause-succeeds
+returns-clause-succeeds = grind (arith, common_steps)

@@ -3,6 +3,7 @@ use Rattle.std.proofs.lemmas.List.{length-map, map-append}
 use Rattle.std.specs.Vec.{vec_capacity}
 use Rattle.scsi_disk.specs.Buffers.{rooms}
 use Rattle.scsi_disk.proofs.Rooms.{taken_short, taken_long}
+use Rattle.std.proofs.lemmas.Grind.{common_steps}
 use Rattle.scsi_disk.proofs.buffers.Buffers.take.Goals as goal
 use Rattle.scsi_disk.proofs.buffers.Buffers.take.Goals.{then-is_from_short+in_ok-pop, else-is_from_short+in_ok-buffer}
 
@@ -27,3 +28,21 @@ returns-clause-taken c =
           (rw (all_short, all_long) (sym c.is_from_short.ensures ∙ w.if-is_from_short.false))
           w.in_ok-buffer.ensures.taken w.in_ok-buffer.ensures.places)
     ]
+
+pub invariant_of-self : goal.invariant_of-self
+invariant_of-self = grind (arith, common_steps)
+
+pub invariant_of-self-2 : goal.invariant_of-self-2
+invariant_of-self-2 = grind (arith, common_steps)
+
+pub invariant_of-self-in_err-buffer : goal.invariant_of-self-in_err-buffer
+invariant_of-self-in_err-buffer = grind (arith, common_steps)
+
+pub returns-in_err-buffer : goal.returns-in_err-buffer
+returns-in_err-buffer = grind (arith, common_steps)
+
+pub returns-in_err-pop : goal.returns-in_err-pop
+returns-in_err-pop = grind (arith, common_steps)
+
+pub returns-clause-none : goal.returns-clause-none
+returns-clause-none = grind (arith, common_steps)
