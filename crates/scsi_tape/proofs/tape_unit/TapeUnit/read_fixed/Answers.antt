@@ -5,6 +5,7 @@ use Rattle.media_tape.specs.Fixed.{fixed_data}
 use Rattle.scsi_tape.specs.State.{TapeUnitState}
 use Rattle.scsi_tape.proofs.FixedReadDone.{none_read, blocks_read, read_blocks_failed}
 use Rattle.scsi_tape.proofs.tape_unit.TapeUnit.read_fixed.Goals.{in-Ok, in-Err}
+use Rattle.std.proofs.lemmas.Grind.{common_steps}
 use Rattle.scsi_tape.proofs.tape_unit.TapeUnit.read_fixed.Goals as goal
 
 pub told_of_blocks-requires-clause-few : goal.told_of_blocks-requires-clause-few
@@ -50,3 +51,21 @@ returns-clause-done g c =
           (λ steady honest. false≢true (failed.succeeds steady honest).0)
           (λ none. false≢true (failed.unread none).0))
     ])
+
+pub returns-in_err-done : goal.returns-in_err-done
+returns-in_err-done = grind (arith, common_steps)
+
+pub returns-in_err-extend_from_slice : goal.returns-in_err-extend_from_slice
+returns-in_err-extend_from_slice = grind (arith, common_steps)
+
+pub returns-clause-err : goal.returns-clause-err
+returns-clause-err = grind (arith, common_steps)
+
+pub returns-clause-given : goal.returns-clause-given
+returns-clause-given = grind (arith, common_steps)
+
+pub returns-then-count-eq0-clause-err : goal.returns-then-count-eq0-clause-err
+returns-then-count-eq0-clause-err = grind (arith, common_steps)
+
+pub returns-then-count-eq0-clause-given : goal.returns-then-count-eq0-clause-given
+returns-then-count-eq0-clause-given = grind (arith, common_steps)
