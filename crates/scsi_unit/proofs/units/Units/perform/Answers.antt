@@ -1,6 +1,6 @@
 use Rattle.scsi_unit.proofs.Results.{on_err_any}
 use Rattle.scsi_unit.proofs.Found.{none_answered, none_performed}
-use Rattle.std.proofs.Common.{◌≡◌, ℕ, ◌<◌, ◌∙◌, subst, set, true, false, length, refl, ap, sym}
+use Rattle.std.proofs.Common.{◌≡◌, ℕ, ◌<◌, ◌∙◌, subst, set, true, false, length, refl, ap, sym, arith}
 use Rattle.std.proofs.lemmas.Result.{IfOk-weaker, on_err_weaker}
 use Rattle.std.proofs.lemmas.List.{length-set, set-get_or}
 use Rattle.scsi_unit.specs.Identity.{is_for_target, is_row_of_target}
@@ -10,6 +10,7 @@ use Rattle.scsi_unit.specs.State.{UnitState}
 use Rattle.scsi_unit.proofs.Numbers.{numbers_set, result_same}
 use Rattle.scsi_unit.proofs.Found.{place_found, luns_answered, unit_answered}
 use Rattle.scsi_unit.proofs.Sound.{none_came, answered_came, answered_exact, answered_sound, answered_back, answered_sure}
+use Rattle.std.proofs.lemmas.Grind.{common_steps}
 use Rattle.scsi_unit.proofs.units.Units.perform.Goals as goal
 
 -- ---- REPORT LUNS
@@ -155,3 +156,12 @@ returns-in_default-clause-sure g c = λ sure. sure
 
 pub returns-in_default-clause-err : goal.returns-in_default-clause-err
 returns-in_default-clause-err g c = on_err_any c.without_unit.result refl
+
+pub returns-clause-given : goal.returns-clause-given
+returns-clause-given = grind (arith, common_steps)
+
+pub returns-in_default-clause-given : goal.returns-in_default-clause-given
+returns-in_default-clause-given = grind (arith, common_steps)
+
+pub returns-then-is_for_target-clause-given : goal.returns-then-is_for_target-clause-given
+returns-then-is_for_target-clause-given = grind (arith, common_steps)

@@ -1,8 +1,9 @@
 use Rattle.std.proofs.lemmas.Option.{IfSome_then}
-use Rattle.std.proofs.Common.{◌≡◌, ℕ, ◌<◌, length, subst, ◌==◌, ◌∙◌, Some, ap, rules, tests, sym}
+use Rattle.std.proofs.Common.{◌≡◌, ℕ, ◌<◌, length, subst, ◌==◌, ◌∙◌, Some, ap, rules, tests, sym, arith}
 use Rattle.std.proofs.lemmas.Iterator.{YieldsList-from_slice}
 use Rattle.std.proofs.lemmas.Iterator.Search.{position_from_yields_List}
 use Rattle.scsi_unit.specs.Lun.{lun_number}
+use Rattle.std.proofs.lemmas.Grind.{common_steps}
 use Rattle.scsi_unit.proofs.units.Units.position.Goals as goal
 
 pub returns-clause-value : goal.returns-clause-value
@@ -17,3 +18,6 @@ pub returns-clause-bound : goal.returns-clause-bound
 returns-clause-bound g c =
     IfSome_then c.position.result c.position.ensures.bound
     (λ at below. subst (λ (n : ℕ). at < n) (c.iter.ensures.len ∙ ap length (c.deref.ensures.value ∙ c.self.view_is)) below)
+
+pub returns-in_err-named : goal.returns-in_err-named
+returns-in_err-named = grind (arith, common_steps)
