@@ -3,6 +3,7 @@ use Rattle.std.specs.Prelude.{replicate}
 use Rattle.tape_index.specs.Runs.{no_run, sizes_of}
 use Rattle.tape_index.specs.declared.run.Run.{Run}
 use Rattle.tape_index.proofs.Runs.{AreThose, grown, grown_last}
+use Rattle.std.proofs.lemmas.Grind.{common_steps}
 use Rattle.tape_index.proofs.index.Index.push_reserved.Goals as goal
 use Rattle.tape_index.proofs.index.Index.push_reserved.Goals.{then-last-size, else-last-size}
 
@@ -28,3 +29,9 @@ invariant_of-self c = (is_grown c).are
 
 pub returns-clause-sizes : goal.returns-clause-sizes
 returns-clause-sizes c = rw (← c.self.view_is) (is_grown c).sizes_are
+
+pub returns-clause-joined : goal.returns-clause-joined
+returns-clause-joined = grind (arith, common_steps)
+
+pub returns-clause-room : goal.returns-clause-room
+returns-clause-room = grind (arith, common_steps)
