@@ -1,14 +1,26 @@
-use Rattle.std.proofs.Common.{◌≡◌, List, [], map, refl, sym, ap, subst, ◌∙◌}
-use Rattle.std.specs.Prelude.{Contains, string_bytes}
+use Rattle.std.proofs.Common.{◌≡◌, List, [], map, refl, sym, ap, subst, ◌∙◌, rules, map-id}
+use Rattle.std.proofs.lemmas.Iterator.Adapters.{YieldsList-from_vec}
+use Rattle.std.proofs.lemmas.Iterator.Consumers.{YieldsList-end}
+use Rattle.std.proofs.lemmas.Result.{IfOk-from_err}
+use Rattle.std.specs.Prelude.{Contains, string_bytes, Result, Ok, Err, IfErr, IsErrAnd}
 use Rattle.std.specs.List.{list_all}
 use Rattle.std.specs.Vec.Iter.{into_iter_items}
 use Rattle.scsi_unit.specs.Units.{UnitStates}
-use Rattle.target_config.specs.Configuration.{target_view, targets_view, configuration_view}
+use Rattle.target_config.specs.Configuration.{TargetEntry, names_of, target_view, targets_view, configuration_view}
 use Rattle.target_config.specs.Limits.{target_keeps}
-use Rattle.target_units.specs.Opened.{IsTargetOf, AreUnitsOf}
-use Rattle.target_units.specs.Unopened.{IsFaultIn}
+use Rattle.target_units.specs.Opened.{Held, IsTargetOf, AreUnitsOf}
+use Rattle.target_units.specs.Refusal.{Refusal}
+use Rattle.target_units.specs.Unopened.{IsFaultIn, IsUnopened}
+use Rattle.target_units.specs.declared.fault.OpenFault.{OpenFault}
+use Rattle.target_units.specs.declared.fault.OpenFault.TheVariants as faults
 use Rattle.target_units.proofs.OpenedUnits.{each_view_more, all_kept, targets_next, target_kept, target_now, names_next}
 use Rattle.target_units.proofs.opening.open.Goals as goal
+
+-- a call that fails since an allocation failed
+out_of_memory : {T : Type 0} (held : Held) (targets : List TargetEntry) (refused : Refusal) (result : Result T OpenFault)
+    → IsErrAnd result (λ why. why ≡ faults.Memory) → IfErr result (IsUnopened held targets refused)
+out_of_memory held targets refused (Ok value) why = tt
+out_of_memory held targets refused (Err seen) why = subst (IsUnopened held targets refused) (sym why) tt
 
 pub loop-target-init : goal.loop-target-init
 loop-target-init g c =
@@ -46,3 +58,39 @@ returns-in-Err-Device-clause-fault g c = (
   refl,
   subst (IsFaultIn g.S.Start.held _ _) c.in-Err-Device.field-0-is c.in-Err-Device.ensures.fault,
 )
+
+pub returns-in-Err-Memory : goal.returns-in-Err-Memory
+returns-in-Err-Memory g c = record { listen = tt; log = tt; names = tt; units = tt; fault = tt }
+
+pub returns-in_err-push : goal.returns-in_err-push
+returns-in_err-push g c = record {
+  listen = IfOk-from_err c.from_residual-in_err-push.result _ c.from_residual-in_err-push.ensures.0;
+  log = IfOk-from_err c.from_residual-in_err-push.result _ c.from_residual-in_err-push.ensures.0;
+  names = IfOk-from_err c.from_residual-in_err-push.result _ c.from_residual-in_err-push.ensures.0;
+  units = IfOk-from_err c.from_residual-in_err-push.result _ c.from_residual-in_err-push.ensures.0;
+  fault = out_of_memory g.S.Start.held (targets_view c.args.configuration.targets.items) _ c.from_residual-in_err-push.result
+      c.from_residual-in_err-push.ensures.1;
+}
+
+pub returns-in_err-push-in-Ok : goal.returns-in_err-push-in-Ok
+returns-in_err-push-in-Ok g c = record {
+  listen = IfOk-from_err c.from_residual.result _ c.from_residual.ensures.0;
+  log = IfOk-from_err c.from_residual.result _ c.from_residual.ensures.0;
+  names = IfOk-from_err c.from_residual.result _ c.from_residual.ensures.0;
+  units = IfOk-from_err c.from_residual.result _ c.from_residual.ensures.0;
+  fault = out_of_memory g.S.Start.held (targets_view c.args.configuration.targets.items) _ c.from_residual.result c.from_residual.ensures.1;
+}
+
+pub returns : goal.returns
+returns g c =
+    let given = c.into_iter-target-iterator.ensures.into_iter_gives in
+    let end = YieldsList-end (YieldsList-from_vec {s = c.into_iter-target-iterator.result} c.args.configuration.targets.items given.0 (search rules))
+    c.loop-target.yielded c.loop-target.target-iterator c.loop-target.yielded_by c.next.result c.next.new.self c.in-None.is c.next.ensures.steps in
+    let all = sym (map-id c.loop-target.yielded) ∙ end.0 in
+    record {
+      listen = refl;
+      log = refl;
+      names = c.loop-target.invariant.4 ∙ ap (λ targets. names_of (targets_view targets)) all;
+      units = subst (λ targets. AreUnitsOf g.S.Start.held (targets_view targets) c.loop-target.units.items) all c.loop-target.invariant.5;
+      fault = tt;
+    }
