@@ -1,4 +1,4 @@
-use Rattle.std.proofs.Common.{ap, refl, sym, ◌∙◌, arith}
+use Rattle.std.proofs.Common.{ap, refl, sym, ◌∙◌}
 use Rattle.iscsi_pdu.specs.Frames.{Frame}
 use Rattle.iscsi_pdu.specs.LoginRequest.{is_continued}
 use Rattle.iscsi_login.specs.Lookup.{lookup_in}
@@ -8,7 +8,6 @@ use Rattle.iscsi_login.proofs.After.{after_piece, after_kept, after_heard}
 use Rattle.iscsi_login.specs.Rules.{pairs_with}
 use Rattle.iscsi_login.proofs.Ranges.{range_kept, range_heard, heard_values}
 use Rattle.iscsi_login.proofs.Replying.{replies_refused, replies_piece, replies_kept, replies_heard, replies_refused_text}
-use Rattle.std.proofs.lemmas.Grind.{common_steps}
 use Rattle.iscsi_login.proofs.login.Login.take.Goals as goal
 
 pub returns-then-is_due-clause-after : goal.returns-then-is_due-clause-after
@@ -82,54 +81,3 @@ returns-in-Err-Refused-clause-reply c =
     (sym c.refusal_of_request.ensures ∙ c.in_default.is) (sym c.is_due.ensures ∙ c.if-is_due.false)
     (ap (λ (frame : Frame). is_continued frame.header) (sym c.request.view_is) ∙ sym c.is_continued.ensures ∙ c.if-is_continued.false)
     (rw c.in-Err-Refused.field-0-is at c.in-Err-Refused.ensures.refused)
-
-pub returns-in-Err-Memory : goal.returns-in-Err-Memory
-returns-in-Err-Memory = grind (arith, common_steps)
-
-pub returns-in_err-keep : goal.returns-in_err-keep
-returns-in_err-keep = grind (arith, common_steps)
-
-pub returns-in_err-piece : goal.returns-in_err-piece
-returns-in_err-piece = grind (arith, common_steps)
-
-pub returns-in-Err-Refused-clause-after : goal.returns-in-Err-Refused-clause-after
-returns-in-Err-Refused-clause-after = grind (arith, common_steps)
-
-pub returns-in-Err-Refused-clause-err : goal.returns-in-Err-Refused-clause-err
-returns-in-Err-Refused-clause-err = grind (arith, common_steps)
-
-pub returns-in-Err-Refused-clause-target : goal.returns-in-Err-Refused-clause-target
-returns-in-Err-Refused-clause-target = grind (arith, common_steps)
-
-pub returns-in-Err-Refused-clause-values : goal.returns-in-Err-Refused-clause-values
-returns-in-Err-Refused-clause-values = grind (arith, common_steps)
-
-pub returns-in-Ok-clause-err : goal.returns-in-Ok-clause-err
-returns-in-Ok-clause-err = grind (arith, common_steps)
-
-pub returns-in-Ok-clause-target : goal.returns-in-Ok-clause-target
-returns-in-Ok-clause-target = grind (arith, common_steps)
-
-pub returns-in-Some-clause-after : goal.returns-in-Some-clause-after
-returns-in-Some-clause-after = grind (arith, common_steps)
-
-pub returns-in-Some-clause-err : goal.returns-in-Some-clause-err
-returns-in-Some-clause-err = grind (arith, common_steps)
-
-pub returns-in-Some-clause-target : goal.returns-in-Some-clause-target
-returns-in-Some-clause-target = grind (arith, common_steps)
-
-pub returns-in-Some-clause-values : goal.returns-in-Some-clause-values
-returns-in-Some-clause-values = grind (arith, common_steps)
-
-pub returns-then-is_continued-clause-err : goal.returns-then-is_continued-clause-err
-returns-then-is_continued-clause-err = grind (arith, common_steps)
-
-pub returns-then-is_continued-clause-target : goal.returns-then-is_continued-clause-target
-returns-then-is_continued-clause-target = grind (arith, common_steps)
-
-pub returns-then-is_due-clause-err : goal.returns-then-is_due-clause-err
-returns-then-is_due-clause-err = grind (arith, common_steps)
-
-pub returns-then-is_due-clause-target : goal.returns-then-is_due-clause-target
-returns-then-is_due-clause-target = grind (arith, common_steps)

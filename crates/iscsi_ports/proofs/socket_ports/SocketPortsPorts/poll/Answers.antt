@@ -1,4 +1,4 @@
-use Rattle.std.proofs.Common.{◌≡◌, true, false, sym, ap, rules, ◌∙◌, arith}
+use Rattle.std.proofs.Common.{◌≡◌, true, false, sym, ap, rules, ◌∙◌}
 use Rattle.std.specs.Prelude.{option_map}
 use Rattle.std.specs.Duration.{as_nanos}
 use Rattle.std.proofs.lemmas.Bool.{false≢true}
@@ -7,7 +7,6 @@ use Rattle.iscsi_ports.specs.Calls.{named_by}
 use Rattle.iscsi_ports.specs.declared.readiness.Readiness.{Readiness}
 use Rattle.iscsi_ports.proofs.Seeing.{seen_turns}
 use Rattle.iscsi_ports.proofs.Fairness.{fair}
-use Rattle.std.proofs.lemmas.Grind.{common_steps}
 use Rattle.iscsi_ports.proofs.socket_ports.SocketPortsPorts.poll.Goals as goal
 
 pub returns-then-not-asks-clause-fair : goal.returns-then-not-asks-clause-fair
@@ -91,60 +90,3 @@ returns-in-Err-clause-known g c = λ rests.
     let asks : asks_now c.restart.new.self.has_passed c.args.self.now ≡ true =
     ap (λ passed. asks_now passed c.args.self.now) c.restart.ensures ∙ sym c.is_to_ask-asks.ensures.asks ∙ c.if-not-asks.false in
     absurd (false≢true (sym rests ∙ asks))
-
-pub returns-in-Err-clause-after_asking : goal.returns-in-Err-clause-after_asking
-returns-in-Err-clause-after_asking = grind (arith, common_steps)
-
-pub returns-in-Err-clause-fair : goal.returns-in-Err-clause-fair
-returns-in-Err-clause-fair = grind (arith, common_steps)
-
-pub returns-in-Err-clause-in_time : goal.returns-in-Err-clause-in_time
-returns-in-Err-clause-in_time = grind (arith, common_steps)
-
-pub returns-in-Err-clause-log : goal.returns-in-Err-clause-log
-returns-in-Err-clause-log = grind (arith, common_steps)
-
-pub returns-in-Err-clause-named : goal.returns-in-Err-clause-named
-returns-in-Err-clause-named = grind (arith, common_steps)
-
-pub returns-in-Err-clause-turn : goal.returns-in-Err-clause-turn
-returns-in-Err-clause-turn = grind (arith, common_steps)
-
-pub returns-in-Err-clause-unseen : goal.returns-in-Err-clause-unseen
-returns-in-Err-clause-unseen = grind (arith, common_steps)
-
-pub returns-in-Ok-clause-after_asking : goal.returns-in-Ok-clause-after_asking
-returns-in-Ok-clause-after_asking = grind (arith, common_steps)
-
-pub returns-in-Ok-clause-in_time : goal.returns-in-Ok-clause-in_time
-returns-in-Ok-clause-in_time = grind (arith, common_steps)
-
-pub returns-in-Ok-clause-log : goal.returns-in-Ok-clause-log
-returns-in-Ok-clause-log = grind (arith, common_steps)
-
-pub returns-in-Ok-clause-named : goal.returns-in-Ok-clause-named
-returns-in-Ok-clause-named = grind (arith, common_steps)
-
-pub returns-in-Ok-clause-turn : goal.returns-in-Ok-clause-turn
-returns-in-Ok-clause-turn = grind (arith, common_steps)
-
-pub returns-in-Ok-clause-unseen : goal.returns-in-Ok-clause-unseen
-returns-in-Ok-clause-unseen = grind (arith, common_steps)
-
-pub returns-then-not-asks-clause-after_naming : goal.returns-then-not-asks-clause-after_naming
-returns-then-not-asks-clause-after_naming = grind (arith, common_steps)
-
-pub returns-then-not-asks-clause-in_time : goal.returns-then-not-asks-clause-in_time
-returns-then-not-asks-clause-in_time = grind (arith, common_steps)
-
-pub returns-then-not-asks-clause-log : goal.returns-then-not-asks-clause-log
-returns-then-not-asks-clause-log = grind (arith, common_steps)
-
-pub returns-then-not-asks-clause-named : goal.returns-then-not-asks-clause-named
-returns-then-not-asks-clause-named = grind (arith, common_steps)
-
-pub returns-then-not-asks-clause-unasked : goal.returns-then-not-asks-clause-unasked
-returns-then-not-asks-clause-unasked = grind (arith, common_steps)
-
-pub returns-then-not-asks-clause-unseen : goal.returns-then-not-asks-clause-unseen
-returns-then-not-asks-clause-unseen = grind (arith, common_steps)

@@ -1,11 +1,10 @@
-use Rattle.std.proofs.Common.{ℕ, List, length, refl, ap, ◌∙◌, subst, arith}
+use Rattle.std.proofs.Common.{ℕ, List, length, refl, ap, ◌∙◌, subst}
 use Rattle.scsi_unit.specs.Units.{UnitStates, numbers_of}
 use Rattle.iscsi_world.specs.World.{units_at}
 use Rattle.iscsi_world.specs.Machine.{LinkState, Machine, link_at}
 use Rattle.iscsi_world.specs.SessionCalls.{ServesSession}
 use Rattle.iscsi_world.proofs.Lending.{lent_was, lent_is, lent_holds}
 use Rattle.iscsi_connection.specs.Arriving.{frame_of}
-use Rattle.std.proofs.lemmas.Grind.{common_steps}
 use Rattle.iscsi_target.proofs.target.Target.serve_session.Goals as goal
 
 pub invariant_of-self : goal.invariant_of-self
@@ -27,12 +26,3 @@ returns-clause-calls g c =
     (subst (λ (old : LinkState). Calls old c.serve.new.self c.luns_of-luns.result.now)
     (lent_was links c.args.self.now c.args.c _ _ c.self.invariant.0 c.requires.in_range c.at_mut-connection.ensures.value
     (ap (λ (m : Machine). m.links) c.self.view_is)) c.serve.ensures.calls))
-
-pub returns-clause-below : goal.returns-clause-below
-returns-clause-below = grind (arith, common_steps)
-
-pub returns-clause-changes : goal.returns-clause-changes
-returns-clause-changes = grind (arith, common_steps)
-
-pub returns-clause-count : goal.returns-clause-count
-returns-clause-count = grind (arith, common_steps)
