@@ -27,11 +27,10 @@ def check(crate):
     return ended.returncode == 0, ended.stdout
 
 
-def modules(crate, since=0):
-    """Yields each module that was kept since then (nanoseconds of the clock), and the seconds that it took."""
+def modules(crate):
+    """Yields each module, and the seconds that it took."""
     files = sorted((path.stat().st_mtime_ns, path.stem) for path in folder(crate).rglob("*.oantt"))
-    files = [(at, name) for at, name in files if at >= since]
-    before = files[0][0] if files else 0
+    before = files[0][0]
     for at, name in files:
         yield name, (at - before) / 1e9
         before = at
@@ -46,10 +45,10 @@ def place(name):
     return ".".join(parts), column
 
 
-def seconds(crate, since=0):
+def seconds(crate):
     """Returns the seconds of each function and file of lemmas, by column."""
     found = defaultdict(lambda: dict.fromkeys(COLUMNS, 0.0))
-    for name, took in modules(crate, since):
+    for name, took in modules(crate):
         owner, column = place(name)
         found[owner][column] += took
     return found
