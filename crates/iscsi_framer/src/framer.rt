@@ -3,6 +3,7 @@
 ghost use Rattle.std.specs.Prelude.{◌≡◌, ◌+◌, ◌<◌, ◌≤◌, ◌↔◌, ℕ, List, [], ◌∷◌, ◌++◌, length, take, drop, true, false, IsOk, IfOk, IfErr, IfSome, IfNone, OnOk, OnErr};
 ghost use Rattle.iscsi_pdu.specs.Parts.{is_data_out, HoldsOne, Takes};
 ghost use Rattle.std.specs.Result.{IsErrOf};
+ghost use Rattle.iscsi_framer.specs.Framer.{LendsSome};
 ghost use Rattle.iscsi_framer.specs.Passing.{IsPassing};
 
 use crate::byte_queue::ByteQueue;
@@ -219,6 +220,7 @@ impl Framer {
     pub fn take<'p>(&mut self, piece: &'p [u8]) -> Result<(usize, Part<'p>), PduFault>
         requires { HoldsOne self.old }
         ensures part { IfOk result (λ r. Takes self.old piece.now r.0 r.1 self.new) }
+        ensures some { IfOk result (λ r. LendsSome r.1) }
         ensures one { HoldsOne self.new }
         ensures too_long { IsErrOf result PduFault.TooLong ↔ (is_long (self.old ++ piece.now) ≡ true) }
         ensures long { IsErrOf result PduFault.TooLong → is_long self.new ≡ true }
@@ -242,6 +244,7 @@ impl Framer {
         requires within { is_long self.old ≡ false → length self.old ≤ frame_length self.old }
         requires first { length self.old < header_length → more.now ≡ [] }
         ensures part { IfOk result (λ r. Takes self.old more.now r.0 r.1 self.new) }
+        ensures some { IfOk result (λ r. LendsSome r.1) }
         ensures one { OnOk result (HoldsOne self.new) }
         ensures too_long { IsErrOf result PduFault.TooLong ↔ (is_long self.old ≡ true) }
         ensures err { OnErr result (self.new ≡ self.old) }
@@ -266,6 +269,7 @@ impl Framer {
         requires within { length self.old ≤ frame_length self.old }
         requires out { is_data_out self.old ≡ true }
         ensures part { Takes self.old more.now result.0 result.1 self.new }
+        ensures some { LendsSome result.1 }
         ensures one { HoldsOne self.new }
     {
         let had = self.len();
@@ -297,6 +301,7 @@ impl Framer {
         requires within { length self.old ≤ frame_length self.old }
         requires other { is_data_out self.old ≡ false }
         ensures part { IfOk result (λ r. Takes self.old more.now r.0 r.1 self.new) }
+        ensures some { IfOk result (λ r. LendsSome r.1) }
         ensures one { OnOk result (HoldsOne self.new) }
         ensures memory { IfErr result (λ fault. fault ≡ PduFault.Memory) }
         ensures err { OnErr result (self.new ≡ self.old) }

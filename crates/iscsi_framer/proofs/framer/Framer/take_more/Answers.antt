@@ -1,4 +1,4 @@
-use Rattle.std.proofs.Common.{true, false, refl, sym, ◌∙◌, arith}
+use Rattle.std.proofs.Common.{refl, sym, ◌∙◌, arith}
 use Rattle.std.proofs.lemmas.Bool.{false≢true}
 use Rattle.iscsi_pdu.proofs.Fields.{not_long}
 use Rattle.iscsi_framer.proofs.Fronts.{short_waits, short_one, out_by, is_longer, no_header_long, no_fault, only_memory}
