@@ -1,8 +1,10 @@
 //! Buffers in which data came, kept for reuse.
 
-ghost use Rattle.std.specs.Prelude.{◌≡◌, ◌<◌, ◌≤◌, ◌*◌, ◌↔◌, IsTrue, [], IfOk};
+ghost use Rattle.std.specs.Prelude.{◌≡◌, ◌<◌, ◌≤◌, ◌*◌, ◌++◌, ◌∷◌, ◌⊎◌, ℕ, [], true, false, nat_lt, is_some, vec_len, vec_capacity, IfOk, IfSome};
+ghost use Rattle.data_parts.specs.Spares.{no_spares, capacity_of, most_capacity, AreOfKind, suits, capacity_for, has_kept, without_one, MayKeep};
 
 use std::alloc::{AllocError, Global};
+use std::marker::Model;
 
 /// The length of a header, in bytes (RFC 7143 §11.2.1). A reader that fills a buffer with the data of a PDU can read the
 /// next header after it.
@@ -41,15 +43,33 @@ pub struct SpareBuffers {
     alloc: Global,
 }
 
+impl Model for SpareBuffers {
+    ghost use Rattle.std.specs.Prelude.{length};
+    ghost use Rattle.data_parts.specs.Spares.{Spares, AreOfKind, small_capacity, short_capacity, long_capacity, most_smalls, most_shorts, most_longs};
+
+    ghost Value = { Spares };
+
+    ghost view = { λ kept. record {
+      smalls = length kept.small.items;
+      shorts = length kept.short.items;
+      longs = length kept.long.items;
+      is_overfull = kept.is_overfull;
+    } };
+
+    ghost invariant = { λ kept. AreOfKind small_capacity most_smalls kept.small.items × AreOfKind short_capacity most_shorts kept.short.items
+        × AreOfKind long_capacity most_longs kept.long.items };
+}
+
 /// Returns whether a buffer of this capacity is taken for `room` bytes: it has the room, and less than twice as much.
 fn suits(capacity: usize, room: usize) -> bool
-    ensures { IsTrue result ↔ (room ≤ capacity) × (capacity < 2 * room) }
+    ensures { result ≡ suits capacity room }
 {
     room > capacity / 2 && room <= capacity
 }
 
 /// Returns the capacity of the buffer that is taken for `room` bytes.
 fn capacity_for(room: usize) -> usize
+    ensures capacity { result ≡ capacity_for room }
     ensures enough { room ≤ result }
     ensures less { 0 < room → result < 2 * room }
 {
@@ -65,8 +85,15 @@ fn capacity_for(room: usize) -> usize
     room
 }
 
-/// Keeps a buffer if fewer than `most` are kept, and frees it otherwise. Returns whether there was a place for it.
-fn put(kept: &mut Vec<Vec<u8>>, most: usize, buffer: Vec<u8>) -> bool {
+/// Keeps a buffer if fewer than `most` are kept, and frees it otherwise, or if an allocation fails. Returns whether there
+/// was a place for it.
+fn put(kept: &mut Vec<Vec<u8>>, most: usize, buffer: Vec<u8>) -> bool
+    ensures place { result ≡ nat_lt (vec_len kept.old) most }
+    ensures kept { result ≡ true → (kept.new.items ≡ kept.old.items ++ buffer ∷ []) ⊎ (kept.new.items ≡ kept.old.items) }
+    ensures full { result ≡ false → kept.new.items ≡ kept.old.items }
+    ensures kind { (capacity : ℕ) → AreOfKind capacity most kept.old.items → vec_capacity buffer ≡ capacity
+        → AreOfKind capacity most kept.new.items }
+{
     if kept.len() >= most {
         return false;
     }
@@ -76,7 +103,9 @@ fn put(kept: &mut Vec<Vec<u8>>, most: usize, buffer: Vec<u8>) -> bool {
 
 impl SpareBuffers {
     /// Creates an empty stock of buffers. Allocates no memory.
-    pub fn new(alloc: Global) -> SpareBuffers {
+    pub fn new(alloc: Global) -> SpareBuffers
+        ensures { result ≡ no_spares }
+    {
         SpareBuffers {
             small: Vec::new(alloc),
             short: Vec::new(alloc),
@@ -88,7 +117,9 @@ impl SpareBuffers {
 
     /// Returns an empty buffer with room for `room` bytes, and for less than twice as many.
     pub fn take(&mut self, room: usize) -> Result<Vec<u8>, AllocError>
-        ensures { IfOk result (λ buffer. buffer.items ≡ []) }
+        ensures empty { IfOk result (λ buffer. buffer.items ≡ []) }
+        ensures room { IfOk result (λ buffer. vec_capacity buffer ≡ capacity_for room) }
+        ensures taken { self.new ≡ without_one (capacity_for room) self.old }
     {
         let Some(mut used) = self.take_used(room) else {
             return Vec::with_capacity(self.alloc, capacity_for(room));
@@ -99,7 +130,11 @@ impl SpareBuffers {
 
     /// Returns a buffer that was kept, with room for `room` bytes, and for less than twice as many. In it stands what was
     /// left there, to be overwritten. Returns `None` if no such buffer is kept.
-    pub fn take_used(&mut self, room: usize) -> Option<Vec<u8>> {
+    pub fn take_used(&mut self, room: usize) -> Option<Vec<u8>>
+        ensures some { is_some result ≡ has_kept (capacity_for room) self.old }
+        ensures room { IfSome result (λ buffer. vec_capacity buffer ≡ capacity_for room) }
+        ensures taken { self.new ≡ without_one (capacity_for room) self.old }
+    {
         match capacity_for(room) {
             SMALL => self.small.pop(),
             SHORT => self.short.pop(),
@@ -109,7 +144,10 @@ impl SpareBuffers {
     }
 
     /// Keeps a buffer that [`SpareBuffers::take`] returned, with what is in it, if few like it are kept.
-    pub fn keep(&mut self, buffer: Vec<u8>) {
+    pub fn keep(&mut self, buffer: Vec<u8>)
+        ensures kept { MayKeep (vec_capacity buffer) self.old self.new }
+        ensures few { capacity_of self.new ≤ most_capacity }
+    {
         let is_placed = match buffer.capacity() {
             SMALL => put(&mut self.small, MOST_SMALL, buffer),
             SHORT => put(&mut self.short, MOST_SHORT, buffer),
@@ -122,12 +160,16 @@ impl SpareBuffers {
     }
 
     /// Returns whether more buffers were to be kept than there is place for, since the last [`SpareBuffers::trim`].
-    pub fn is_overfull(&self) -> bool {
+    pub fn is_overfull(&self) -> bool
+        ensures { result ≡ self.now.is_overfull }
+    {
         self.is_overfull
     }
 
     /// Frees all buffers that are kept.
-    pub fn trim(&mut self) {
+    pub fn trim(&mut self)
+        ensures { self.new ≡ no_spares }
+    {
         self.small = Vec::new(self.alloc);
         self.short = Vec::new(self.alloc);
         self.long = Vec::new(self.alloc);

@@ -1,5 +1,5 @@
 -- Buffers that are kept, and their rooms.
-use Rattle.std.proofs.Common.{◌≡◌, ℕ, ◌+◌, ◌<◌, ◌≤◌, List, [], ◌∷◌, ◌++◌, length, get_or, true, false}
+use Rattle.std.proofs.Common.{◌≡◌, ℕ, ◌+◌, ◌<◌, ◌≤◌, List, Bool, [], ◌∷◌, ◌++◌, length, get_or, true, false}
 use Rattle.std.proofs.Common.{sym, subst, arith}
 use Rattle.std.specs.Prelude.{MatchBool}
 use Rattle.std.proofs.lemmas.List.{map-append, take-map, drop-map, get_or-map}
@@ -38,26 +38,27 @@ least_still room kept at found worse before =
     below_more (λ k. room ≤ get_or kept k 0 → (room ≤ get_or kept found 0) × (get_or kept found 0 ≤ get_or kept k 0)) at
     before (λ has. let is = worse has in (is.0, omega arith))
 
+-- buffers of these rooms, with this many places
+abbrev pub kept_as : List ℕ → List ℕ → ℕ → ℕ → Bool → Kept
+kept_as short long short_places long_places is_overfull =
+    record { short = short; long = long; short_places = short_places; long_places = long_places; is_overfull = is_overfull }
+
 -- the last short buffer was taken
-pub taken_short : (room : ℕ) (short long rest : List ℕ) (places long_places left had : ℕ)
-    → takes_short room (record { short = short; long = long; short_places = places; long_places = long_places }) ≡ true
-    → short ≡ rest ++ had ∷ [] → left ≡ places
-    → Takes room (record { short = short; long = long; short_places = places; long_places = long_places })
-    (record { short = rest; long = long; short_places = left; long_places = long_places })
-taken_short room short long rest places long_places left had is last same =
-    let old : Kept = record { short = short; long = long; short_places = places; long_places = long_places } in
-    let new : Kept = record { short = rest; long = long; short_places = left; long_places = long_places } in
+pub taken_short : (room : ℕ) (short long rest : List ℕ) (places long_places left had : ℕ) (overfull : Bool)
+    → takes_short room (kept_as short long places long_places overfull) ≡ true → short ≡ rest ++ had ∷ [] → left ≡ places
+    → Takes room (kept_as short long places long_places overfull) (kept_as rest long left long_places overfull)
+taken_short room short long rest places long_places left had overfull is last same =
+    let old = kept_as short long places long_places overfull in
+    let new = kept_as rest long left long_places overfull in
     subst (λ b. MatchBool b (TakesShort old new) (TakesLong room old new)) (sym is)
-    (had, λ i. record { short = last i; long = long; short_places = sym same i; long_places = long_places })
+    (had, λ i. kept_as (last i) long (sym same i) long_places overfull)
 
 -- the smallest long buffer that has the room was taken
-pub taken_long : (room : ℕ) (short long rest : List ℕ) (places long_places left had : ℕ)
-    → takes_short room (record { short = short; long = long; short_places = places; long_places = long_places }) ≡ false
-    → TakesLeast room long had rest → left ≡ long_places
-    → Takes room (record { short = short; long = long; short_places = places; long_places = long_places })
-    (record { short = short; long = rest; short_places = places; long_places = left })
-taken_long room short long rest places long_places left had is taken same =
-    let old : Kept = record { short = short; long = long; short_places = places; long_places = long_places } in
-    let new : Kept = record { short = short; long = rest; short_places = places; long_places = left } in
+pub taken_long : (room : ℕ) (short long rest : List ℕ) (places long_places left had : ℕ) (overfull : Bool)
+    → takes_short room (kept_as short long places long_places overfull) ≡ false → TakesLeast room long had rest → left ≡ long_places
+    → Takes room (kept_as short long places long_places overfull) (kept_as short rest places left overfull)
+taken_long room short long rest places long_places left had overfull is taken same =
+    let old = kept_as short long places long_places overfull in
+    let new = kept_as short rest places left overfull in
     subst (λ b. MatchBool b (TakesShort old new) (TakesLong room old new)) (sym is)
-    (had, taken, λ i. record { short = short; long = rest; short_places = places; long_places = same i })
+    (had, taken, λ i. kept_as short rest places (same i) overfull)

@@ -1,5 +1,5 @@
 -- Buffers that are used again.
-use Rattle.std.specs.Prelude.{◌≡◌, ◌<◌, ◌≤◌, ℕ, ◌+◌, ◌*◌, ◌&&◌, ◌==◌, Bool, nat_le, nat_lt, MatchBool, if◌then◌else◌}
+use Rattle.std.specs.Prelude.{◌≡◌, ◌<◌, ◌≤◌, ℕ, ◌+◌, ◌*◌, ◌&&◌, ◌==◌, Bool, true, false, nat_le, nat_lt, MatchBool, if◌then◌else◌}
 use Rattle.std.specs.Prelude.{List, [], ◌∷◌, ◌++◌, length, map, sum, remove, slice_index, EachIndex}
 use Rattle.media_block.specs.Blocks.{block_length}
 use Rattle.scsi_sense.specs.Given.{headroom, tailroom}
@@ -13,12 +13,14 @@ most_short = 65536
 abbrev pub most_room : ℕ
 most_room = 4 * (headroom * 64 + most_given + tailroom)
 
--- own: the room of each buffer that is kept, in bytes, and the most of a kind that are kept
+-- own: the room of each buffer that is kept, in bytes, the most of a kind that are kept, and whether more were to be
+-- kept than there is room for
 pub record Kept : Type 0 where
   pub short : List ℕ
   pub long : List ℕ
   pub short_places : ℕ
   pub long_places : ℕ
+  pub is_overfull : Bool
 
 -- own: the room of each of these buffers, which stands beside it
 abbrev pub rooms : {X : Type 0} → List (X × ℕ) → List ℕ
@@ -31,15 +33,15 @@ pub record IsWithin (room : ℕ) (short long : List ℕ) : Type 0 where
 
 -- own: no buffer, and no place for any
 abbrev pub no_places : Kept
-no_places = record { short = []; long = []; short_places = 0; long_places = 0 }
+no_places = record { short = []; long = []; short_places = 0; long_places = 0; is_overfull = false }
 
 -- own: no buffer, with places for 256 short ones, and for as many long ones as there may be room for
 abbrev pub all_places : Kept
-all_places = record { short = []; long = []; short_places = 256; long_places = 64 }
+all_places = record { short = []; long = []; short_places = 256; long_places = 64; is_overfull = false }
 
 -- own: none is kept any longer, and the places stay
 abbrev pub emptied : Kept → Kept
-emptied kept = record kept { short = []; long = [] }
+emptied kept = record kept { short = []; long = []; is_overfull = false }
 
 -- own: whether there is room for a buffer with this much
 abbrev pub has_room : ℕ → Kept → Bool
@@ -55,10 +57,12 @@ abbrev pub with_long : ℕ → Kept → Kept
 with_long room kept =
     if nat_lt (length kept.long) kept.long_places then record kept { long = kept.long ++ room ∷ [] } else kept
 
--- own: a buffer with this room is kept among those of its kind, if there are a place and room for it
+-- own: a buffer with this room is kept among those of its kind, if there are a place and room for it; if there is no room,
+-- that is noted
 abbrev pub kept_with : ℕ → Kept → Kept
 kept_with room kept =
-    if has_room room kept then if nat_le room most_short then with_short room kept else with_long room kept else kept
+    if has_room room kept then if nat_le room most_short then with_short room kept else with_long room kept
+    else record kept { is_overfull = true }
 
 -- own: of these rooms the one at this place is the smallest that is enough, if any is
 abbrev pub IsLeast : ℕ → List ℕ → ℕ → Type 0

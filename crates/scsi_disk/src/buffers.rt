@@ -56,6 +56,7 @@ impl Model for Buffers {
       long = rooms buffers.long.items;
       short_places = vec_capacity buffers.short;
       long_places = vec_capacity buffers.long;
+      is_overfull = buffers.is_overfull;
     } };
 
     ghost invariant = { λ buffers. IsWithin buffers.room (rooms buffers.short.items) (rooms buffers.long.items) };
@@ -201,7 +202,9 @@ impl Buffers {
     }
 
     /// Returns whether more buffers were to be kept than there is room for, since the last [`Buffers::trim`].
-    pub fn is_overfull(&self) -> bool {
+    pub fn is_overfull(&self) -> bool
+        ensures { result ≡ self.now.is_overfull }
+    {
         self.is_overfull
     }
 

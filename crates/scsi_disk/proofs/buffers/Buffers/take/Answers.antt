@@ -18,13 +18,13 @@ returns-clause-taken c =
     elim c.if-is_from_short.branch [
       | then-is_from_short+in_ok-pop w ↦ rw (← c.self.view_is, w.self-inside-is)
           (taken_short c.args.room (rooms short.items) (rooms long.items) (rooms w.pop.new.self.items)
-          (vec_capacity short) (vec_capacity long) (vec_capacity w.pop.new.self) w.in_ok-pop.had
+          (vec_capacity short) (vec_capacity long) (vec_capacity w.pop.new.self) w.in_ok-pop.had c.self.inside.is_overfull
           (rw (all_short, all_long) (sym c.is_from_short.ensures ∙ w.if-is_from_short.true))
           (ap rooms w.in_ok-pop.ensures.items ∙ map-append (λ each. each.1) w.pop.new.self.items _)
           w.in_ok-pop.ensures.capacity)
       | else-is_from_short+in_ok-buffer w ↦ rw (← c.self.view_is, w.self-inside-is)
           (taken_long c.args.room (rooms short.items) (rooms long.items) (rooms w.take_least.new.kept.items)
-          (vec_capacity short) (vec_capacity long) (vec_capacity w.take_least.new.kept) w.in_ok-buffer.had
+          (vec_capacity short) (vec_capacity long) (vec_capacity w.take_least.new.kept) w.in_ok-buffer.had c.self.inside.is_overfull
           (rw (all_short, all_long) (sym c.is_from_short.ensures ∙ w.if-is_from_short.false))
           w.in_ok-buffer.ensures.taken w.in_ok-buffer.ensures.places)
     ]
