@@ -1,6 +1,6 @@
 //! All connections, and which of them are known to be idle since their last change.
 
-ghost use Rattle.std.specs.Prelude.{◌≡◌, ◌<◌, ◌≤◌, ℕ, true, not, length, replicate, slice_index_or, slice_set, IfOk, IfSome, IfNone};
+ghost use Rattle.std.specs.Prelude.{◌≡◌, ◌<◌, ◌≤◌, ℕ, All, true, not, length, replicate, slice_index_or, slice_set, IfOk, IfSome, IfNone};
 ghost use Rattle.std.specs.Borrow.{sem};
 ghost use Rattle.iscsi_connection.specs.Connections.{is_full};
 ghost use Rattle.iscsi_connection.specs.Lending.{LendsLink};
@@ -220,7 +220,9 @@ impl Connections {
     }
 
     /// Returns whether nothing waits to be sent on any connection, and no session has an unfinished request.
-    pub fn are_quiet(&self) -> bool {
+    pub fn are_quiet(&self) -> bool
+        ensures { result ≡ true → All (λ link. length link.waiting ≡ 0) self.now }
+    {
         for connection in &self.items {
             if !connection.is_quiet() {
                 return false;

@@ -6,3 +6,4 @@ pub mod Unread
 mod Lines
 mod Voiding
 mod Sending
+mod Empty

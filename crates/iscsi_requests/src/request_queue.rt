@@ -1,6 +1,6 @@
 //! The requests of a session that are not finished, and their numbers.
 
-ghost use Rattle.std.specs.Prelude.{◌≡◌, ◌≤◌, ◌<◌, ◌+◌, ◌-◌, ◌++◌, ◌∷◌, List, [], true, length, map, filter, drop, remove, slice_index_or, option_map, vec_capacity, vec_len, IfSome, IfNone, IfOk, OnOk, OnErr, if◌then◌else◌};
+ghost use Rattle.std.specs.Prelude.{◌≡◌, ◌≤◌, ◌<◌, ◌+◌, ◌-◌, ◌++◌, ◌∷◌, All, List, [], None, true, length, map, filter, drop, remove, slice_index_or, option_map, vec_capacity, vec_len, IfSome, IfNone, IfOk, OnOk, OnErr, if◌then◌else◌};
 ghost use Rattle.iscsi_order.specs.Window as order;
 ghost use Rattle.iscsi_order.specs.WindowState as window;
 ghost use Rattle.iscsi_pdu.specs.Frames as pdu;
@@ -108,7 +108,11 @@ impl RequestQueue {
     }
 
     /// Returns whether no request is kept.
-    pub fn is_empty(&self) -> bool {
+    pub fn is_empty(&self) -> bool
+        ensures due { result ≡ true → self.now.due ≡ [] }
+        ensures queue { result ≡ true → self.now.queue ≡ [] }
+        ensures held { result ≡ true → All (λ request. request ≡ None) self.now.held }
+    {
         self.requests.is_empty()
     }
 

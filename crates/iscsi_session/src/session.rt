@@ -1,6 +1,6 @@
 //! A session in full feature phase.
 
-ghost use Rattle.std.specs.Prelude.{◌≡◌, ◌≤◌, ◌∷◌, List, [], drop, true, IfSome, IfNone};
+ghost use Rattle.std.specs.Prelude.{◌≡◌, ◌≤◌, ◌∷◌, All, List, [], None, drop, true, IfSome, IfNone};
 ghost use Rattle.iscsi_pdu.specs.Header.{data_length};
 ghost use Rattle.iscsi_pdu.specs.Segment.{most_data};
 ghost use Rattle.iscsi_pdu.specs.declared.answer.Answer.{Answer};
@@ -69,7 +69,10 @@ impl Session {
 
     /// Returns whether no request is unfinished, and no data is drained.
     pub fn is_idle(&self) -> bool
-        ensures { result ≡ true → self.now.transfers.drains ≡ [] }
+        ensures drained { result ≡ true → self.now.transfers.drains ≡ [] }
+        ensures due { result ≡ true → self.now.tasks.due ≡ [] }
+        ensures queue { result ≡ true → self.now.tasks.queue ≡ [] }
+        ensures held { result ≡ true → All (λ request. request ≡ None) self.now.tasks.held }
     {
         self.tasks.is_empty() && self.transfers.drains_none()
     }
