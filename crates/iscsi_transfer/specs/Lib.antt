@@ -6,5 +6,6 @@ pub mod WriteData
 pub mod Counted
 pub mod Laws
 pub mod WriteDataLaws
+pub mod Staged
 pub mod Examples
 pub mod ExamplesWriteData

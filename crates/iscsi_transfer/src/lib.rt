@@ -30,17 +30,22 @@
 //! - No more than MaxOutstandingR2T R2Ts are open at a time ([`laws::few_are_open`]; if that is one,
 //!   [`laws::one_is_open_at_a_time`]).
 //! - When a sequence ends, an R2T is due or open exactly if the payload is not whole ([`laws::whole_or_asked_for`]).
-//! - The data stays in the buffers in which it came ([`data_parts::Parts`]). Only [`WriteData::start`] and
-//!   [`WriteData::data_out`] allocate memory. For a command that takes no data, [`WriteData::start`] allocates none.
+//! - A [`StagedData`] stages the data of a Data-Out while its PDU arrives. Accepted, it is what the whole Data-Out would be
+//!   ([`StagedData::staged_out`]); if its command is removed, nothing of it is left ([`StagedData::unstage`]).
+//! - The data stays in the buffers in which it came ([`data_parts::Parts`]). Only [`WriteData::start`],
+//!   [`WriteData::data_out`], [`StagedData::stage`] and [`StagedData::staged_out`] allocate memory. For a command that takes
+//!   no data, [`WriteData::start`] allocates none.
 #![tactic(auto)]
 
 mod data_in;
 mod fault;
 pub mod laws;
 mod progress;
+mod staged_data;
 mod write_data;
 
 pub use data_in::{Piece, data_ins, piece_at, piece_count};
 pub use fault::DataFault;
 pub use progress::{Ask, MOST_OPEN, Progress};
+pub use staged_data::StagedData;
 pub use write_data::{WriteData, command_fault};
