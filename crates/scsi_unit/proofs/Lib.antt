@@ -8,3 +8,5 @@ pub mod Sound
 pub mod TapeDone
 pub mod Results
 pub mod UnitParts
+pub mod Failed
+pub mod WriteErrors

@@ -38,6 +38,7 @@ pub mod PersistentReserve
 pub mod Checks
 pub mod Unit
 pub mod Units
+pub mod Failed
 pub mod Examples
 pub mod ExamplesWrites
 pub mod ExamplesReservations

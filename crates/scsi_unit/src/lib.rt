@@ -29,7 +29,8 @@
 //!   defined, but for the bytes of records.
 //! - A read failed. The command reports UNRECOVERED READ ERROR and changes nothing.
 //! - A write or a sync failed. The command reports WRITE ERROR. The content of the blocks of its range is not defined;
-//!   of a tape the items before the position remain. The unit is not ready until it is opened again.
+//!   of a tape the items before the position remain. The unit is not ready until it is opened again
+//!   ([`laws::failed_units_stay_failed`]).
 //!
 //! A fault is reported only if the store's count of failures rose. The other units are as before.
 //!
@@ -42,6 +43,7 @@
 mod device;
 mod identity;
 mod joined;
+pub mod laws;
 mod lun;
 mod modes;
 mod performing;
