@@ -108,7 +108,7 @@ self_with : (b : Bool) (f : ℕ → ℕ) (k a : ℕ) (names : List ℕ) → (f a
     → find (λ j. f j == f k) (a ∷ names) ≡ Some k
 self_with b f k a names e here rest = grind arith
 
-in_map : (f : ℕ → ℕ) (k : ℕ) (names : List ℕ) → is_in k names ≡ true → is_in (f k) (map f names) ≡ true
+pub in_map : (f : ℕ → ℕ) (k : ℕ) (names : List ℕ) → is_in k names ≡ true → is_in (f k) (map f names) ≡ true
 in_map f k [] e = absurd cc
 in_map f k (a ∷ names) e = elim (cases_eq a k) [
   | inl same ↦ rw (eq-eqb (f a) (f k) (ap f same)) refl

@@ -27,3 +27,4 @@ pub mod Calm
 pub mod Runs
 mod Stages
 mod Unread
+pub mod Tags

@@ -1,10 +1,10 @@
 -- Laws of every past that the steps of a session can reach.
-use Rattle.std.specs.Prelude.{◌≡◌, All, ℕ, ◌<◌, ◌^◌, List, [], ◌∷◌, ◌++◌, Bool, true, None}
+use Rattle.std.specs.Prelude.{◌≡◌, ◌≢◌, All, ℕ, ◌<◌, ◌^◌, List, [], ◌∷◌, ◌++◌, Bool, true, None}
 use Rattle.iscsi_pdu.specs.Header.{cmd_sn}
 use Rattle.iscsi_pdu.specs.Frames.{Frame}
 use Rattle.iscsi_login.specs.declared.session_params.SessionParams.{SessionParams}
-use Rattle.iscsi_requests.specs.Requests.{Request, Past, begun, left, commands, others, taken, due, queue, unfinished, stamp, moved, finished, removing}
-use Rattle.iscsi_requests.specs.Transfers.{asks_of, asking, r2ts_of, asked}
+use Rattle.iscsi_requests.specs.Requests.{Request, Past, begun, is_in, left, commands, others, taken, due, queue, unfinished, functions, stamp, moved, finished, removing}
+use Rattle.iscsi_requests.specs.Transfers.{tag_of, asks_of, asking, r2ts_of, asked}
 use Rattle.iscsi_requests.specs.Functions.{drained_functions}
 use Rattle.iscsi_requests.specs.State.{AreDistinct, IsLawful}
 use Rattle.iscsi_session.specs.Steps.{Step, Work, served, ready, settled}
@@ -70,3 +70,16 @@ pub record NothingStaysDue : Type 0 where
       → NothingIsDue (settled fails place work).past
   pub removed : (names : List ℕ) (past : Past) → NothingIsDue past → NothingIsDue (removing names past)
   pub discovery : (past : Past) → IsLawful past → NothingIsDue past → past.params.target ≡ None → ready past ≡ []
+
+-- RFC 7143 §11.2.1.8: no SCSI Command and Task Management Function Request that are not finished have one tag
+abbrev pub TagsDiffer : Past → Type 0
+TagsDiffer past = (k j : ℕ) → is_in k (unfinished past) ≡ true → is_in j (functions past) ≡ true → tag_of past.came k ≢ tag_of past.came j
+
+-- A session begins so, and each run of its steps keeps it so, whatever fails, as does a removal of commands.
+pub record LiveTagsDiffer : Type 0 where
+  pub begun : (params : SessionParams) → TagsDiffer (begun params)
+  pub served : (fails : Step → Bool) (place : ℕ) (frame : Frame) (work : Work) → IsLawful work.past → TagsDiffer work.past
+      → TagsDiffer (served fails place frame work).past
+  pub settled : (fails : Step → Bool) (place : ℕ) (work : Work) → IsLawful work.past → TagsDiffer work.past
+      → TagsDiffer (settled fails place work).past
+  pub removed : (names : List ℕ) (past : Past) → TagsDiffer past → TagsDiffer (removing names past)

@@ -1,6 +1,6 @@
 //! Laws of every past that the steps of a session can reach. The functions do nothing: their contracts are the laws.
 
-ghost use Rattle.iscsi_session.specs.Laws.{TakenOnce, FinishedAsTaken, DueInOrder, DoneInOrder, StepsAreLawful, R2tsAreSentAtOnce, NothingStaysDue};
+ghost use Rattle.iscsi_session.specs.Laws.{TakenOnce, FinishedAsTaken, DueInOrder, DoneInOrder, StepsAreLawful, R2tsAreSentAtOnce, NothingStaysDue, LiveTagsDiffer};
 
 /// States that each request is taken once, and that requests are executed in the order in which they were taken. SCSI
 /// Commands are finished in that order as they are done, and all other requests as they are executed.
@@ -29,4 +29,11 @@ pub fn r2ts_are_sent_at_once()
 #[tactic(auto, using(crate::proofs::Due::nothing_stays_due))]
 pub fn nothing_stays_due()
     ensures { NothingStaysDue }
+{}
+
+/// States that no SCSI Command and Task Management Function Request that are not finished have one Initiator Task Tag
+/// (RFC 7143 §11.2.1.8). `steps_are_lawful` says the same of two of one kind.
+#[tactic(auto, using(crate::proofs::Tags::live_tags_differ))]
+pub fn live_tags_differ()
+    ensures { LiveTagsDiffer }
 {}

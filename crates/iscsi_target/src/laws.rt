@@ -4,7 +4,7 @@ ghost use Rattle.iscsi_world.specs.History.{ArrivalsInPieces};
 ghost use Rattle.iscsi_world.specs.Isolation.{TargetsAreIsolated, TargetsSeeTheirOwn, StrangersAreAlone, EventsAreLocal};
 ghost use Rattle.iscsi_world.specs.Bounded.{CallsKeepBounded};
 ghost use Rattle.iscsi_world.specs.Moment.{SessionsAreAtRest};
-ghost use Rattle.iscsi_world.specs.Laws.{AnswersStay, SureIsSound, SoundTargetsWereSound, SessionsFinishAsTaken, OthersStay, OthersGoOn};
+ghost use Rattle.iscsi_world.specs.Laws.{AnswersStay, SureIsSound, SoundTargetsWereSound, SessionsFinishAsTaken, LiveTagsAreDistinct, OthersStay, OthersGoOn, FailedUnitsStayFailed};
 
 /// States that the cutting of a connection's bytes into pieces does not matter. The frames that become whole are
 /// those of the joined bytes, in order, followed by at most one header that names too much data.
@@ -35,6 +35,13 @@ pub fn sound_targets_were_sound()
 #[tactic(auto, using(iscsi_world::proofs::Lawful::sessions_finish_as_taken))]
 pub fn sessions_finish_as_taken()
     ensures { SessionsFinishAsTaken }
+{}
+
+/// States that in each session that goes on no two requests that are not finished have one Initiator Task Tag (RFC 7143
+/// §11.2.1.8), whether they are SCSI Commands or Task Management Function Requests. This holds of every history.
+#[tactic(auto, using(iscsi_world::proofs::Lawful::live_tags_are_distinct))]
+pub fn live_tags_are_distinct()
+    ensures { LiveTagsAreDistinct }
 {}
 
 /// States that after each event nothing is due in any session that goes on. No taken request still has to act, and no
@@ -85,4 +92,11 @@ pub fn events_are_local()
 #[tactic(auto, using(iscsi_world::proofs::Wanting::calls_keep_bounded))]
 pub fn calls_keep_bounded()
     ensures { CallsKeepBounded }
+{}
+
+/// States that a unit of which a write, a cut or a sync failed has failed ever after, whatever happens. So it is not ready
+/// until it is opened again. What it answers meanwhile, `scsi_unit` says (`failed_units_stay_failed`).
+#[tactic(auto, using(iscsi_world::proofs::Failed::failed_units_stay_failed))]
+pub fn failed_units_stay_failed()
+    ensures { FailedUnitsStayFailed }
 {}

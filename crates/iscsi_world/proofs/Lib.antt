@@ -52,3 +52,4 @@ pub mod Tracking
 pub mod Running
 pub mod Through
 pub mod Begun
+pub mod Failed

@@ -1,5 +1,5 @@
 -- Laws of the World, for every history.
-use Rattle.std.specs.Prelude.{◌≡◌, ◌≢◌, ◌⊎◌, ℕ, ◌+◌, ◌<◌, List, [], ◌∷◌, ◌++◌, Bool, true, not, ◌==◌, Option, Some, None, ⊤}
+use Rattle.std.specs.Prelude.{◌≡◌, ◌≢◌, ◌⊎◌, ℕ, ◌+◌, ◌<◌, List, [], ◌∷◌, ◌++◌, Bool, true, false, not, ◌==◌, Option, Some, None, map, slice_get, ⊤}
 use Rattle.std.specs.List.{AllByRecursion, list_all}
 use Rattle.iscsi_pdu.specs.Frames.{Frame}
 use Rattle.iscsi_pdu.specs.declared.login_response.LoginResponse.{LoginResponse}
@@ -7,13 +7,16 @@ use Rattle.iscsi_login.specs.Session.{older}
 use Rattle.iscsi_login.specs.Login.{login}
 use Rattle.iscsi_login.specs.declared.session_params.SessionParams.{SessionParams}
 use Rattle.iscsi_login.specs.declared.reply.Reply.TheVariants.{Full}
+use Rattle.scsi_unit.specs.Failed.{has_failed}
+use Rattle.scsi_unit.specs.State.{UnitState}
 use Rattle.iscsi_session.specs.Comings.{Coming}
-use Rattle.iscsi_session.specs.Requests.{Past, taken}
+use Rattle.iscsi_session.specs.Requests.{Past, taken, unfinished, functions}
+use Rattle.iscsi_session.specs.Transfers.{tag_of}
 use Rattle.iscsi_session.specs.State.{AreDistinct}
-use Rattle.iscsi_session.specs.Laws.{FinishedInOrder}
+use Rattle.iscsi_session.specs.Laws.{FinishedInOrder, TagsDiffer}
 use Rattle.iscsi_world.specs.History.{Event, Open, Bytes, Gone, Mark, History, happening, marked}
 use Rattle.iscsi_world.specs.Life.{Life, LoggingIn, is_over, out_of}
-use Rattle.iscsi_world.specs.World.{Setting, World, present, past_of, reads_life, live, requests_of, lookup_for, close, world}
+use Rattle.iscsi_world.specs.World.{Setting, World, present, past_of, units_at, reads_life, live, requests_of, lookup_for, close, world}
 use Rattle.iscsi_world.specs.Machine.{Machine, IsSound, ReflectsSoundness, WhereSound, IsSure}
 use Rattle.iscsi_world.specs.Stands.{Stands}
 
@@ -65,6 +68,21 @@ abbrev pub SessionsFinishAsTaken : Type 0
 SessionsFinishAsTaken = (s : Setting) (h : History) (c : ℕ) → AllByRecursion (λ happening. HasBytes happening.event) h
     → FinishesAsTaken (past_of (present c (world s h)))
 
+-- RFC 7143 §11.2.1.8: no two SCSI Commands or Task Management Function Requests that are not finished have one tag
+pub record HasDistinctTags (past : Past) : Type 0 where
+  pub commands : AreDistinct (map (tag_of past.came) (unfinished past))
+  pub functions : AreDistinct (map (tag_of past.came) (functions past))
+  pub apart : TagsDiffer past
+
+abbrev pub HaveDistinctTags : Option Past → Type 0
+HaveDistinctTags None = ⊤
+HaveDistinctTags (Some past) = HasDistinctTags past
+
+-- In each session that goes on, no two requests that are live have one tag, whatever has happened.
+abbrev pub LiveTagsAreDistinct : Type 0
+LiveTagsAreDistinct = (s : Setting) (h : History) (c : ℕ) → AllByRecursion (λ happening. HasBytes happening.event) h
+    → HaveDistinctTags (past_of (present c (world s h)))
+
 -- The end of a session and a Gone change no answer and no session of another connection. A session ends after a
 -- violation, a step that failed or a Logout.
 pub record OthersStay : Type 0 where
@@ -101,3 +119,19 @@ OthersGoOn = (s : Setting) (h : History) (marks : List Mark) (comings : List Com
     → are_elsewhere d marks ≡ true → reads_life (present d (world s h)) ≡ true
     → let after = world s (h ++ happening marks comings (Bytes c piece) ∷ []) in
     (reads_life (present d after) ≡ true) ⊎ Reinstates s c d (world s h) after
+
+-- ---- units
+
+-- own: there is a unit, and a write, a cut or a sync of it failed since it was opened
+abbrev pub failed_in : Option UnitState → Bool
+failed_in None = false
+failed_in (Some unit) = has_failed unit.device
+
+-- the unit at this place among those of a target
+abbrev pub has_failed_at : ℕ → ℕ → World → Bool
+has_failed_at target place w = failed_in (slice_get (units_at (Some target) w.units) place)
+
+-- A unit of which a write, a cut or a sync failed has failed ever after, whatever happens: nothing opens it again.
+abbrev pub FailedUnitsStayFailed : Type 0
+FailedUnitsStayFailed = (s : Setting) (h more : History) (target place : ℕ) → has_failed_at target place (world s h) ≡ true
+    → has_failed_at target place (world s (h ++ more)) ≡ true
