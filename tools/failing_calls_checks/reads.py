@@ -5,8 +5,9 @@ ends."""
 import errno
 import random
 import socket
+from functools import partial
 
-from failing_calls_checks.serve import LENGTH, Failed, Script, each_call, received, run
+from failing_calls_checks.serve import LENGTH, Failed, Script, each_run, received, run
 from wire import notation, pdu
 
 SEGMENTS = (512, 513, 4096, 262144, 16777215)
@@ -106,13 +107,7 @@ class Reads:
     def each(self, check, **settings):
         """Lets each call fail, and gives how many there are."""
         plain = self.plain()
-
-        def checked(number):
-            ended = run(SCRIPT, self.program, self.shim, number=number, **settings)
-            check(plain, ended)
-            return ended.failures
-
-        return each_call(checked)
+        return each_run(SCRIPT, self.program, self.shim, partial(check, plain), **settings)
 
     def whole(self, pieces, call):
         """Runs in which each call of this kind moves so many bytes at most, which must change nothing."""

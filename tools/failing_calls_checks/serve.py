@@ -155,3 +155,13 @@ def each_call(checked):
     if not calls:
         raise Failed("no call failed at all")
     return f"{calls} calls"
+
+
+def each_run(script, program, shim, check, **settings):
+    """Lets each call fail in turn in runs of a script, looks at each run, and gives how many calls there are."""
+    def checked(number):
+        ended = run(script, program, shim, number=number, **settings)
+        check(ended)
+        return ended.failures
+
+    return each_call(checked)

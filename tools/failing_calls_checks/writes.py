@@ -7,9 +7,10 @@ blocks are changed whole or not at all, and if they are changed the command was 
 
 import errno
 import socket
+from functools import partial
 from typing import NamedTuple
 
-from failing_calls_checks.serve import LENGTH, Failed, Script, each_call, received, run
+from failing_calls_checks.serve import LENGTH, Failed, Script, each_run, received, run
 from wire import notation, pdu
 
 LOGIN = '[Login-Request I T CSG=1 NSG=3 ITT=16 CmdSN=1 | "InitiatorName={}" 00 "TargetName=t1" 00 "InitialR2T=No" 00]'
@@ -154,13 +155,7 @@ class Writes:
             raise Failed("the plain run is not answered as it must be")
         if any(plain.answers[command.part][3] for command in COMMANDS):
             raise Failed("a command of the plain run is not GOOD")
-
-        def checked(number):
-            ended = run(SCRIPT, self.program, self.shim, number=number, **settings)
-            check(plain, ended)
-            return ended.failures
-
-        return each_call(checked)
+        return each_run(SCRIPT, self.program, self.shim, partial(check, plain), **settings)
 
     def whole(self, pieces, call):
         """Runs in which each call of this kind moves so many bytes at most, which must change nothing."""
