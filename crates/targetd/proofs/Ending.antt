@@ -1,8 +1,7 @@
 -- How a run ends.
-use Rattle.std.proofs.Common.{arith, ◌≡◌, ◌≢◌, ◌⊎◌, inl, inr, ℕ, List, [], ◌∷◌, ◌++◌, true, Bool, Option, Some, None, Result, Ok, Err, refl, sym, ap, subst, ◌∙◌}
+use Rattle.std.proofs.Common.{arith, ◌≡◌, ◌≢◌, ◌⊎◌, inl, inr, ℕ, List, [], ◌∷◌, true, Bool, Option, Some, None, Result, Ok, Err, refl, sym, ap, subst, ◌∙◌}
 use Rattle.std.specs.Prelude.{IsErrAnd, All}
 use Rattle.std.specs.List.{list_all}
-use Rattle.std.specs.Io.KnownBytes.{Appends}
 use Rattle.std.specs.declared.net.socket_addr.SocketAddr.{SocketAddr}
 use Rattle.std.proofs.KnownBytes.{Keeps-refl}
 use Rattle.std.proofs.lemmas.List.Elements.{All-cons}
@@ -25,7 +24,6 @@ use Rattle.iscsi_ports.specs.declared.bind_fault.BindFault.{BindFault}
 use Rattle.iscsi_ports.specs.declared.bind_fault.BindFault.TheVariants as binds
 use Rattle.iscsi_ports.specs.Log.{Entry, written}
 use Rattle.iscsi_serve.specs.Served.{MayHappen, MayComeOut, StaysServed, ComesOutServed}
-use Rattle.iscsi_serve.specs.declared.fault.ServeFault.{ServeFault}
 use Rattle.iscsi_serve.proofs.Keeping.{stays_same, been_served}
 use Rattle.target_config.specs.Configuration.{Document, MediumEntry, MemoryDisk, FileDisk, MemoryTape, FileTape, UnitEntry, TargetEntry, is_in_memory}
 use Rattle.target_config.specs.declared.fault.ConfigFault.{ConfigFault}
@@ -42,7 +40,7 @@ use Rattle.target_units.specs.Opened.{Held, IsMediumOf, IsUnitOf, AreEach, AreUn
 use Rattle.target_units.specs.Refusal.{Refusal}
 use Rattle.targetd.specs.Help.{RefusesWords}
 use Rattle.target_serving.specs.Logging.{OpensLog}
-use Rattle.target_serving.specs.Serve.{listening_line, HasServed, Serves}
+use Rattle.target_serving.specs.Serve.{listening_line, Serves}
 use Rattle.targetd.specs.Unopened.{IsUnopened}
 use Rattle.targetd.specs.Run.{FailsToListen, FailsEarly, LeftState, ServedState, listening, known_of, setting_of, IsReplay, IsServing, Replays, ServesAt, Runs}
 

@@ -1,4 +1,4 @@
-use Rattle.std.proofs.Common.{◌≡◌, ℕ, Some, true, refl, sym, ◌∙◌}
+use Rattle.std.proofs.Common.{◌≡◌, Some, true, refl, sym, ◌∙◌}
 use Rattle.iscsi_login.specs.Number.{number_in}
 use Rattle.iscsi_login.specs.Values.{is_segment_key}
 use Rattle.iscsi_login.proofs.values.Values.with_declared.Goals as goal
