@@ -4,8 +4,10 @@ import fcntl
 import os
 import re
 import socket
+from contextlib import contextmanager
+from pathlib import Path
 
-from installed_checks.installation import EXPLAIN, SOUND, installed, ran
+from installed_checks.installation import EXPLAIN, SOUND, Skipped, installed, needs, ran
 from operation import configuration, trying
 from replay import program, transcript
 from running import server
@@ -42,7 +44,7 @@ TOLD = [
     ('lun = 1\nkind = "tape"\nserial = "B"\ncapacity = 5\nearly = 5\nfile = "/none/t"\n', 1,
      ['C:15: device fault: unit 2 of target 1: the file "/none/t" cannot be opened for reading and writing: '
       "No such file or directory"]),
-    ('lun = "1"\nkind = "disk"\nserial = "B"\nblocks = 10\n[[target]]\nname = "u"\n[[target.unit]]\nlun = "0"\nkind = "disk"\n'
+    ('lun = "1"\nkind = "disk"\nserial = "B"\nblocks = 10\n[[target]]\nname = "iqn.2024-01.com.example:u"\n[[target.unit]]\nlun = "0"\nkind = "disk"\n'
      'serial = "C"\nblocks = 10\n[[target]]\nname = "iqn.2024-01.com.Example:my disk"\n[[target.unit]]\nlun = 1\n'
      'kind = "disk"\nserial = "D"\nblocks = 10\n', 1,
      ['C:10: fault 3: unit 2 of target 1: "lun" is to be an integer, and is a text',
@@ -51,6 +53,8 @@ TOLD = [
       'C:22: note: target 3: the name "iqn.2024-01.com.Example:my disk" has capitals and blanks, and initiators may ask for '
       "it in lower case and without blanks alone",
       "targetd says: configuration fault 3"]),
+    ('lun = 1\nkind = "disk"\nserial = "B"\nblocks = 10\nnone = 1e400\n', 2,
+     ["C:14: fault 2: 1e400 is too large for a number", "targetd says: configuration fault 2"]),
     ('lun = 1\nkind = disk\n', 2, ["C:11: fault 2: disk is no value: a text stands between quotes",
                                    "targetd says: configuration fault 2"]),
 ]
@@ -66,6 +70,57 @@ def explains_each_fault_at_its_line_and_key():
                              for line in told)
             assert ended == (1 if fault else 0, wanted, ""), ended
         assert ran(top / EXPLAIN)[0] == 2 and ran(top / EXPLAIN, "--help")[0] == 0
+
+
+def notes_a_name_that_some_initiators_do_not_take():
+    with installed() as top:
+        config = top / "my.toml"
+        for name, is_noted in (("iqn.2024-01.com.example:t", False), ("iqn.1993-08.org.debian", False), ("t", True),
+                               ("eui.02004567a425678d", False), ("eui.02004567a425678", True), ("iqn.2024-13.com.example:t", True),
+                               ("naa.62004567ba64678d0123456789abcdef", False), ("iqn.2024-01.com.example:a,b", True)):
+            config.write_text(SOUND.replace("iqn.2024-01.com.example:t", name), encoding="utf-8")
+            status, told, _ = ran(top / EXPLAIN, config)
+            assert (status, " is of none of the forms " in told) == (0, is_noted), (name, told)
+
+
+def notes_units_in_memory_that_no_machine_holds():
+    with installed() as top:
+        config = top / "my.toml"
+        tapes = "".join(f'[[target.unit]]\nlun = {lun}\nkind = "tape"\nserial = "{lun}"\n'
+                        f'capacity = {configuration.MOST_CAPACITY}\nearly = 0\n' for lun in range(1, configuration.MOST_UNITS))
+        config.write_text(f"{SOUND}{tapes}", encoding="utf-8")
+        status, told, _ = ran(top / EXPLAIN, config)
+        held = 4096 + (configuration.MOST_UNITS - 1) * configuration.MOST_CAPACITY
+        assert status == 0 and f"note: units in memory take {held} bytes at the start" in told, told
+
+
+@contextmanager
+def block_device(folder):
+    """A block device of a file in a folder."""
+    (folder / "below").write_bytes(bytes(1 << 20))
+    status, said, fault = ran("losetup", "--find", "--show", folder / "below")
+    if status:
+        raise Skipped(f"loop device ({fault.strip()})")
+    try:
+        yield Path(said.strip())
+    finally:
+        ran("losetup", "--detach", said.strip())
+
+
+def notes_a_block_device_that_is_in_use_or_is_a_tape():
+    needs("losetup")
+    with installed() as top, block_device(top) as device:
+        config = top / "my.toml"
+        units = SOUND.replace("blocks = 8", f'file = "{device}"')
+        config.write_text(units, encoding="utf-8")
+        assert ran(top / EXPLAIN, config) == (0, f"{config}: targetd takes it\n", "")
+        used = os.open(device, os.O_RDONLY | os.O_EXCL)  # as a mount does
+        status, told, _ = ran(top / EXPLAIN, config)
+        os.close(used)
+        assert status == 0 and " that this machine has in use, " in told and " note: " in told, told
+        config.write_text(units.replace('"disk"', '"tape"\ncapacity = 9999999\nearly = 0'), encoding="utf-8")
+        status, told, _ = ran(top / EXPLAIN, config)
+        assert status == 0 and " note: " in told and "its first write fails\n" in told, told
 
 
 def explains_where_a_log_cannot_be_written():
@@ -252,6 +307,9 @@ def explains_every_configuration_of_the_cases_by_its_number():
 
 CHECKS = [
     explains_each_fault_at_its_line_and_key,
+    notes_a_name_that_some_initiators_do_not_take,
+    notes_units_in_memory_that_no_machine_holds,
+    notes_a_block_device_that_is_in_use_or_is_a_tape,
     explains_where_a_log_cannot_be_written,
     tells_why_a_file_is_no_disk_or_tape,
     tells_who_has_a_file_locked,

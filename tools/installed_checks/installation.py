@@ -17,7 +17,7 @@ PROGRAM = Path(sys.argv[1] if len(sys.argv) > 1 else TOP / "crates/targetd/out/t
 COMMANDS = ("explain-config", "import", "mend-tape", "status", "stop")
 EXPLAIN, IMPORT, MEND, STATUS, STOP = (f"bin/targetd-{command}" for command in COMMANDS)
 # A configuration with one unit.
-SOUND = ('listen = "127.0.0.1:0"\n[[target]]\nname = "t"\n'
+SOUND = ('listen = "127.0.0.1:0"\n[[target]]\nname = "iqn.2024-01.com.example:t"\n'
          '[[target.unit]]\nlun = 0\nkind = "disk"\nserial = "A"\nblocks = 8\n')
 
 

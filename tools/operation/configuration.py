@@ -2,6 +2,7 @@
 
 import difflib
 import os
+import re
 from pathlib import Path
 from typing import NamedTuple
 
@@ -17,6 +18,8 @@ KEYS = {"the configuration": ["listen", "log", "target"], "target": ["name", "un
         "disk": ["lun", "kind", "serial", "blocks", "file"],
         "tape": ["lun", "kind", "serial", "capacity", "early", "file"]}
 EXAMPLE_SERIAL = "EXAMPLE1"
+# The forms of the name of a target: its domain begins with a letter or a digit, and a colon stands before what the owner adds.
+NAME = re.compile(r"iqn\.[0-9]{4}-(?:0[1-9]|1[0-2])\.[a-z0-9][^:,]*(?::[^,]*)?|eui\.[0-9a-f]{16}|naa\.(?:[0-9a-f]{16}|[0-9a-f]{32})")
 STANDARD_ERROR = "-"
 
 
@@ -43,6 +46,7 @@ class Configuration:
         self.path, self.folder = path, folder
         self.told = []
         self.names, self.files, self.inodes, self.serials = {}, {}, {}, {}
+        self.in_memory = 0
 
     def tell(self, line, fault, words):
         """Something is to be told."""
@@ -121,8 +125,15 @@ class Configuration:
             self.listen(listen, root.lines["listen"])
         for target in self.tables(place, "target", "target {}", MOST_TARGETS):
             self.target(target)
+        self.memory(root)
         self.log(place)
         self.unread(place, KEYS["the configuration"])
+
+    def memory(self, root):
+        """The memory that units take at the start."""
+        if self.in_memory > trying.memory():
+            self.tell(root.lines["target"], None, f"units in memory take {self.in_memory} bytes at the start, and this machine has "
+                      f"{trying.memory()}")
 
     def listen(self, listen, line):
         """The address to listen on, which hosts that discover the targets are told."""
@@ -175,7 +186,11 @@ class Configuration:
         self.unread(place, KEYS["target"])
 
     def spelled(self, name, place):
-        """The name of a target, for which initiators ask in lower case and without blanks (RFC 7143 §4.2.7.2)."""
+        """The name of a target, for which initiators ask in lower case and without blanks (RFC 7143 §4.2.7.2), and which some take
+        in one of three forms alone (§4.2.7.1)."""
+        if not NAME.fullmatch(name.lower()):
+            self.tell(place.table.lines["name"], None, f'{place.name}: the name "{name}" is of none of the forms iqn.YYYY-MM.DOMAIN '
+                      "with a colon and more, eui.DIGITS and naa.DIGITS, and some initiators take no other")
         found = [what for what, is_there in (("capitals", name != name.lower()), ("blanks", any(map(str.isspace, name))))
                  if is_there]
         if found:
@@ -228,10 +243,10 @@ class Configuration:
         """A disk, in a file or in memory."""
         keys = KEYS["disk"]
         if "file" in place.table.held:
-            self.file(place, trying.disk_fault)
+            self.file(place, "disk", trying.disk_fault)
             keys = [key for key in keys if key != "blocks"]
         elif "blocks" in place.table.held:
-            self.number(place, "blocks", 1, MOST_BLOCKS)
+            self.in_memory += (self.number(place, "blocks", 1, MOST_BLOCKS) or 0) * trying.BLOCK
         else:
             self.tell(place.line, 3, f'{place.name}: "file" or "blocks" is missing')
         self.unread(place, keys)
@@ -242,11 +257,13 @@ class Configuration:
         most = MOST_CAPACITY if capacity is None else capacity
         self.number(place, "early", 0, most)
         if "file" in place.table.held:
-            self.file(place, lambda file: trying.tape_fault(file, most))
+            self.file(place, "tape", lambda file: trying.tape_fault(file, most))
+        else:
+            self.in_memory += capacity or 0
         self.unread(place, KEYS["tape"])
 
-    def file(self, place, fault_in):
-        """The file of a unit, tried as the program opens it, and what `fault_in` it is told of its content."""
+    def file(self, place, kind, fault_in):
+        """The file of a unit of a kind, tried as the program opens it, and what `fault_in` it is told of its content."""
         path = self.field(place, "file", "text")
         if path is None:
             return
@@ -258,11 +275,11 @@ class Configuration:
         name = f'{place.name}: the file "{path}"{self.tried(path)}'
         try:
             with open(os.path.join(self.folder, path), "r+b", buffering=0) as file:
-                self.opened(file, path, line, name, fault_in)
+                self.opened(file, path, line, name, kind, fault_in)
         except (OSError, ValueError) as error:
             self.tell(line, "device", f"{name} cannot be opened for reading and writing: {trying.why(error)}")
 
-    def opened(self, file, path, line, name, fault_in):
+    def opened(self, file, path, line, name, kind, fault_in):
         """The file of a unit that could be opened."""
         status = os.fstat(file.fileno())
         first = self.inodes.setdefault((status.st_dev, status.st_ino), path)
@@ -273,8 +290,8 @@ class Configuration:
             self.tell(line, "device", f'{name} is that of another unit, as "{first}"')
         elif fault := fault_in(file):
             self.tell(line, "device", f"{name} {fault}")
-        elif kind := trying.kind_of(file):
-            self.tell(line, None, f"{name} is {kind}, which may keep nothing of what is written to it")
+        elif doubt := trying.doubt_of(file, kind == "tape"):
+            self.tell(line, None, f"{name} {doubt}")
 
 
 def article(kind):

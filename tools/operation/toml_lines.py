@@ -2,6 +2,7 @@
 
 import bisect
 import datetime
+import math
 import re
 from dataclasses import dataclass, field
 
@@ -246,7 +247,10 @@ class Reader:
                 self.fail(f"{word} does not fit 64 bits")
             return Value("integer", line, number)
         if FLOAT.fullmatch(word):
-            return Value("float", line, float(word.replace("_", "")))
+            number = float(word.replace("_", ""))
+            if math.isinf(number) and "inf" not in word:
+                self.fail(f"{word} is too large for a number")
+            return Value("float", line, number)
         if is_time(word):
             return Value("time", line, word)
         return self.fail(f"{word or 'nothing'} is no value: a text stands between quotes")

@@ -80,10 +80,35 @@ def unbound(address, error):
     return f"which cannot be listened on: {error.strerror}", []
 
 
+def memory():
+    """How many bytes of memory this machine has."""
+    return os.sysconf("SC_PHYS_PAGES") * os.sysconf("SC_PAGE_SIZE")
+
+
 def kind_of(file):
     """What an open file is if it is neither a file nor a block device, or nothing."""
     mode = os.fstat(file.fileno()).st_mode
     return next((words for is_kind, words in KINDS if is_kind(mode)), None)
+
+
+def doubt_of(file, is_tape):
+    """What is to be noted of the open file of a unit that the program takes, or nothing."""
+    if kind := kind_of(file):
+        return f"is {kind}, which may keep nothing of what is written to it"
+    if not stat.S_ISBLK(os.fstat(file.fileno()).st_mode):
+        return None
+    if is_tape:
+        return "is a block device, which cannot grow as a tape does: its first write fails"
+    return "is a block device that this machine has in use, as by a mount or an array" if is_in_use(file) else None
+
+
+def is_in_use(device):
+    """The kernel has a block device in use: nobody may open it for himself alone."""
+    try:
+        os.close(os.open(f"/proc/self/fd/{device.fileno()}", os.O_RDONLY | os.O_EXCL))
+    except OSError as error:
+        return error.errno == errno.EBUSY
+    return False
 
 
 def disk_fault(file):
