@@ -81,6 +81,19 @@ def notes_what_may_be_otherwise_since_the_start():
             assert (status, told["targets"]) == (3, []) and "cannot be read" in told["notes"][0], told
 
 
+def notes_a_configuration_that_an_older_file_replaced():
+    with installed() as top:
+        config, older = top / "my.toml", top / "older.toml"
+        for path in (older, config):
+            path.write_text(SOUND, encoding="ascii")
+        with listening(top / "sbin/targetd", "serve", "--config", config) as server:
+            assert told_of(top, server.process.pid)[1]["notes"] == []
+            time.sleep(SLACK)
+            older.rename(config)
+            assert told_of(top, server.process.pid)[1]["notes"] == [
+                "the configuration was changed since the start, and is not read again"]
+
+
 @contextmanager
 def logging(top, units=SECOND, log="log", **settings):
     """A process with a log, and the port on which it listens."""
@@ -141,12 +154,56 @@ def tells_who_has_logged_in_before_the_log_was_moved():
                                              "not ready is not known of the time before it"], told
 
 
+# A tape in a device to which each write fails; it tells a length of 0, so it is an empty tape.
+FAILING = tape_files.UNITS.format(file="/dev/full", capacity=1000)
+FAILURE = "03/0C00, a write failed"
+
+
+@contextmanager
+def failed(top, port):
+    """The unit of a process has failed."""
+    with socket.create_connection(("127.0.0.1", port), LIMIT) as client:
+        assert tape_files.Tape(client).write(b"lost") == tape_files.UNWRITTEN
+        yield
+
+
+def failures_of(told):
+    """What the units of a process failed by."""
+    return [unit["failure"] for target in told["targets"] for unit in target["units"]]
+
+
+def tells_a_unit_that_is_not_ready_after_the_log_was_moved_away():
+    with installed() as top, logging(top, FAILING) as (process, port), failed(top, port):
+        (top / "log").rename(top / "log.1")
+        status, told = told_of(top, process)
+        assert (status, failures_of(told), told["log"], told["notes"]) == (4, [FAILURE], f"{top}/log", []), told
+
+
+def tells_a_unit_that_is_not_ready_beside_a_process_with_the_same_log():
+    with installed() as top, logging(top, FAILING) as (process, port), failed(top, port):
+        other = top / "other"
+        other.mkdir()
+        (other / "sbin").symlink_to(top / "sbin")
+        with logging(other, log="../log") as (second, _):
+            status, told = told_of(top, process)
+            shared = f"the log {top}/log is also that of another process: give each its own"
+            assert (status, failures_of(told), told["notes"]) == (4, [FAILURE], [shared]), told
+            assert failures_of(told_of(top, second)[1]) == [None]
+
+
+def notes_a_log_that_a_full_file_system_cut_off():
+    with installed() as top, logging(top) as (process, _):
+        with open(top / "log", "a", encoding="ascii") as log:
+            log.write("2026-12-01T03:37:05Z target iqn.2024-01.c")
+        status, told = told_of(top, process)
+        assert (status, told["notes"]) == (3, ["the log ends within a line: who has logged in and which units are not ready "
+                                               "may be more than is shown"]), told
+
+
 def tells_a_unit_that_is_not_ready():
-    # Each write to this device fails; it tells a length of 0, so it is an empty tape.
-    units = tape_files.UNITS.format(file="/dev/full", capacity=1000)
     with installed() as top:
         began = int(time.time())
-        with logging(top, units) as (process, port), socket.create_connection(("127.0.0.1", port), LIMIT) as client:
+        with logging(top, FAILING) as (process, port), socket.create_connection(("127.0.0.1", port), LIMIT) as client:
             tape = tape_files.Tape(client)
             status, told = told_of(top, process)
             (unit,) = told["targets"][0]["units"]
@@ -155,7 +212,7 @@ def tells_a_unit_that_is_not_ready():
             for _ in range(2):
                 status, told = told_of(top, process)
                 (unit,) = told["targets"][0]["units"]
-                assert (status, unit["failure"]) == (4, "03/0C00, a write failed"), told
+                assert (status, unit["failure"]) == (4, FAILURE), told
                 assert began <= unit["not_ready_since"] <= time.time(), told
                 assert tape.told(tape_files.READY) == tape_files.FAILED
             assert any(line.startswith("    unit 0: tape T0, /dev/full (0 bytes), not ready since ") and
@@ -200,9 +257,13 @@ def takes_its_words_and_no_others():
 CHECKS = [
     tells_units_and_files_of_a_process_that_serves,
     notes_what_may_be_otherwise_since_the_start,
+    notes_a_configuration_that_an_older_file_replaced,
     tells_by_the_log_who_has_logged_in,
     tells_who_has_logged_in_before_the_log_was_moved,
     tells_a_unit_that_is_not_ready,
+    tells_a_unit_that_is_not_ready_after_the_log_was_moved_away,
+    tells_a_unit_that_is_not_ready_beside_a_process_with_the_same_log,
+    notes_a_log_that_a_full_file_system_cut_off,
     tells_by_the_journal_who_has_logged_in,
     takes_its_words_and_no_others,
 ]

@@ -1,6 +1,8 @@
 """What the log of a process tells (targetd(8)): who has logged in, and which units are not ready."""
 
 import gzip
+import ipaddress
+import os
 import re
 import subprocess
 import time
@@ -10,7 +12,7 @@ from typing import NamedTuple
 
 STANDARD_ERROR = "-"
 JOURNAL = "the journal"
-LISTENS = re.compile(r"\S+ listening on ")
+LISTENS = re.compile(r"\S+ listening on (\S+)$")
 CAME = re.compile(r"\S+ connection (\d+) from (\S+)$")
 LOGGED_IN = re.compile(r"(\S+) connection (\d+) logged in: initiator (\S+), (?:target (\S+)|(discovery)), TSIH \d+$")
 # A unit is not ready once a write of it has failed, and 04/4400 tells the next who asks. After 03/0C00 stands who wrote what.
@@ -55,15 +57,26 @@ def escaped(name):
     return "".join(chr(byte) if 0x21 <= byte <= 0x7e and byte != 0x5c else f"\\x{byte:02X}" for byte in name.encode())
 
 
-def in_lines(lines, started):
+def spelled(address):
+    """An address with its port, as it is spelled for a socket of version 4 or 6 alike."""
+    host, _, port = address.rpartition(":")
+    try:
+        found = ipaddress.ip_address(host.strip("[]").partition("%")[0])
+    except ValueError:
+        return host, port
+    return str(getattr(found, "ipv4_mapped", None) or found), port
+
+
+def in_lines(lines, started, listening):
     """The sessions of the addresses that came last, the failures, whether the lines have the start of the process, and how many
-    lines they say are missing."""
+    lines they say are missing. The process listens on these addresses; if there are none, they cannot be seen."""
+    own = {*map(spelled, listening)}
     sessions, came, failures, begins, missing = {}, {}, {}, False, 0
     first = time.strftime("%Y-%m-%dT%H:%M:%S", time.gmtime(started - SLACK))
     for line in lines:
         if line[:len(first)] < first:
             continue  # of a process before this one
-        if LISTENS.match(line):
+        if (listens := LISTENS.match(line)) and (not own or spelled(listens[1]) in own):
             sessions, came, failures, begins, missing = {}, {}, {}, True, 0
         elif of_connection := CAME.match(line):
             came[of_connection[1]] = of_connection[2]
@@ -78,12 +91,14 @@ def in_lines(lines, started):
 
 
 def files_of(path, started):
-    """The files that a log was moved to since a process was started, oldest first, and the log itself."""
+    """The files that a log was moved to since a process was started, oldest first, and the log itself. That is made by the next
+    line, so it may not be there yet."""
     path, moved = Path(path), []
     for other in path.parent.iterdir():
         if re.fullmatch(re.escape(path.name) + ROTATED, other.name) and other.stat().st_mtime >= started - SLACK:
             moved.append(other)
-    return [*sorted(moved, key=lambda other: other.stat().st_mtime), path]
+    moved.sort(key=lambda other: other.stat().st_mtime)
+    return [*moved, path] if path.exists() or not moved else moved
 
 
 def lines_of(path, started):
@@ -96,6 +111,19 @@ def lines_of(path, started):
                 yield line.rstrip("\n")
 
 
+def doubts_of(path):
+    """What is to be noted of the end of a log: a full file system takes no line, or half of one."""
+    if not Path(path).exists():
+        return []
+    lost = f"{UNKNOWN} may be more than is shown"
+    notes = [f"the file system of the log is full: {lost}"] if not os.statvfs(path).f_bavail else []
+    with open(path, "rb") as log:
+        log.seek(max(log.seek(0, os.SEEK_END) - 1, 0))
+        if log.read(1) not in (b"", b"\n"):
+            notes.append(f"the log ends within a line: {lost}")
+    return notes
+
+
 def journal_of(process):
     """The lines that the journal has of a process since the system began, or nothing if there is no journalctl."""
     try:
@@ -106,32 +134,34 @@ def journal_of(process):
     return ran.stdout.splitlines()
 
 
-def told_by_journal(process, started):
+def told_by_journal(process, started, listening):
     """What the journal tells of a process whose log is standard error."""
     lines = journal_of(process)
     if not lines:
         why = "there is no journalctl" if lines is None else "the journal has none of it that this user may read"
         return Told(None, {}, {}, [f"its log goes to standard error, and {why}: {UNKNOWN} is not known"])
-    return told_in(JOURNAL, lines, started)
+    return told_in(JOURNAL, lines, started, listening)
 
 
-def told_in(source, lines, started):
+def told_in(source, lines, started, listening):
     """What lines tell."""
-    sessions, failures, begins, missing = in_lines(lines, started)
+    sessions, failures, begins, missing = in_lines(lines, started, listening)
     notes = [] if begins else [f"the log does not go back to the start: {UNKNOWN} is not known of the time before it"]
     if missing:
         notes.append(f"the log lacks {missing} lines: {UNKNOWN} may be more than is shown")
     return Told(source, sessions, failures, notes)
 
 
-def told_by(log, process, started):
-    """What a log tells of a process that was started then: that at a path, standard error, or none."""
+def told_by(log, process, started, listening):
+    """What a log tells of a process that was started then and listens on these addresses: that at a path, standard error, or
+    none."""
     if log is None:
         return Told(None, {}, {}, [])
     if log == STANDARD_ERROR:
-        return told_by_journal(process, started)
+        return told_by_journal(process, started, listening)
     try:
-        return told_in(log, lines_of(log, started), started)
+        told = told_in(log, lines_of(log, started), started, listening)
+        return told._replace(notes=told.notes + doubts_of(log))
     except (OSError, ValueError, EOFError) as error:
         why = getattr(error, "strerror", None) or error
         return Told(None, {}, {}, [f"the log {log} cannot be read: {why}: {UNKNOWN} is not known"])

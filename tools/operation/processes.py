@@ -159,7 +159,8 @@ def served_by(path, folder, opened, started):
     try:
         document = toml_lines.read(Path(path).read_text(encoding="utf-8"))
         targets, log = targets_of(document, folder, opened or set()), log_of(document, folder)
-        changed = os.stat(path).st_mtime > started + ROUNDED
+        status = os.stat(path)
+        changed = max(status.st_mtime, status.st_ctime) > started + ROUNDED  # one that was moved there keeps its older time
     except (OSError, UnicodeDecodeError, toml_lines.NotToml, AttributeError, TypeError) as error:
         return [], None, [f"the configuration cannot be read: {getattr(error, 'strerror', None) or error}"]
     notes = ["the configuration was changed since the start, and is not read again"] if changed else []
