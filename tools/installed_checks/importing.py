@@ -131,6 +131,27 @@ def notes_who_may_log_in_and_shows_no_secret():
         assert "geheim" not in str([told, more])
 
 
+def notes_that_a_host_sees_what_it_did_not_see_before():
+    everything = [{"index": 0, "tpg_lun": 0, "write_protect": False}, {"index": 1, "tpg_lun": 1, "write_protect": False}]
+    with installed() as top:
+        for first, second, is_noted in ((everything, everything, False), (everything[:1], everything[1:], True),
+                                        (everything, [], True)):
+            other = saved()
+            group = other["targets"][0]["tpgs"][0]
+            group["luns"].append({"index": 1, "storage_object": "/backstores/fileio/two"})
+            group["node_acls"] = [{"node_wwn": "iqn.a", "mapped_luns": first}, {"node_wwn": "iqn.b", "mapped_luns": second}]
+            noted = [note for note in notes_of(imported(top, other)) if "(mapped_luns) is not carried over" in note]
+            assert bool(noted) == is_noted, noted
+
+
+def leaves_out_a_store_that_names_no_file():
+    with installed() as top:
+        for objects, words in (({"dev": None}, "its store names no file and no device"), ({"dev": 7}, "names no file"),
+                               ({"alua_tpgs": 5}, "alua_tpgs is no array")):
+            status, said, fault = imported(top, saved(**objects))
+            assert (status, said) == (1, []) and words in "\n".join(fault), (status, said, fault)
+
+
 def numbers_disks_as_tgt_does_and_gives_each_target_a_lun_0():
     with installed() as top:
         told = imported(top, "<target t>\ndirect-store /dev/b\nbacking-store /srv/c\nbacking-store /srv/d\n</target>\n"
@@ -293,6 +314,8 @@ CHECKS = [
     carries_over_each_directive_of_tgt_or_notes_it,
     reads_a_mebibyte_of_anything_in_a_few_seconds,
     notes_who_may_log_in_and_shows_no_secret,
+    notes_that_a_host_sees_what_it_did_not_see_before,
+    leaves_out_a_store_that_names_no_file,
     numbers_disks_as_tgt_does_and_gives_each_target_a_lun_0,
     follows_includes_and_notes_those_that_it_cannot,
     carries_over_disks_of_lio_and_notes_what_is_otherwise,

@@ -50,6 +50,11 @@ def read(text):
         raise NotCarried(f"no JSON that can be read: {error}") from None
 
 
+def is_otherwise(mapped):
+    """A host sees one of these LUNs by another number, or may not write to it."""
+    return any(lun.get("write_protect") or lun.get("index") != lun.get("tpg_lun") for lun in mapped)
+
+
 class Saved:
     """Goes through a document, and carries over what targetd has."""
 
@@ -127,9 +132,9 @@ class Saved:
         if acls:
             names = ", ".join(str(one.get("node_wwn")) for one in acls[:8]) + (", .." if len(acls) > 8 else "")
             self.note(place, f"the ACLs are not carried over ({names}): whoever reaches the port has the disks", target.notes)
-        mapped = [lun for at, one in enumerate(acls)
-                  for lun in elements(one.get("mapped_luns"), f"{place}.node_acls[{at}].mapped_luns")]
-        if any(lun.get("write_protect") or lun.get("index") != lun.get("tpg_lun") for lun in mapped):
+        everything = {str(lun.get("index")) for lun in elements(group.get("luns"), f"{place}.luns")}
+        mapped = [elements(one.get("mapped_luns"), f"{place}.node_acls[{at}].mapped_luns") for at, one in enumerate(acls)]
+        if any(is_otherwise(luns) or {str(lun.get("tpg_lun")) for lun in luns} != everything for luns in mapped):
             self.note(place, "what single hosts see otherwise (mapped_luns) is not carried over: all see the same LUNs, and "
                       "may write", target.notes)
         if attributes or group.get("parameters"):
@@ -162,6 +167,8 @@ class Saved:
         plugin, size = one.get("plugin"), one.get("size")
         if plugin not in ("fileio", "block", "ramdisk"):
             return f"its store is of {plugin}, and neither a file, a block device nor memory"
+        if plugin != "ramdisk" and not isinstance(one.get("dev"), str):
+            return "its store names no file and no device"
         if attributes.get("block_size", BLOCK) != BLOCK:
             return f"its blocks have {attributes['block_size']} bytes, and those of targetd {BLOCK}"
         if attributes.get("pi_prot_type"):
@@ -187,7 +194,7 @@ class Saved:
         others = sorted(set(attributes) - {"block_size", "pi_prot_type", "force_pr_aptpl", *THIN})
         if others:
             self.note(where, f"other attributes are not carried over: {', '.join(map(str, others))}", unit.notes)
-        if len(one.get("alua_tpgs") or []) > 1:
+        if len(elements(one.get("alua_tpgs"), f"{where}.alua_tpgs")) > 1:
             self.note(where, "groups of ALUA are not carried over", unit.notes)
 
 
