@@ -71,7 +71,7 @@ def keeps_the_disk_of_the_example_as_its_comments_say(package, _):
         one.install(package)
         path = one.at(CONFIG)
         lines = [line for line in path.read_text(encoding="ascii").splitlines() if line != "target = []"]
-        for line in [line.removeprefix("#     ") for line in lines if line.startswith(("#     install", "#     truncate"))]:
+        for line in [line.removeprefix("#     ") for line in lines if line.startswith(("#     truncate", "#     chown"))]:
             one.run("sh", "-ec", line)
         path.write_text("\n".join(re.sub(r"^#(?=\S|$)", "", line) for line in lines) + "\n", encoding="ascii")
         said = one.run("targetd-explain-config", f"/{CONFIG}")
