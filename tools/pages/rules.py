@@ -10,7 +10,7 @@ from pages.edits import TOP, crates
 
 FUNCTIONS, FILES, LINES = "functions above 40 lines", "files above 400 lines", "lines above 160 characters"
 LONGEST = {FUNCTIONS: 40, FILES: 400, LINES: 160}
-MOST = {FUNCTIONS: 2, FILES: 8, LINES: 44}  # what there is: to be lowered when there is less, and never raised
+MOST = {FUNCTIONS: 2, FILES: 7, LINES: 44}  # what there is: to be lowered when there is less, and never raised
 LEAST_VERBS = 95  # per cent of the comments of functions
 OUTSIDE = "tools, bench"
 FN = re.compile(r"( *)(?:pub(?:\([^)]*\))? )?(?:ghost )?(?:const )?(?:unsafe )?(?:extern \"C\" )?fn (\w+)")
