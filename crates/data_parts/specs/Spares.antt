@@ -82,6 +82,13 @@ with_one capacity spares =
     if nat_lt spares.longs most_longs then record spares { longs = spares.longs + 1 } else record spares { is_overfull = true }
     else spares
 
+-- own: whether there is a place for a buffer of this capacity
+abbrev pub has_place : ℕ → Spares → Bool
+has_place capacity spares =
+    if capacity == small_capacity then nat_lt spares.smalls most_smalls
+    else if capacity == short_capacity then nat_lt spares.shorts most_shorts
+    else if capacity == long_capacity then nat_lt spares.longs most_longs else false
+
 -- own: a buffer of this capacity is kept, if there is a place for it, or is not since an allocation failed
 abbrev pub MayKeep : ℕ → Spares → Spares → Type 0
-MayKeep capacity old new = (new ≡ with_one capacity old) ⊎ (new ≡ old)
+MayKeep capacity old new = (new ≡ with_one capacity old) ⊎ ((has_place capacity old ≡ true) × (new ≡ old))

@@ -134,6 +134,7 @@ impl Parts {
 
     /// Removes the last bytes, and returns their buffer with them. Returns `None` if there is no data.
     pub fn pop_used(&mut self) -> Option<Vec<u8>>
+        ensures last { IfSome result (λ buffer. self.old ≡ self.new ++ buffer.items) }
         ensures shorter { IfSome result (λ _. length self.new < length self.old) }
         ensures none { IfNone result (self.old ≡ []) }
     {
@@ -143,17 +144,6 @@ impl Parts {
             mem::replace(&mut self.tail, Vec::new(self.alloc))
         };
         self.len -= buffer.len();
-        Some(buffer)
-    }
-
-    /// Removes the last bytes, and returns their buffer, emptied, for reuse. Returns `None` if there is no data.
-    pub fn pop_buffer(&mut self) -> Option<Vec<u8>>
-        ensures cleared { IfSome result (λ buffer. buffer.items ≡ []) }
-        ensures shorter { IfSome result (λ _. length self.new < length self.old) }
-        ensures none { IfNone result (self.old ≡ []) }
-    {
-        let mut buffer = self.pop_used()?;
-        buffer.clear();
         Some(buffer)
     }
 }
