@@ -1,9 +1,10 @@
 //! Ports over sockets.
 
-ghost use Rattle.std.specs.Prelude.{◌≡◌, ◌<◌, ◌≤◌, ◌∷◌, ◌++◌, ℕ, List, [], Bool, true, false, length, Option, None, Result, IfOk, IfErr, OnOk, OnErr};
+ghost use Rattle.std.specs.Prelude.{◌≡◌, ◌<◌, ◌≤◌, ◌*◌, ◌∷◌, ◌++◌, option_map, ℕ, List, [], Bool, true, false, length, Option, None, Result, IfOk, IfErr, OnOk, OnErr};
 ghost use Rattle.iscsi_ports.specs.Binding.{not_located, ExplainsFault};
 ghost use Rattle.std.specs.Io.{WritesAtMost};
 ghost use Rattle.std.specs.Net.Socket.{socket_ip, socket_port};
+ghost use Rattle.std.specs.Duration.{as_nanos};
 ghost use Rattle.std.specs.Result.{IsErrOf};
 ghost use Rattle.std.specs.Net.Grammar.{IsSocketText};
 ghost use Rattle.std.specs.declared.net.socket_addr.SocketAddr.{SocketAddr};
@@ -47,8 +48,8 @@ use target_limits::CONNECTIONS;
 /// the commands that are ahead. After a write that would have waited the next poll asks, then every other one,
 /// every fourth and so on, so that the connection is offered the rest soon.
 ///
-/// A port is named from an event of the system on until a read or an accept of it would wait, and as long as
-/// bytes of it are ahead.
+/// A port may be named from an event of the system on until an accept of it would wait, or a read would or gave less than it
+/// had room for, and as long as bytes of it are ahead.
 #[derive(Drop)]
 pub struct SocketPorts<K: SocketCalls + Drop> {
     pub(crate) sockets: K,
@@ -92,6 +93,7 @@ impl SocketPorts<MioSockets> {
         ensures log { IfOk result (λ ports. ⟦<SocketPorts<MioSockets> as Ports>⟧.log ports ≡ Listened address.now ∷ []) }
         ensures tells { IfOk result (λ ports. ⟦<SocketPorts<MioSockets> as Ports>⟧.tells ports ≡ true) }
         ensures in_time { IfOk result (λ ports. AsksInTime (⟦<MioSockets as SocketCalls>⟧.calls ports.sockets) ports) }
+        ensures waits { IfOk result (λ ports. option_map as_nanos ports.wait ≡ option_map (λ n. n * 1000000) wait) }
         ensures spelled { IfOk result (λ ports. (value : SocketAddr) × IsSocketText address.now value) }
         ensures unspelled { ((value : SocketAddr) → ¬ (IsSocketText address.now value)) → IsErrOf result (BindFault.Socket None) }
         ensures explained { IfErr result (ExplainsFault address.now refused.old.calls refused.new.calls) }

@@ -1,6 +1,7 @@
 //! Sockets that the system watches, so that a poll names them.
 
-ghost use Rattle.std.specs.Prelude.{◌≡◌, ◌≤◌, None, IfSome};
+ghost use Rattle.std.specs.Prelude.{◌≡◌, ◌≤◌, true, None, IfSome};
+ghost use Rattle.mio.specs.Interest.{is_readable, is_writable, is_priority};
 
 use crate::options::set_options;
 use mio::net::{TcpListener, TcpStream};
@@ -21,6 +22,15 @@ pub(crate) fn watched(net: &impl Net, poll: &Poll, address: SocketAddr) -> io::R
     Ok(listener)
 }
 
+/// Returns what of a connection is watched: that it can be read, that it can be written again, and urgent data.
+fn all_of_it() -> Interest
+    ensures readable { is_readable result ≡ true }
+    ensures writable { is_writable result ≡ true }
+    ensures priority { is_priority result ≡ true }
+{
+    Interest::READABLE | Interest::WRITABLE | Interest::PRIORITY
+}
+
 /// Lets the system watch a connection by its number, so that a poll names it. One without a number is closed at
 /// once, and not watched.
 pub(crate) fn watch(registry: &Registry, stream: &mut TcpStream, c: usize) -> Option<usize>
@@ -30,9 +40,8 @@ pub(crate) fn watch(registry: &Registry, stream: &mut TcpStream, c: usize) -> Op
     if c >= CONNECTIONS {
         return None;
     }
-    let all = Interest::READABLE | Interest::WRITABLE | Interest::PRIORITY;
     let token = Token(c);
-    match registry.register(stream, token, all) {
+    match registry.register(stream, token, all_of_it()) {
         Ok(()) => Some(token.0),
         Err(_) => None,
     }

@@ -6,7 +6,7 @@ ghost use Rattle.iscsi_outbox.specs.Offered.{EndsPdu};
 ghost use Rattle.iscsi_world.specs.Bounded.{Bounded};
 ghost use Rattle.iscsi_world.specs.History.{History};
 ghost use Rattle.iscsi_world.specs.World.{Setting};
-ghost use Rattle.iscsi_world.specs.Machine.{ReflectsSoundness, IsSure, sent_link, link_at, with_link, is_silent, is_open_at};
+ghost use Rattle.iscsi_world.specs.Machine.{ReflectsSoundness, IsSure, sent_link, link_at, with_link, target_in, is_silent, is_open_at};
 ghost use Rattle.iscsi_world.specs.Stands.{Stands, with_sent};
 
 use crate::target::Target;
@@ -78,6 +78,7 @@ impl<S: Store> Target<S> {
     #[tactic(auto, using(iscsi_world::proofs::Sent::target_below))]
     pub(crate) fn home(&self, c: usize) -> Option<usize>
         requires { c < 64 }
+        ensures value { result ≡ target_in (link_at self.now c).phase }
         ensures below { IsTargetBelow (length self.now.units) result }
         ensures count { length self.now.links ≡ 64 }
     {
@@ -114,7 +115,7 @@ impl<S: Store> Target<S> {
         units.give_back(buffer);
     }
 
-    /// Clears the busy flag of the connection if it is idle.
+    /// Clears the busy flag of the connection if it is silent.
     fn note(&mut self, c: usize)
         requires { c < 64 }
         ensures { self.new ≡ self.old }
@@ -178,7 +179,8 @@ impl<S: Store> Target<S> {
         self.connections.is_silent(c)
     }
 
-    /// Notes that bytes wait on an open connection, and that its peer takes none now.
+    /// Notes that bytes wait on an open connection, and that the last write took none of them: its peer takes none, or the
+    /// ports put it off.
     pub fn note_stalled(&mut self, c: usize)
         requires in_range { c < 64 }
         requires open { is_open_at self.old c ≡ true }
