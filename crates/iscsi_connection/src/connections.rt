@@ -1,4 +1,5 @@
-//! All connections, and which of them are known to be idle since their last change.
+//! All connections, and what is known of each since its last change: that it is settled, silent or stalled, or whether it is
+//! full.
 
 ghost use Rattle.std.specs.Prelude.{◌≡◌, ◌<◌, ◌≤◌, ℕ, All, true, not, length, replicate, slice_index_or, slice_set, IfOk, IfSome, IfNone};
 ghost use Rattle.std.specs.Borrow.{sem};
@@ -14,7 +15,7 @@ use target_limits::{CONNECTIONS, Memory};
 
 /// The connections by number. Clauses see them as a list.
 ///
-/// Most connections are idle at most times. One that was found idle is skipped until it is borrowed mutably.
+/// Most connections are silent and settled at most times. One that was found so is skipped until it is borrowed mutably.
 #[derive(Drop)]
 pub struct Connections {
     items: Vec<Connection>,
@@ -149,7 +150,7 @@ impl Connections {
         self.busy.next_from(from)
     }
 
-    /// Notes that bytes wait on a connection whose peer takes none now.
+    /// Notes that bytes wait on a connection of which the last write took none.
     #[inline]
     #[tactic(auto, using(crate::proofs::Marked::is_to_send))]
     pub fn note_stalled(&mut self, c: usize)
@@ -200,7 +201,7 @@ impl Connections {
         self.full.contains(c)
     }
 
-    /// Clears the busy flag if the connection is idle: nothing waits to be sent, and it is not closing.
+    /// Clears the busy flag if the connection is silent: nothing waits to be sent, and it is not closing.
     pub fn note(&mut self, c: usize)
         requires { c < 64 }
         ensures { self.new ≡ self.old }

@@ -83,7 +83,7 @@ impl Connection {
     }
 
     /// Performs and answers the commands that the connection's session has taken. Returns whether the session goes
-    /// on.
+    /// on: it does, unless an allocation fails.
     pub fn settle<S: Store>(&mut self, alloc: Global, units: &mut Units<S>) -> Result<bool, Memory>
         requires { InSession self.old.phase (λ session. AreInRange session.params.values) }
         ensures calls { SettlesSession result units.old units.new self.old self.new }

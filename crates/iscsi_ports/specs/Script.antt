@@ -8,10 +8,6 @@ use Rattle.iscsi_ports.specs.declared.script.Step.TheVariants as steps
 use Rattle.iscsi_ports.specs.declared.script.Course.{Course}
 use Rattle.iscsi_ports.specs.declared.script.Script.{Script}
 
--- more than any call can move
-abbrev pub most_moved : ℕ
-most_moved = 18446744073709551615
-
 -- by a step, of a call that can move this number of bytes
 abbrev pub step_told : Step → ℕ → IoResult
 step_told (steps.Moves count) most = told.Bytes (min count most)

@@ -18,10 +18,11 @@
 //!   gave is handed on once, in order, or is still ahead, or was dropped as its connection closed.
 //! - When the system is asked and a write is put off is exact, and at most 63 polls in a row ask nothing.
 //! - Of the connections that are ready and send much a poll names one, each in its turn. Of the others it names eight more
-//!   than the last poll, and eight fewer for each that turned out to send much, but always one. Each is named within 64
-//!   polls. If nothing came of a poll that left one out, the next names all.
-//! - What is read of a connection that was closed, and for how many turns it stays, is exact. So it neither goes while its
-//!   peer sends, nor stays where its peer is silent.
+//!   than the last poll, and eight fewer for each that turned out to send much, but always one. Each poll that leaves one out
+//!   brings it nearer to its turn, of less than 64 places, as long as it stays of its kind. If nothing came of a poll that
+//!   left one out, the next names all.
+//! - What is read of a connection that was closed, and for how many turns it stays, is exact. So it stays while its peer
+//!   sends, up to those bounds and unless its place is needed, and no longer where its peer is silent.
 //! - [`MemPorts`] keep their log, and each read and write tells what the script says.
 #![tactic(auto)]
 

@@ -17,8 +17,8 @@ pub trait Ports {
 
     ghost tells: { Self → Bool };
 
-    /// Waits until a port may be ready, or for as long as the ports wait, and names those that may
-    /// be.
+    /// Waits until a port may be ready, or for as long as the ports wait, and names some of those that
+    /// may be.
     fn poll(&mut self) -> Result<Named, PortFault>
         ensures log { tells self.new ≡ true → log self.new ≡ log self.old ++ poll_entry result ∷ [] }
         ensures back { tells self.new ≡ true → tells self.old ≡ true };

@@ -6,7 +6,7 @@ ghost use Rattle.iscsi_ports.specs.Results.{buffer_of, carried_by, carried_read,
 use crate::read_buffer::ReadBuffer;
 use target_limits::CONNECTIONS;
 
-/// Whom a poll names: those that may have something to accept, to read, or room to write.
+/// Whom a poll names: some of those that may have something to accept or to read.
 #[derive(Clone, Copy)]
 pub struct Named {
     pub listener: bool,
@@ -16,7 +16,8 @@ pub struct Named {
 /// What a read or a write told.
 #[derive(Clone, Copy)]
 pub enum IoResult {
-    /// The number of bytes that were read or written: none if the call would have waited.
+    /// The number of bytes that were read or written: none if the call would have waited or was interrupted, or the write was
+    /// put off.
     Bytes(usize),
     /// The peer sends nothing more.
     End,

@@ -2,8 +2,7 @@
 
 ghost use Rattle.std.specs.Prelude.{◌≡◌, ◌≤◌, length, take};
 ghost use Rattle.iscsi_ports.specs.Results.{count_of};
-ghost use Rattle.iscsi_ports.specs.declared.script.Step.TheVariants.{Moves};
-ghost use Rattle.iscsi_ports.specs.Script.{most_moved, told_at, IsBehind, read_told, write_told, HasRead, HasWritten};
+ghost use Rattle.iscsi_ports.specs.Script.{told_at, IsBehind, read_told, write_told, HasRead, HasWritten};
 
 use crate::results::IoResult;
 
@@ -38,13 +37,6 @@ pub struct Script {
 }
 
 impl Course {
-    /// Makes a course in which each call moves all that it can.
-    pub fn unhindered() -> Course
-        ensures { result ≡ record { first = 0; next = Moves most_moved; later = Moves most_moved } }
-    {
-        Course::after(0, Step::Moves(usize::MAX))
-    }
-
     /// Makes a course in which this number of calls move all that they can, and each later one goes by this step.
     pub fn after(first: u64, step: Step) -> Course
         ensures { result ≡ record { first = first; next = step; later = step } }

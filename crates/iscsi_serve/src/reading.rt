@@ -26,7 +26,7 @@ pub(crate) const HEADER: usize = 48;
 const LEAST_FILLED: usize = 4_096;
 
 /// A buffer for a read, and for the next header after it.
-pub(crate) type ReadBuffer = [u8; MOST_READ + HEADER];
+pub(crate) type ReadArray = [u8; MOST_READ + HEADER];
 
 /// Feeds a connection. If an allocation fails, returns the connection that the target is closing; the others go on.
 fn feed<S: Store>(target: &mut Target<S>, c: usize, piece: &[u8]) -> Option<usize>
@@ -221,7 +221,7 @@ pub(crate) fn read_one<P: Ports, S: Store>(
     ports: &mut P,
     target: &mut Target<S>,
     named: &Named,
-    buffer: &mut ReadBuffer,
+    buffer: &mut ReadArray,
     ended: &mut [bool; CONNECTIONS],
     c: usize,
 )

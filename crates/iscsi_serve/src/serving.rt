@@ -13,7 +13,7 @@ ghost use Rattle.iscsi_ports.specs.declared.results.Named.{Named};
 use crate::ending::{any_ended, either, has_ended, is_done};
 use crate::fault::ServeFault;
 use crate::named::count_named;
-use crate::reading::{HEADER, MOST_READ, ReadBuffer, read_one};
+use crate::reading::{HEADER, MOST_READ, ReadArray, read_one};
 use iscsi_ports::{Accepted, IoResult, Named, PortFault, Ports};
 use iscsi_target::Target;
 use media_store::Store;
@@ -144,7 +144,7 @@ fn read_all<P: Ports, S: Store>(
     ports: &mut P,
     target: &mut Target<S>,
     named: &Named,
-    buffer: &mut ReadBuffer,
+    buffer: &mut ReadArray,
     ended: &mut [bool; CONNECTIONS],
 )
     ensures { StepsBy (InOrder (Reads named.now) connections) (P.tells ports.old) (P.tells ports.new)
@@ -235,7 +235,7 @@ fn carry<P: Ports, S: Store>(
     ports: &mut P,
     target: &mut Target<S>,
     named: &Named,
-    buffer: &mut ReadBuffer,
+    buffer: &mut ReadArray,
 )
     ensures carries { P.tells ports.new ≡ true → (before turn : List Entry) → P.log ports.old ≡ before ++ turn → AreEnded none_ended turn
         → (after : List Entry) × (P.log ports.new ≡ before ++ after) × Carries named.now (moment target.old before turn) (moment target.new before after) }
@@ -251,7 +251,7 @@ fn carry<P: Ports, S: Store>(
 fn turn_with<P: Ports, S: Store>(
     ports: &mut P,
     target: &mut Target<S>,
-    buffer: &mut ReadBuffer,
+    buffer: &mut ReadArray,
 ) -> Result<(), ServeFault>
     ensures turned { P.tells ports.new ≡ true
         → (m : Moment) × (P.log ports.new ≡ log_of m) × (target.new ≡ m.target) × EndsTurn (beginning target.old (P.log ports.old)) result m }

@@ -91,7 +91,7 @@ impl<S: Store + Drop> Target<S> {
 }
 
 impl<S: Store> Target<S> {
-    /// Opens a connection under a free number. Allocates nothing and does not fail.
+    /// Opens a connection under a free number. Allocates nothing and does not fail; it returns what every event does.
     pub fn open(&mut self, c: usize) -> Result<(), Starved>
         requires in_range { c < 64 }
         requires free { is_open_at self.old c ≡ false }

@@ -32,8 +32,9 @@
 //! - When a sequence ends, an R2T is due or open exactly if the payload is not whole ([`laws::whole_or_asked_for`]).
 //! - A [`StagedData`] stages the data of a Data-Out while its PDU arrives. Accepted, it is what the whole Data-Out would be
 //!   ([`StagedData::staged_out`]); if its command is removed, nothing of it is left ([`StagedData::unstage`]).
-//! - The data stays in the buffers in which it came ([`data_parts::Parts`]). Only [`WriteData::start`],
-//!   [`WriteData::data_out`], [`StagedData::stage`] and [`StagedData::staged_out`] allocate memory. For a command that takes
+//! - The data stays in the buffers in which it came ([`data_parts::Parts`]). Only [`WriteData::start`], [`WriteData::begin`],
+//!   [`WriteData::data_out`], [`WriteData::accept`], [`StagedData::stage`], [`StagedData::staged_out`] and [`data_ins`]
+//!   allocate memory. For a command that takes
 //!   no data, [`WriteData::start`] allocates none.
 #![tactic(auto)]
 

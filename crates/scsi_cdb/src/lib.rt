@@ -3,8 +3,8 @@
 //! A unit reads them in two steps. What it checks between them, such as its unit attentions, depends on the operation
 //! alone:
 //!
-//! - [`Row::for_kind`] returns the row of the table of operations for byte 0, if units of that kind have such an
-//!   operation.
+//! - [`Row::of`] returns the row of the table of operations for byte 0, if there is one, and [`Operation::is_for`] whether
+//!   units of a kind have the operation; [`Row::for_kind`] does both.
 //! - [`Operation::command`] returns the command with its fields, or why a field is refused. The meaning of those of
 //!   READ (6) and WRITE (6) depends on the block length that the tape has then.
 //!

@@ -5,7 +5,8 @@
 //! is reported only if the store's count of failures rose.
 //!
 //! The store is synced after SYNCHRONIZE CACHE with GOOD, and after WRITE or COMPARE AND WRITE with GOOD that wrote a
-//! block with FUA. The data of a write is passed to the store from where it lies. If an allocation fails, nothing changes.
+//! block with FUA. The data of a WRITE goes to `media_block` as it lies, which joins short slices for a file. If an allocation
+//! fails, nothing changes.
 //!
 //! [`Buffers`] are those in which data was read, kept for reuse.
 #![tactic(auto)]

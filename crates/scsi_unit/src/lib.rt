@@ -18,7 +18,7 @@
 //! 9. the unit is not write protected;
 //! 10. the medium does not fail.
 //!
-//! INQUIRY, REPORT LUNS and REQUEST SENSE skip check 3, and INQUIRY and REQUEST SENSE also check 1.
+//! INQUIRY, REPORT LUNS and REQUEST SENSE skip check 3. INQUIRY and REQUEST SENSE skip check 1 too.
 //!
 //! A command does exactly what `perform` defines, to the unit and in its answer. This holds provided that the unit's
 //! store is honest after it and did not fail in it. It also holds for any command that does not touch the medium, and
@@ -37,7 +37,8 @@
 //! The store is synced after SYNCHRONIZE CACHE with GOOD, and after WRITE or COMPARE AND WRITE with GOOD that wrote a
 //! block with FUA.
 //!
-//! If an allocation fails, nothing changes. The data of a write is passed to the store from where it lies.
+//! If an allocation fails, nothing changes. The data of a WRITE to a disk goes to `media_block` as it lies; other commands join
+//! it first.
 #![tactic(auto)]
 
 mod device;
