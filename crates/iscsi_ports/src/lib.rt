@@ -49,6 +49,7 @@ mod socket_ports;
 mod spares;
 mod stopwatch;
 mod stream_calls;
+mod system_read;
 mod turns;
 mod watching;
 

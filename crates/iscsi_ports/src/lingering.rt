@@ -16,7 +16,7 @@ use crate::asking::{gave, shortly};
 use crate::lingering_notes::LingeringNotes;
 use crate::places::free_places;
 use crate::socket_failure::SocketFailure;
-use crate::stream_calls::read_piece;
+use crate::system_read::SystemRead;
 use mio::net::TcpStream;
 use mio::{Interest, Registry, Token};
 use std::alloc::{AllocError, Global};
@@ -102,7 +102,7 @@ fn drain_place(
     let Some(socket) = place else {
         return false;
     };
-    let answer = read_piece(&mut socket.stream, buffer);
+    let answer = SystemRead::of(&mut socket.stream, buffer).answer();
     notes.drained(number, answer);
     match bytes_after(answer, socket.bytes) {
         Some(bytes) => {

@@ -3,8 +3,9 @@
 ghost use Rattle.std.specs.Prelude.{◌≡◌, ◌<◌, ◌≤◌, [], true, None, min, length, take, drop, vec_capacity, IfOk, IfSome};
 ghost use Rattle.iscsi_ports.specs.ReadBuffer.{bytes_in};
 
+use crate::system_read::SystemRead;
+use mio::net::TcpStream;
 use std::alloc::{AllocError, Global};
-use std::io::{self, Read};
 use std::marker::Model;
 
 /// How many bytes may be ahead of a connection: a PDU with 65,536 bytes of data and its header (RFC 7143 §11.2.1).
@@ -28,11 +29,12 @@ impl WholeBuffer {
         })
     }
 
-    /// Reads once into the whole buffer. Returns how many bytes came, which are its first.
-    pub(crate) fn fill(&mut self, reader: &mut impl Read) -> io::Result<usize>
-        ensures { IfOk result (λ count. count ≤ 65584) }
+    /// Reads once into the whole buffer. The bytes that came are its first.
+    pub(crate) fn fill(&mut self, stream: &mut TcpStream) -> SystemRead
+        ensures offered { result.offered ≡ 65584 }
+        ensures answer { IfOk result.answer (λ count. count ≤ 65584) }
     {
-        reader.read(self.bytes.as_mut_slice())
+        SystemRead::of(stream, self.bytes.as_mut_slice())
     }
 }
 

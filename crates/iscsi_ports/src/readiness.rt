@@ -15,6 +15,7 @@ ghost use Rattle.iscsi_ports.specs.Turns.{after_offer, after_carrying, Names};
 
 use crate::results::Named;
 use crate::socket_failure::SocketFailure;
+use crate::system_read::SystemRead;
 use crate::turns::Turns;
 use target_limits::CONNECTIONS;
 
@@ -131,12 +132,13 @@ impl Readiness {
         set_where(event.may_take(), &mut self.full, c, false);
     }
 
-    /// Takes note of a read of the system into this room.
-    pub(crate) fn took(&mut self, c: usize, answer: Result<usize, SocketFailure>, room: usize)
+    /// Takes note of a read of the system.
+    pub(crate) fn took(&mut self, c: usize, read: &SystemRead)
         requires { c < 64 }
-        ensures { self.new ≡ after_taking c answer room self.old }
+        ensures { self.new ≡ after_taking c read.now.answer read.now.offered self.old }
     {
-        let took_all = took_all(answer, room, self.urgent[c]);
+        let answer = read.answer();
+        let took_all = took_all(answer, read.offered(), self.urgent[c]);
         self.readable[c] = stays_readable(self.readable[c], took_all, self.ended[c]);
         set_where(would_wait(answer), &mut self.urgent, c, false);
     }

@@ -1,39 +1,33 @@
 //! The reads and writes of a connection, if it is there.
 
-ghost use Rattle.std.specs.Prelude.{◌≤◌, IfOk};
+ghost use Rattle.std.specs.Prelude.{◌≡◌, ◌≤◌, length, IfOk};
 ghost use Rattle.std.specs.Io.{WritesAtMost};
 
-use crate::read_buffer::WholeBuffer;
+use crate::read_buffer::{MOST_AHEAD, WholeBuffer};
 use crate::socket_failure::{SocketFailure, socket_failure};
+use crate::system_read::SystemRead;
 use mio::net::TcpStream;
-use std::io::{Read, Write};
+use std::io::Write;
 
 /// Reads into a buffer of the ports.
-pub(crate) fn fill_from(
-    place: &mut Option<TcpStream>,
-    whole: &mut WholeBuffer,
-) -> Result<usize, SocketFailure>
-    ensures { IfOk result (λ count. count ≤ 65584) }
+pub(crate) fn fill_from(place: &mut Option<TcpStream>, whole: &mut WholeBuffer) -> SystemRead
+    ensures offered { result.offered ≡ 65584 }
+    ensures answer { IfOk result.answer (λ count. count ≤ 65584) }
 {
     match place {
-        Some(stream) => match whole.fill(stream) {
-            Ok(count) => Ok(count),
-            Err(error) => Err(socket_failure(&error)),
-        },
-        None => Err(SocketFailure::Broken),
+        Some(stream) => whole.fill(stream),
+        None => SystemRead::broken(MOST_AHEAD),
     }
 }
 
 /// Reads into the reader's buffer.
-pub(crate) fn read_from(
-    place: &mut Option<TcpStream>,
-    buffer: &mut [u8],
-) -> Result<usize, SocketFailure>
-    ensures { WritesAtMost result buffer.new }
+pub(crate) fn read_from(place: &mut Option<TcpStream>, buffer: &mut [u8]) -> SystemRead
+    ensures offered { result.offered ≡ length buffer.new }
+    ensures answer { WritesAtMost result.answer buffer.new }
 {
     match place {
-        Some(stream) => read_piece(stream, buffer),
-        None => Err(SocketFailure::Broken),
+        Some(stream) => SystemRead::of(stream, buffer),
+        None => SystemRead::broken(buffer.len()),
     }
 }
 
@@ -47,15 +41,5 @@ pub(crate) fn write_to(place: &mut Option<TcpStream>, bytes: &[u8]) -> Result<us
             Err(error) => Err(socket_failure(&error)),
         },
         None => Err(SocketFailure::Broken),
-    }
-}
-
-/// Reads a piece of a connection.
-pub(crate) fn read_piece(stream: &mut TcpStream, buffer: &mut [u8]) -> Result<usize, SocketFailure>
-    ensures { WritesAtMost result buffer.new }
-{
-    match stream.read(buffer) {
-        Ok(count) => Ok(count),
-        Err(error) => Err(socket_failure(&error)),
     }
 }

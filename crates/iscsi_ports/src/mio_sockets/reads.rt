@@ -14,7 +14,7 @@ ghost use Rattle.iscsi_ports.specs.Readiness.{after_taking, given_in_all, read_b
 
 use super::MioSockets;
 use crate::asking::HEADER;
-use crate::read_buffer::{MOST_AHEAD, ReadBuffer, WholeBuffer, hand_from, take_lent};
+use crate::read_buffer::{ReadBuffer, WholeBuffer, hand_from, take_lent};
 use crate::readiness::Readiness;
 use crate::socket_calls::SocketCalls;
 use crate::socket_failure::SocketFailure;
@@ -77,8 +77,9 @@ impl MioSockets {
         ensures ahead { self.new.ahead ≡ self.old.ahead }
     {
         let room = buffer.len();
-        let answer = read_from(&mut self.streams[c], buffer);
-        readiness.took(c, answer, room);
+        let read = read_from(&mut self.streams[c], buffer);
+        readiness.took(c, &read);
+        let answer = read.answer();
         match answer {
             Ok(count) => self.notes.read(c, room, &buffer[..count]),
             Err(failure) => self.notes.read_failed(c, room, failure),
@@ -104,9 +105,9 @@ impl MioSockets {
         ensures readiness { readiness.new
             ≡ after_taking c (given_in_all result (length (ahead_on c self.new.ahead.items))) 65584 readiness.old }
     {
-        let answer = fill_from(&mut self.streams[c], &mut whole);
-        readiness.took(c, answer, MOST_AHEAD);
-        let count = match answer {
+        let read = fill_from(&mut self.streams[c], &mut whole);
+        readiness.took(c, &read);
+        let count = match read.answer() {
             Ok(count) => count,
             Err(failure) => {
                 self.notes.read_failed(c, buffer.len(), failure);
@@ -145,10 +146,9 @@ impl MioSockets {
         ensures readiness { readiness.new
             ≡ after_taking c (given_in_all result (length (ahead_on c self.new.ahead.items))) (length buffer.old) readiness.old }
     {
-        let most = buffer.len();
-        let answer = read_from(&mut self.streams[c], buffer);
-        readiness.took(c, answer, most);
-        let count = match answer {
+        let read = read_from(&mut self.streams[c], buffer);
+        readiness.took(c, &read);
+        let count = match read.answer() {
             Ok(count) => count,
             Err(failure) => {
                 self.notes.read_failed(c, room, failure);

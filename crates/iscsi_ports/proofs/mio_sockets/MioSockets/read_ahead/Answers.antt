@@ -24,7 +24,7 @@ pub invariant_of-self-2-clause-ahead_places : goal.invariant_of-self-2-clause-ah
 invariant_of-self-2-clause-ahead_places c = length-set c.args.self.now.ahead.items c.args.c c.fit-left.result ∙ c.args.self.now.ahead_places
 
 pub invariant_of-self-clause-places : goal.invariant_of-self-clause-places
-invariant_of-self-clause-places c = length-set c.args.self.now.streams.items c.args.c c.fill_from-answer.new.place ∙ c.args.self.now.places
+invariant_of-self-clause-places c = length-set c.args.self.now.streams.items c.args.c c.fill_from-read.new.place ∙ c.args.self.now.places
 
 pub invariant_of-self-clause-accounted : goal.invariant_of-self-clause-accounted
 invariant_of-self-clause-accounted c = rw c.read_failed.ensures c.args.self.now.accounted
@@ -33,7 +33,7 @@ pub invariant_of-self-clause-dropped : goal.invariant_of-self-clause-dropped
 invariant_of-self-clause-dropped c = rw c.read_failed.ensures c.args.self.now.dropped
 
 pub invariant_of-self-2-clause-places : goal.invariant_of-self-2-clause-places
-invariant_of-self-2-clause-places c = length-set c.args.self.now.streams.items c.args.c c.fill_from-answer.new.place ∙ c.args.self.now.places
+invariant_of-self-2-clause-places c = length-set c.args.self.now.streams.items c.args.c c.fill_from-read.new.place ∙ c.args.self.now.places
 
 pub invariant_of-self-2-clause-dropped : goal.invariant_of-self-2-clause-dropped
 invariant_of-self-2-clause-dropped c = rw c.read.ensures c.args.self.now.dropped
@@ -58,7 +58,7 @@ returns-clause-readiness c =
     ap bytes_in (get_or-set_same places c.args.c c.fit-left.result None lt) ∙ c.fit-left.ensures ∙ c.hand-handed.ensures.rest in
     let all : c.in-Ok.count ≡ handed + length (ahead_on c.args.c (set places c.args.c c.fit-left.result)) =
     omega (arith, c.hand-handed.ensures.count, c.of-ahead.ensures.count, ap length place_is, length-drop handed c.of-ahead.result) in
-    (rw c.in-Ok.is at c.took.ensures)
+    (rw (sym c.in-Ok.ensures, c.fill_from-read.ensures.offered) at c.took.ensures)
     ∙ ap (λ count. after_taking c.args.c (Ok count) 65584 c.args.readiness.now) all
 
 pub returns-in-Err : goal.returns-in-Err

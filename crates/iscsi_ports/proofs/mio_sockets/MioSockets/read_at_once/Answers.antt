@@ -1,4 +1,5 @@
-use Rattle.std.proofs.Common.{◌≤◌, ◌++◌, ◌∙◌, sym, ap, length, take, arith}
+use Rattle.std.proofs.Common.{◌≤◌, ◌++◌, ◌∙◌, sym, ap, subst, length, take, arith}
+use Rattle.std.specs.Io.{WritesAtMost}
 use Rattle.std.proofs.lemmas.List.{length-set, length-take-le}
 use Rattle.iscsi_ports.specs.Calls.{log_by}
 use Rattle.iscsi_ports.proofs.Accounts.{accounted_at_once, told_at_once}
@@ -6,11 +7,15 @@ use Rattle.iscsi_ports.proofs.mio_sockets.MioSockets.read_at_once.Goals as goal
 use Rattle.iscsi_ports.proofs.mio_sockets.MioSockets.read_at_once.Goals.{In-Ok}
 
 -- what came has room
-few : (c : In-Ok) → length (take c.in-Ok.count c.read_from-answer.new.buffer) ≤ length c.args.buffer.now
-few c = omega (arith, length-take-le c.in-Ok.count c.read_from-answer.new.buffer c.in-Ok.ensures, c.in-Ok.ensures, c.read_from-answer.auto.buffer)
+few : (c : In-Ok) → length (take c.in-Ok.count c.read_from-read.new.buffer) ≤ length c.args.buffer.now
+few c =
+    let buffer = c.read_from-read.new.buffer in
+    let within : c.in-Ok.count ≤ length buffer =
+    subst (λ answer. WritesAtMost answer buffer) (sym c.in-Ok.ensures) c.read_from-read.ensures.answer in
+    omega (arith, length-take-le c.in-Ok.count buffer within, within, c.read_from-read.auto.buffer)
 
 pub invariant_of-self-clause-places : goal.invariant_of-self-clause-places
-invariant_of-self-clause-places c = length-set c.args.self.now.streams.items c.args.c c.read_from-answer.new.place ∙ c.args.self.now.places
+invariant_of-self-clause-places c = length-set c.args.self.now.streams.items c.args.c c.read_from-read.new.place ∙ c.args.self.now.places
 
 pub invariant_of-self-clause-accounted : goal.invariant_of-self-clause-accounted
 invariant_of-self-clause-accounted c =
@@ -23,7 +28,7 @@ pub invariant_of-self-clause-dropped : goal.invariant_of-self-clause-dropped
 invariant_of-self-clause-dropped c = rw c.read.ensures c.args.self.now.dropped
 
 pub invariant_of-self-in-Err-clause-places : goal.invariant_of-self-in-Err-clause-places
-invariant_of-self-in-Err-clause-places c = length-set c.args.self.now.streams.items c.args.c c.read_from-answer.new.place ∙ c.args.self.now.places
+invariant_of-self-in-Err-clause-places c = length-set c.args.self.now.streams.items c.args.c c.read_from-read.new.place ∙ c.args.self.now.places
 
 pub invariant_of-self-in-Err-clause-accounted : goal.invariant_of-self-in-Err-clause-accounted
 invariant_of-self-in-Err-clause-accounted c = rw c.read_failed.ensures c.args.self.now.accounted
@@ -35,7 +40,7 @@ pub returns-in-Ok-clause-told : goal.returns-in-Ok-clause-told
 returns-in-Ok-clause-told c =
     ap log_by c.read.ensures
     ∙ ap (λ told. log_by c.args.self.now.notes ++ told)
-    (rw c.read_from-answer.auto.buffer (told_at_once c.args.c _ _ (few (goal.at.returns-in-Ok-clause-told c).In-Ok)))
+    (rw c.read_from-read.auto.buffer (told_at_once c.args.c _ _ (few (goal.at.returns-in-Ok-clause-told c).In-Ok)))
 
 pub returns-in-Ok-clause-readiness : goal.returns-in-Ok-clause-readiness
-returns-in-Ok-clause-readiness c = rw (c.in-Ok.is, sym c.read_from-answer.auto.buffer) at c.took.ensures
+returns-in-Ok-clause-readiness c = rw (sym c.in-Ok.ensures, c.read_from-read.ensures.offered) at c.took.ensures
