@@ -2,7 +2,7 @@
 //!
 //! No contract says what a socket gives and takes, so whether each note is true is seen here by eye.
 
-ghost use Rattle.std.specs.Prelude.{◌≡◌, ◌≢◌, ◌<◌, ◌≤◌, ◌-◌, ◌∷◌, [], ℕ, true, false, not, ◌==◌, length, slice_index_or, Option, Some, None, is_none, option_map, replicate, Ok, IsSome, IfOk, IfErr, OnOk, OnErr};
+ghost use Rattle.std.specs.Prelude.{◌≡◌, ◌≢◌, ◌<◌, ◌≤◌, ◌-◌, ◌∷◌, [], ℕ, true, false, not, ◌==◌, ◌&&◌, length, slice_index_or, Option, Some, None, is_none, option_map, replicate, Ok, IsSome, IfOk, IfErr, OnOk, OnErr};
 ghost use Rattle.iscsi_ports.specs.Binding.{not_located, ExplainsFault};
 ghost use Rattle.std.specs.Net.Socket.{socket_ip, socket_port};
 ghost use Rattle.std.specs.Result.{IsErrOf};
@@ -195,14 +195,15 @@ impl SocketCalls for MioSockets {
 
     ghost events = { λ sockets. items sockets.events };
 
+    ghost rest = { λ sockets. list_all is_none sockets.lingering.places.items && (length sockets.spares.buffers.items == 0) };
+
     fn poll(
         &mut self,
         readiness: &mut Readiness,
         wait: Option<Duration>,
     ) -> Result<(), SocketFailure>
         ensures noted { (handed : Option ℕ) × IsNoLonger handed (option_map as_nanos wait)
-            × (list_all is_none self.old.lingering.places.items ≡ true → length self.old.spares.buffers.items ≡ 0
-            → handed ≡ option_map as_nanos wait)
+            × (⟦<MioSockets as SocketCalls>⟧.rest self.old ≡ true → handed ≡ option_map as_nanos wait)
             × (⟦<MioSockets as SocketCalls>⟧.calls self.new
             ≡ Polling handed (named_by result readiness.new.named) ∷ ⟦<MioSockets as SocketCalls>⟧.calls self.old) }
         ensures turn { OnOk result (IsNamed (⟦<MioSockets as SocketCalls>⟧.events self.new) readiness.old readiness.new) }

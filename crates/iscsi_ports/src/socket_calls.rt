@@ -1,6 +1,6 @@
 //! The calls of the system on a listener and its connections.
 
-ghost use Rattle.std.specs.Prelude.{◌≡◌, ◌<◌, ◌≤◌, ◌++◌, ◌∷◌, ℕ, List, [], length, Option, None, option_map, Ok, IfSome, IfOk, OnOk, OnErr};
+ghost use Rattle.std.specs.Prelude.{◌≡◌, ◌<◌, ◌≤◌, ◌++◌, ◌∷◌, ℕ, List, [], Bool, true, length, Option, None, option_map, Ok, IfSome, IfOk, OnOk, OnErr};
 ghost use Rattle.std.specs.Duration.{as_nanos};
 ghost use Rattle.std.specs.Io.{WritesAtMost};
 ghost use Rattle.iscsi_ports.specs.Log.{Read};
@@ -22,7 +22,7 @@ use std::time::Duration;
 ///
 /// A connection is kept under the number under which it was accepted, 64 among them. A read may take more
 /// from the system than there is room for: the rest is `ahead`, and later reads get it first, with no call.
-/// `events` are those of the last poll.
+/// `events` are those of the last poll. Where the sockets are at `rest`, nothing but its caller bounds how long a poll waits.
 pub trait SocketCalls {
     ghost calls: { Self → List Call };
 
@@ -30,7 +30,9 @@ pub trait SocketCalls {
 
     ghost events: { Self → List Event };
 
-    /// Waits for an event, no longer than this if a time is given, makes known who is ready, and names
+    ghost rest: { Self → Bool };
+
+    /// Waits for an event, no longer than this if a time is given, and as long at rest. Makes known who is ready, and names
     /// those whose turn it is.
     fn poll(
         &mut self,
@@ -40,6 +42,7 @@ pub trait SocketCalls {
         ensures turn { OnOk result (IsNamed (events self.new) readiness.old readiness.new) }
         ensures unseen { OnErr result (readiness.new ≡ readiness.old) }
         ensures noted { (handed : Option ℕ) × IsNoLonger handed (option_map as_nanos wait)
+            × (rest self.old ≡ true → handed ≡ option_map as_nanos wait)
             × (calls self.new ≡ Polling handed (named_by result readiness.new.named) ∷ calls self.old) };
 
     /// Notes that a poll names these of those that are known to be ready.

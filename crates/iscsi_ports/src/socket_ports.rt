@@ -258,6 +258,7 @@ impl<K: SocketCalls + Drop> Ports for SocketPorts<K> {
         ensures log { log_by (K.calls self.new.sockets) ≡ log_by (K.calls self.old.sockets) ++ poll_entry result ∷ [] }
         ensures asked { asks_now self.new.stopwatch.has_passed self.old ≡ true
             → (handed : Option ℕ) × IsNoLonger handed (wait_now self.old)
+            × (K.rest self.old.sockets ≡ true → handed ≡ wait_now self.old)
             × ((named : Result Named SocketFailure) × (K.calls self.new.sockets ≡ Polling handed named ∷ K.calls self.old.sockets)) }
         ensures after_asking { asks_now self.new.stopwatch.has_passed self.old ≡ true
             → self.new ≡ after_asking self.new.sockets self.new.readiness self.new.stopwatch self.old }

@@ -1,6 +1,6 @@
 use Rattle.std.proofs.Common.{◌≡◌, ap, sym, ◌∙◌, Some, not, length, ◌==◌, rules}
 use Rattle.std.specs.Prelude.{nat_lt, option_map}
-use Rattle.std.proofs.lemmas.Bool.{lt-ltb}
+use Rattle.std.proofs.lemmas.Bool.{and_parts, eqb-true, lt-ltb}
 use Rattle.std.specs.Duration.{as_nanos}
 use Rattle.mio.specs.Events.{items}
 use Rattle.iscsi_ports.specs.Polls.{waited_in}
@@ -17,7 +17,10 @@ returns-in-Err-clause-noted c =
     let limited : option_map as_nanos c.wait_beside-wait.result ≡ wait_beside kept drained = c.wait_beside-wait.ensures in (
       option_map as_nanos c.wait_beside-wait.result,
       rw limited (limited_no_longer (nat_lt 0 kept) _ _ c.drain-wait.ensures.no_longer),
-      λ none free. limited ∙ ap (λ n. wait_beside n drained) free ∙ ap (option_map as_nanos) (c.drain-wait.ensures.as_told none),
+      λ rests.
+          let both = and_parts _ (kept == 0) rests in
+          limited ∙ ap (λ n. wait_beside n drained) (eqb-true kept 0 both.1)
+          ∙ ap (option_map as_nanos) (c.drain-wait.ensures.as_told both.0),
       search rules,
     )
 
@@ -28,7 +31,10 @@ returns-clause-noted c =
     let limited : option_map as_nanos c.wait_beside-wait.result ≡ wait_beside kept drained = c.wait_beside-wait.ensures in (
       option_map as_nanos c.wait_beside-wait.result,
       rw limited (limited_no_longer (nat_lt 0 kept) _ _ c.drain-wait.ensures.no_longer),
-      λ none free. limited ∙ ap (λ n. wait_beside n drained) free ∙ ap (option_map as_nanos) (c.drain-wait.ensures.as_told none),
+      λ rests.
+          let both = and_parts _ (kept == 0) rests in
+          limited ∙ ap (λ n. wait_beside n drained) (eqb-true kept 0 both.1)
+          ∙ ap (option_map as_nanos) (c.drain-wait.ensures.as_told both.0),
       search rules,
     )
 

@@ -27,7 +27,8 @@ returns-in-Ok-clause-asked g c =
     λ _. (
       noted.0,
       rw limit at noted.1,
-      (named_by c.poll-answer.result c.poll-answer.new.readiness.named, rw c.is_to_ask-asks.ensures.same at noted.2),
+      λ rests. noted.2 (rw c.is_to_ask-asks.ensures.same rests) ∙ limit,
+      (named_by c.poll-answer.result c.poll-answer.new.readiness.named, rw c.is_to_ask-asks.ensures.same at noted.3),
     )
 
 pub returns-in-Err-clause-asked : goal.returns-in-Err-clause-asked
@@ -37,7 +38,8 @@ returns-in-Err-clause-asked g c =
     λ _. (
       noted.0,
       rw limit at noted.1,
-      (named_by c.poll-answer.result c.poll-answer.new.readiness.named, rw c.is_to_ask-asks.ensures.same at noted.2),
+      λ rests. noted.2 (rw c.is_to_ask-asks.ensures.same rests) ∙ limit,
+      (named_by c.poll-answer.result c.poll-answer.new.readiness.named, rw c.is_to_ask-asks.ensures.same at noted.3),
     )
 
 pub returns-then-not-asks-clause-known : goal.returns-then-not-asks-clause-known
