@@ -4,7 +4,7 @@ use Rattle.std.proofs.lemmas.List.{places, same_lists}
 use Rattle.std.proofs.lemmas.Bool.{and_parts, false≢true}
 use Rattle.std.proofs.lemmas.Bool.Decides.{Decides-eqb}
 use Rattle.media_store.specs.Again.{HasTried, HasFailed, Refused, GivenUp, Tries}
-use Rattle.media_store.specs.Calls.{FileCall, Opened, NotOpened, NotLocked, Measured, NotMeasured, Read, NotRead, Wrote, NotWritten, Resized, NotResized, Synced, NotSynced, GaveUp, SyncRefused}
+use Rattle.media_store.specs.Calls.{FileCall, Opened, NotOpened, Locked, NotLocked, Measured, NotMeasured, Read, NotRead, Wrote, NotWritten, Resized, NotResized, Synced, NotSynced, GaveUp, SyncRefused}
 use Rattle.media_store.specs.Content.{resized, KeepsFront}
 use Rattle.media_store.specs.Ends.{failed_calls}
 use Rattle.media_store.specs.Failures.{risen, counted}
@@ -199,6 +199,7 @@ pub failed-unsynced : (calls : List FileCall) → sync_has_failed calls ≡ true
 failed-unsynced [] lost = absurd (false≢true lost)
 failed-unsynced (Opened path ∷ calls) lost = failed-unsynced calls lost
 failed-unsynced (NotOpened path ∷ calls) lost = failed-unsynced calls lost
+failed-unsynced (Locked ∷ calls) lost = failed-unsynced calls lost
 failed-unsynced (NotLocked ∷ calls) lost = failed-unsynced calls lost
 failed-unsynced (Measured len ∷ calls) lost = failed-unsynced calls lost
 failed-unsynced (NotMeasured interrupted ∷ calls) lost = failed-unsynced calls lost

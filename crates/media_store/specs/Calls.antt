@@ -13,7 +13,8 @@ pub data FileCall : Type 0 where
   -- the file at this path was opened, or was not
   Opened : (path : List ℕ) → FileCall
   NotOpened : (path : List ℕ) → FileCall
-  -- the file was not locked; a lock that was taken has no note
+  -- the file was locked (flock(2)), or was not
+  Locked : FileCall
   NotLocked : FileCall
   -- where the end is, or that it was not told
   Measured : (len : ℕ) → FileCall
@@ -74,6 +75,7 @@ succeeded kind number count bytes =
     else if kind == RESIZE then Resized number
     else if kind == SYNC then Synced
     else if kind == OPEN then Opened bytes
+    else if kind == LOCK then Locked
     else GaveUp
 
 abbrev pub failed : ℕ → ℕ → ℕ → List ℕ → Bool → FileCall

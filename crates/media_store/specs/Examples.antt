@@ -2,7 +2,7 @@
 use Rattle.std.specs.Prelude.{◌≡◌, ◌-◌, ◌^◌, ◌==◌, true, false, List, [], ◌∷◌, slice_index, if◌then◌else◌, refl}
 use Rattle.media_store.specs.Content.{resized, written}
 use Rattle.media_store.specs.Failures.{risen}
-use Rattle.media_store.specs.Calls.{FileCall, Opened, Measured, Read, Wrote, NotWritten, NotResized, Synced, NotSynced, GaveUp, SyncRefused, NotOpened, NotLocked, call_of}
+use Rattle.media_store.specs.Calls.{FileCall, Opened, Locked, Measured, Read, Wrote, NotWritten, NotResized, Synced, NotSynced, GaveUp, SyncRefused, NotOpened, NotLocked, call_of}
 use Rattle.media_store.specs.Replay.{Origin, content_of, is_honest, is_synced}
 
 -- within the content, over its end, and after it
@@ -34,7 +34,7 @@ abbrev pub origin : Origin
 origin = record { held = λ path. if slice_index path 0 == 47 then 1 ∷ 2 ∷ 3 ∷ [] else []; torn = λ _ _. 8 ∷ 9 ∷ 7 ∷ [] }
 
 abbrev pub opened : List FileCall
-opened = Opened (47 ∷ []) ∷ []
+opened = Locked ∷ Opened (47 ∷ []) ∷ []
 
 -- the newest call stands first
 written_and_read : is_honest origin (Read 1 (5 ∷ 3 ∷ []) 2 ∷ Wrote 1 (5 ∷ []) 1 ∷ Read 0 (1 ∷ 2 ∷ []) 2 ∷ Measured 3 ∷ opened) ≡ true
@@ -70,8 +70,9 @@ notes : (call_of (record { numbers = 1 ∷ 7 ∷ 4 ∷ []; bytes = 5 ∷ 6 ∷ [
     × (call_of (record { numbers = 2 ∷ 7 ∷ 4 ∷ []; bytes = []; flags = false ∷ false ∷ [] }) ≡ NotWritten 7 4 false)
     × (call_of (record { numbers = 4 ∷ []; bytes = []; flags = false ∷ true ∷ [] }) ≡ NotSynced true)
     × (call_of (record { numbers = 5 ∷ []; bytes = 47 ∷ []; flags = true ∷ [] }) ≡ Opened (47 ∷ []))
+    × (call_of (record { numbers = 7 ∷ []; bytes = []; flags = true ∷ [] }) ≡ Locked)
     × (call_of (record { numbers = 6 ∷ []; bytes = []; flags = false ∷ [] }) ≡ GaveUp)
     × (call_of (record { numbers = 5 ∷ []; bytes = 47 ∷ []; flags = false ∷ [] }) ≡ NotOpened (47 ∷ []))
     × (call_of (record { numbers = 7 ∷ []; bytes = []; flags = false ∷ [] }) ≡ NotLocked)
     × (call_of (record { numbers = 8 ∷ []; bytes = []; flags = false ∷ [] }) ≡ SyncRefused)
-notes = (refl, refl, refl, refl, refl, refl, refl, refl, refl)
+notes = (refl, refl, refl, refl, refl, refl, refl, refl, refl, refl)

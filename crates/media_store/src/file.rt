@@ -2,7 +2,7 @@
 
 ghost use Rattle.std.specs.Prelude.{◌≡◌, ◌+◌, ◌<◌, ◌≤◌, ◌^◌, ◌∷◌, [], ℕ, List, length, take, true, false, is_ok, IsTrue, IsOk, IsErr, IfOk, OnOk, OnErr, slice_range};
 ghost use Rattle.media_store.specs.Again.{Tries};
-ghost use Rattle.media_store.specs.Calls.{Opened, Measured, NotMeasured, Resized, NotResized, Synced, NotSynced, SyncRefused};
+ghost use Rattle.media_store.specs.Calls.{Opened, Locked, Measured, NotMeasured, Resized, NotResized, Synced, NotSynced, SyncRefused};
 ghost use Rattle.media_store.specs.Content.{resized, written, KeepsOutside, KeepsFront};
 ghost use Rattle.media_store.specs.Ends.{HasEnded};
 ghost use Rattle.media_store.specs.Failures.{counted};
@@ -51,10 +51,10 @@ impl<C: FileCalls, S: Start> Model for FileStore<C, S> {
 }
 
 impl<C: FileCalls, S: Start> FileStore<C, S> {
-    /// Returns the store of a file that was opened for reading and writing, at the path in its calls.
+    /// Returns the store of a file that was opened for reading and writing, at the path in its calls, and locked.
     pub fn new(calls: C) -> FileStore<C, S>
-        ensures { (path : List ℕ) → C.FileCalls.calls calls ≡ Opened path ∷ []
-            → result ≡ record { calls = Opened path ∷ []; content = S.Start.held path; honest = true; synced = false; failures = 0 } }
+        ensures { (path : List ℕ) → C.FileCalls.calls calls ≡ Locked ∷ Opened path ∷ []
+            → result ≡ record { calls = Locked ∷ Opened path ∷ []; content = S.Start.held path; honest = true; synced = false; failures = 0 } }
     {
         FileStore {
             calls,

@@ -4,7 +4,7 @@
 //! notes to the answers; that the call made is the one that is noted, a reader has to see here.
 
 ghost use Rattle.std.specs.Prelude.{◌≡◌, ◌≤◌, ◌∷◌, [], length, IfOk, IfErr};
-ghost use Rattle.media_store.specs.Calls.{Opened, calls_of};
+ghost use Rattle.media_store.specs.Calls.{Opened, Locked, calls_of};
 ghost use Rattle.media_store.specs.Opening.{IsRefused};
 
 use crate::file_calls::FileCalls;
@@ -75,7 +75,7 @@ impl SystemFile {
     /// Fails also if another open of this program or another has locked the file, by whatever path. The note of the
     /// call that failed is returned with its error.
     pub fn open(rt: &impl Files<File = File>, path: &str) -> Result<SystemFile, UnopenedFile>
-        ensures opened { IfOk result (λ opened. opened ≡ Opened path.now ∷ []) }
+        ensures opened { IfOk result (λ opened. opened ≡ Locked ∷ Opened path.now ∷ []) }
         ensures refused { IfErr result (λ unopened. IsRefused path.now (calls_of unopened.noted.calls)) }
     {
         let mut noted = Record::new();
@@ -88,11 +88,14 @@ impl SystemFile {
         };
         noted.note(&[OPEN], path.as_bytes(), &[true]);
         match file.try_lock() {
-            Ok(()) => Ok(SystemFile {
-                file,
-                noted,
-                sync_failed: false,
-            }),
+            Ok(()) => {
+                noted.note(&[LOCK], &[], &[true]);
+                Ok(SystemFile {
+                    file,
+                    noted,
+                    sync_failed: false,
+                })
+            }
             Err(error) => {
                 noted.note(&[LOCK], &[], &[false]);
                 let error = error.into();

@@ -1,5 +1,5 @@
 use Rattle.std.proofs.Common.{◌≡◌, [], ◌∷◌, refl, sym, ap, subst, ◌∙◌, false, string_bytes}
-use Rattle.media_store.specs.Calls.{Opened, calls_of}
+use Rattle.media_store.specs.Calls.{Opened, Locked, calls_of}
 use Rattle.media_store.specs.Opening.{IsRefused}
 use Rattle.media_store.specs.States.{FileState}
 use Rattle.media_block.specs.Blocks.{is_disk, disk_of}
@@ -10,7 +10,7 @@ use Rattle.target_units.proofs.opening.file_disk.Goals as goal
 
 pub returns-in-Ok-open-clause-disk : goal.returns-in-Ok-open-clause-disk
 returns-in-Ok-open-clause-disk g c =
-    let made = c.new.ensures (string_bytes c.args.path) (c.in-Ok.ensures.opened ∙ ap (λ path. Opened path ∷ []) c.as_str.ensures.value) in
+    let made = c.new.ensures (string_bytes c.args.path) (c.in-Ok.ensures.opened ∙ ap (λ path. Locked ∷ Opened path ∷ []) c.as_str.ensures.value) in
     record {
       unfailed = c.in-Ok-open.ensures.failures ∙ ap (λ (s : FileState). s.failures) made;
       whole = λ honest. ap (λ (s : FileState). is_disk s.content) (sym made) ∙ c.in-Ok-open.ensures.disk honest;
@@ -27,7 +27,7 @@ returns-clause-fault g c =
 
 pub returns-in-Ok-clause-fault : goal.returns-in-Ok-clause-fault
 returns-in-Ok-clause-fault g c =
-    let made = c.new.ensures (string_bytes c.args.path) (c.in-Ok.ensures.opened ∙ ap (λ path. Opened path ∷ []) c.as_str.ensures.value) in
+    let made = c.new.ensures (string_bytes c.args.path) (c.in-Ok.ensures.opened ∙ ap (λ path. Locked ∷ Opened path ∷ []) c.as_str.ensures.value) in
     λ failed. rw c.disk_fault.ensures
     (unfit_disk g.S.Start.held (string_bytes c.args.path) c.args.lun c.in-Err-open.unfit.store c.in-Err-open.unfit.fault
     (c.in-Err-open.ensures.given_back ∙ ap (λ (s : FileState). s.content) made)

@@ -1,5 +1,5 @@
 use Rattle.std.proofs.Common.{◌≤◌, length, [], ◌∷◌, refl, sym, ap, subst, ◌∙◌, string_bytes}
-use Rattle.media_store.specs.Calls.{Opened, calls_of}
+use Rattle.media_store.specs.Calls.{Opened, Locked, calls_of}
 use Rattle.media_store.specs.Opening.{IsRefused}
 use Rattle.media_store.specs.States.{FileState}
 use Rattle.media_tape.specs.Items.{items_of, is_tape}
@@ -10,7 +10,7 @@ use Rattle.target_units.proofs.opening.file_tape.Goals as goal
 
 pub returns-in-Ok-open-clause-tape : goal.returns-in-Ok-open-clause-tape
 returns-in-Ok-open-clause-tape g c =
-    let made = c.new.ensures (string_bytes c.args.path) (c.in-Ok.ensures.opened ∙ ap (λ path. Opened path ∷ []) c.as_str.ensures.value) in
+    let made = c.new.ensures (string_bytes c.args.path) (c.in-Ok.ensures.opened ∙ ap (λ path. Locked ∷ Opened path ∷ []) c.as_str.ensures.value) in
     record {
       unfailed = c.in-Ok-open.ensures.failures ∙ ap (λ (s : FileState). s.failures) made;
       set = c.in-Ok-open.ensures.set;
@@ -31,7 +31,7 @@ returns-clause-fault g c =
 
 pub returns-in-Ok-clause-fault : goal.returns-in-Ok-clause-fault
 returns-in-Ok-clause-fault g c =
-    let made = c.new.ensures (string_bytes c.args.path) (c.in-Ok.ensures.opened ∙ ap (λ path. Opened path ∷ []) c.as_str.ensures.value) in
+    let made = c.new.ensures (string_bytes c.args.path) (c.in-Ok.ensures.opened ∙ ap (λ path. Locked ∷ Opened path ∷ []) c.as_str.ensures.value) in
     λ failed. rw c.tape_fault.ensures
     (unfit_tape g.S.Start.held (string_bytes c.args.path) c.args.capacity c.args.early c.args.lun c.in-Err-open.unfit.store c.in-Err-open.unfit.fault
     (c.in-Err-open.ensures.given_back ∙ ap (λ (s : FileState). s.content) made)
