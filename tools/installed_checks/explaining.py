@@ -2,6 +2,7 @@
 
 import fcntl
 import os
+import random
 import re
 import socket
 from contextlib import contextmanager
@@ -277,6 +278,33 @@ def names_the_addresses_of_this_host_in_place_of_all():
             assert not any(address.startswith("127.") or address == "::1" for address in named), told
 
 
+# A configuration with every kind of value, and what is put into it, or in place of a part of it.
+VARIED = ('listen = "127.0.0.1:0"\nlog = "-"\n[[target]]\nname = "a"\n[[target.unit]]\nlun = 0\nkind = "disk"\nserial = "A"\n'
+          "blocks = 8\n[[target.unit]]\nlun = 1\nkind = \"tape\"\nserial = 'B'\ncapacity = 1_000\nearly = 0x10\n# comment\n"
+          '[[target]]\nname = """b"""\nunit = [ { lun = 0, kind = "disk", serial = "C\\u0041", blocks = 0b11 } ]\n[other]\n'
+          'a.b."c d" = [1, 2.5, 1e3, inf, -nan, true, 1979-05-27, 07:32:00, 1979-05-27 07:32:00.999-07:00]\n'
+          "x = { y = 1, z = [ [], {} ] }\nm = '''\nraw'''\n")
+PARTS = ("[", "[[", "]", "]]", "{", "}", "=", ",", '"', "'", '"""', "'''", "\n", "\r\n", "\r", "#", "\\", "\\u00e9", "\\x41", "0x", "0o7",
+         "1__0", "_1", "+5", "-0", "+0x1", "00", "1.", ".5", "1e5", "1e400", "inf", "true", "True", "1979-02-30", "24:00:00", "07:32",
+         ".", "a.b", "\t", "\0", "\x7f", "\u00e9", "\ufeff", "lun", "unit", "9223372036854775807", "9223372036854775808", " ", "blocks = 9",
+         "lun = 0", "[target]", "[[target.unit]]", "[a]", "[a.b]", '"" = 1', "a = 1", "")
+
+
+def gives_the_number_that_the_program_gives_for_varied_lines():
+    pick = random.Random(7)
+    with installed() as top:
+        config = top / "my.toml"
+        for _ in range(400):
+            begin = pick.randrange(len(VARIED))
+            varied = VARIED[:begin] + pick.choice(PARTS) + VARIED[begin + pick.choice((0, 0, 1, 5, 20)):]
+            config.write_bytes(varied.encode())
+            status, _, said = ran(top / "sbin/targetd", "serve", "--config", config, "--turns", "0", cwd=top)
+            found = re.search(r"^targetd: configuration fault (\d)$", said, re.MULTILINE)
+            told = configuration.told_of(str(config), top)
+            assert configuration.number_of(told) == (int(found[1]) if found else None), (varied, said, told)
+            assert any(one.fault for one in told) == (status != 0), (varied, said, told)
+
+
 def configuration_of(run):
     """The path that a run of a case gives to --config, or nothing."""
     words = [word.decode(errors="surrogateescape") if isinstance(word, bytes) else str(word) for word in run.words]
@@ -317,5 +345,6 @@ CHECKS = [
     notes_an_address_on_which_this_configuration_is_served,
     takes_the_files_that_the_program_takes_and_changes_none,
     names_the_addresses_of_this_host_in_place_of_all,
+    gives_the_number_that_the_program_gives_for_varied_lines,
     explains_every_configuration_of_the_cases_by_its_number,
 ]
