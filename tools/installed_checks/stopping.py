@@ -98,6 +98,22 @@ def ends_nothing_but_a_targetd_that_serves():
         assert (status, fault) == (0, "") and "\n    targetd-stop [--wait SECONDS] PID\n" in told
 
 
+def ends_the_first_process_of_a_container():
+    needs("unshare")
+    if ran("unshare", "--pid", "--fork", "true")[0]:
+        raise Skipped("namespace that this user may make")
+    with installed() as top:
+        config = top / "my.toml"
+        config.write_text(SOUND, encoding="ascii")
+        words = ["unshare", "--pid", "--fork", "--kill-child", top / "sbin/targetd", "serve", "--config", config]
+        with server.listening(*words) as running:
+            outer = running.process.pid
+            first = int(Path(f"/proc/{outer}/task/{outer}/children").read_text(encoding="ascii"))
+            assert orderly_stop.is_first(first) and not orderly_stop.is_first(os.getpid())
+            os.kill(first, signal.SIGTERM)
+            assert ran(top / STOP, first) == (0, "", "") and running.process.wait(LIMIT) is not None
+
+
 def ends_no_process_of_another_user():
     if os.geteuid() != 0:
         raise Skipped("root")
@@ -114,5 +130,6 @@ CHECKS = [
     says_that_a_process_did_not_stop_in_time_and_ends_it,
     lets_a_process_go_on_where_it_is_ended_itself,
     ends_nothing_but_a_targetd_that_serves,
+    ends_the_first_process_of_a_container,
     ends_no_process_of_another_user,
 ]

@@ -37,12 +37,22 @@ def send(process, number):
         pass
 
 
+def is_first(process):
+    """Whether a process is the first one of a namespace (pid_namespaces(7)), as in a container: SIGTERM does not end it."""
+    try:
+        status = Path(f"/proc/{process}/status").read_text(encoding="utf-8", errors="replace")
+    except (FileNotFoundError, ProcessLookupError):
+        return False
+    numbers = next((line.split()[1:] for line in status.splitlines() if line.startswith("NSpid:")), [])
+    return len(numbers) > 1 and numbers[-1] == "1"
+
+
 def end(process, patience):
     """Ends a process by SIGTERM, once it has stopped or a number of seconds has passed. Whether it had stopped, or ended."""
     try:
         send(process, signal.SIGSTOP)
         has_stopped = reaches(process, STOPPED + OVER, patience)
-        send(process, signal.SIGTERM)
+        send(process, signal.SIGKILL if has_stopped and is_first(process) else signal.SIGTERM)
     finally:
         send(process, signal.SIGCONT)  # it does not stay stopped, also if this program is ended meanwhile
     return has_stopped
