@@ -121,6 +121,54 @@ def upgrades_while_a_host_writes_a_tape_and_tears_nothing(package, later):
         assert not found.fault and found.records in (count, count + 1), (found, count)
 
 
+def upgrades_and_restarts_nothing_that_is_not_to_or_could_not_come_back(package, later):
+    with room() as one:
+        served(one, package)
+        one.run("systemctl", "enable", "--now", "targetd")
+        before, config = one.processes(), one.at(CONFIG).read_text(encoding="ascii")
+        drop_in = one.at("etc/systemd/system/targetd.service.d/fenced.conf")
+        drop_in.parent.mkdir(parents=True)
+        drop_in.write_text("[Service]\nRestart=no\n", encoding="ascii")
+        said = one.install(later)
+        assert "is not restarted, as it has Restart=no" in said and one.processes() == before, said
+        assert f"process {before[0]} runs the program from before" in said, said
+        drop_in.unlink()
+        one.at(CONFIG).write_text(f"{config}lun = 7\n", encoding="ascii")
+        said = one.install(package)
+        assert "is not restarted: targetd-explain-config finds a fault" in said and one.processes() == before, said
+        one.at(CONFIG).write_text(config, encoding="ascii")
+        said = one.install(later)
+        assert "is restarted, by targetd-stop" in said and "was not restarted" not in said, said
+        after = one.processes()
+        assert len(after) == 1 and after != before, (before, after)
+        assert not [call for call in one.calls() if call.split()[-2:] == ["start", "targetd.service"]], one.calls()
+
+
+def ends_what_runs_a_program_from_before_an_upgrade(package, later):
+    with room(systemd=False) as one:
+        served(one, package)
+        process = one.serve()
+        one.install(later)
+        assert process.poll() is None
+        said = one.dpkg("--remove", "targetd")
+        assert "is ended, by targetd-stop" in said and process.wait(LIMIT) is not None and not one.processes(), said
+
+
+def purges_what_is_its_own_and_no_other(package, _):
+    with room() as one:
+        served(one, package)
+        one.at("var/log/targetd/old.log").mkdir()
+        one.dpkg("--purge", "targetd")
+        assert one.at("var/log/targetd/old.log").is_dir() and one.run("dpkg", "--audit") == ""
+        one.run("rm", "-r", "/var/log/targetd")
+        one.at("srv/logs").mkdir(parents=True)
+        one.at("srv/logs/database.log").touch()
+        one.at("var/log/targetd").symlink_to("/srv/logs")
+        one.install(package)
+        one.dpkg("--purge", "targetd")
+        assert one.at("srv/logs/database.log").exists()
+
+
 def removes_and_purges_and_leaves_the_disks(package, _):
     with room() as one:
         served(one, package, '"/var/log/targetd/log"')
@@ -224,6 +272,12 @@ def installs_the_archive_by_its_script(package, _, archive):
         shutil.copy(package, one.at("root"))
         said = one.dpkg("--force-confold", "--install", f"/root/{package.name}")
         assert "below /usr/local goes before this one" in said, said[-600:]
+        one.run("chown", "targetd:targetd", f"/{DISKS}/disk")
+        process = one.serve("/usr/local/sbin/targetd")
+        said = one.run(script, "--remove", status=1)
+        assert "serves by this program: end it first" in said and one.at("usr/local/bin/targetd-stop").exists(), said
+        one.run("targetd-stop", one.processes()[0])
+        process.wait(LIMIT)
         one.run(script, "--remove")
         assert not list(one.at("usr/local").rglob("*targetd*")) and one.at(CONFIG).exists() and one.at(f"{DISKS}/disk").exists()
 
@@ -234,6 +288,9 @@ CHECKS = [
     keeps_the_disk_of_the_example_as_its_comments_say,
     upgrades_while_a_host_writes_and_loses_nothing,
     upgrades_while_a_host_writes_a_tape_and_tears_nothing,
+    upgrades_and_restarts_nothing_that_is_not_to_or_could_not_come_back,
+    ends_what_runs_a_program_from_before_an_upgrade,
+    purges_what_is_its_own_and_no_other,
     removes_and_purges_and_leaves_the_disks,
     purges_while_it_serves_without_systemd,
     installs_beside_a_user_that_is_there_already,

@@ -115,9 +115,9 @@ class Room:
                 continue
         return found
 
-    def serve(self):
+    def serve(self, program="/usr/sbin/targetd"):
         """Serves by hand, with the command of the unit. Gives the process."""
-        process = subprocess.Popen(["chroot", "--userspec=targetd:targetd", self.path, "/usr/sbin/targetd", "serve", "--config",
+        process = subprocess.Popen(["chroot", "--userspec=targetd:targetd", self.path, program, "serve", "--config",
                                     "/etc/targetd.toml"], stdin=subprocess.DEVNULL, stdout=subprocess.PIPE,
                                    stderr=subprocess.DEVNULL, text=True, env=ENVIRONMENT)
         assert process.stdout.readline().startswith("listening on "), process.poll()

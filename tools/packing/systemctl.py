@@ -60,6 +60,13 @@ def enable():
     LINK.symlink_to(UNIT)
 
 
+def restarts():
+    """When the unit is restarted, by its last drop-in that says so, or by itself."""
+    said = [path.read_text(encoding="utf-8") for path in sorted(Path("/etc/systemd/system/targetd.service.d").glob("*.conf"))]
+    found = re.findall("^Restart=(.*)$", "\n".join(said), re.MULTILINE)
+    return found[-1] if found else line_of("Restart")
+
+
 def main(words):
     with open("/run/calls", "a", encoding="ascii") as calls:
         print(*words, file=calls)
@@ -67,6 +74,8 @@ def main(words):
     names = [word for word in words if word.endswith((".service", "targetd"))]
     if verb == "list-units" and running():
         print("targetd.service loaded active running iSCSI target")
+    if verb == "show":
+        print(running() or 0 if "--property=MainPID" in words else restarts())
     if verb == "is-enabled":
         print("enabled" if os.path.lexists(LINK) else "disabled")
     if verb == "is-active":
