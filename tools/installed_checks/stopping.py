@@ -102,6 +102,8 @@ def ends_the_first_process_of_a_container():
     needs("unshare")
     if ran("unshare", "--pid", "--fork", "true")[0]:
         raise Skipped("namespace that this user may make")
+    if not Path("/proc/self/task").joinpath(str(os.getpid()), "children").exists():
+        raise Skipped("list of the children of a process in /proc")
     with installed() as top:
         config = top / "my.toml"
         config.write_text(SOUND, encoding="ascii")
