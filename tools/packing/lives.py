@@ -262,13 +262,13 @@ def installs_the_archive_by_its_script(package, _, archive):
         one.run("tar", "--directory", "/root", "-xzf", f"/root/{archive.name}")
         script = f"/root/targetd-{version()}-x86_64/install"
         assert one.run(script, "--all", status=2) and one.run(script)
-        example = one.at("usr/local/share/doc/targetd/targetd.toml").read_text(encoding="ascii")
+        example = one.at("usr/local/share/targetd/targetd.toml").read_text(encoding="ascii")
         one.at(f"{DISKS}/disk").write_bytes(bytes(BLOCK))
         one.at(CONFIG).write_text(example, encoding="ascii")
         assert one.run("targetd-explain-config", f"/{CONFIG}") == f"/{CONFIG}: targetd takes it\n"
         assert re.search('^serial = "[0-9a-f]{16}"$', example, re.MULTILINE), example
         assert one.run("getent", "passwd", "targetd") and one.run(script)
-        assert one.at("usr/local/share/doc/targetd/targetd.toml").read_text(encoding="ascii") == example
+        assert one.at("usr/local/share/targetd/targetd.toml").read_text(encoding="ascii") == example
         shutil.copy(package, one.at("root"))
         said = one.dpkg("--force-confold", "--install", f"/root/{package.name}")
         assert "below /usr/local goes before this one" in said, said[-600:]
