@@ -35,10 +35,11 @@ def offering(offer):
 
 
 class Watch:
-    """Counts the R2Ts of each command that are open, and acts when as many are as can be."""
+    """Counts the R2Ts of each command that are open. It acts when as many are as can be, and goes on at a function."""
 
     def __init__(self, offer, act=lambda: None):
         self.enough, self.act = min(offer, MOST), act
+        self.go_on = lambda: None
         self.open, self.most = defaultdict(set), 0
         self.at_function, self.at_answer = None, None
 
@@ -59,6 +60,7 @@ class Watch:
             self.open.pop(task, None)
         elif (event.side, opcode) == (SENT, FUNCTION):
             self.at_function = max(map(len, self.open.values()), default=0)
+            self.go_on()
         elif (event.side, opcode) == (ANSWERED, FUNCTION_ANSWER):
             self.at_answer = max(map(len, self.open.values()), default=0)
 
@@ -87,7 +89,11 @@ def is_removed(removal, program, offer, function):
             with relaying(("127.0.0.1", disks.port), watch.see, rewrites=offering(offer)) as relay:
                 with subprocess.Popen([removal, disks.url(disk, 0, relay.port), str(function)],
                                       stdin=subprocess.DEVNULL, stderr=subprocess.PIPE, text=True) as process:
-                    watch.act = lambda: process.send_signal(signal.SIGUSR1)
+                    def act(relay=relay, process=process):
+                        relay.stall()  # the WRITE cannot end before the function is sent: the last R2T waits for that
+                        process.send_signal(signal.SIGUSR1)
+
+                    watch.act, watch.go_on = act, relay.go_on
                     _, said = process.communicate(timeout=LIMIT)
             must(process.returncode == 0, (disk, function, process.returncode, said))
             must(watch.at_function == watch.enough, (disk, f"{watch.at_function} R2Ts were open at the function"))
