@@ -1,5 +1,3 @@
 mod NumberSet
 mod Marked
 mod Ahead
-mod Whole
-mod Counting

@@ -2,4 +2,4 @@ mod Split
 pub mod Taking
 pub mod Gathering
 pub mod Fronts
-pub mod Whole
+pub mod Counting

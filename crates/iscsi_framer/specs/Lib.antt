@@ -1,1 +1,2 @@
 pub mod Framer
+pub mod Passing

@@ -7,4 +7,3 @@ pub use Rattle.iscsi_world.proofs.Standing
 mod Rooms
 mod Pieces
 mod Rows
-mod Bytes

@@ -143,7 +143,10 @@ impl<S: Store> Target<S> {
         if !self.reads(c) {
             return Ok(());
         }
-        let taken = self.take_piece(c, piece);
+        if let Err(Memory) = self.keep(c, piece) {
+            return Err(self.starve(c));
+        }
+        let taken = self.take_frames(c);
         self.forget_unneeded(c);
         taken
     }
@@ -177,7 +180,7 @@ impl<S: Store> Target<S> {
         ensures { (before : Machine) → LacksRoom c lent before self.old → TakesPiece c (filled_in lent count) result before self.new }
     {
         self.take_room(c, lent, count);
-        self.take_piece(c, &[])
+        self.take_frames(c)
     }
 
     /// Takes back the buffer that [`Target::lend_room`] lent to a reader to whom nothing came.

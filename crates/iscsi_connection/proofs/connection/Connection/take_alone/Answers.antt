@@ -1,0 +1,17 @@
+use Rattle.std.proofs.Common.{◌≡◌, ◌∙◌, true, sym, ap}
+use Rattle.iscsi_world.specs.Machine.{LinkState, is_reading}
+use Rattle.iscsi_world.proofs.Choices.{cond_true}
+use Rattle.iscsi_connection.specs.Arriving.{bytes_in}
+use Rattle.iscsi_connection.proofs.Ahead.{may_serve}
+use Rattle.iscsi_connection.proofs.connection.Connection.take_alone.Goals as goal
+
+pub returns-clause-given : goal.returns-clause-given
+returns-clause-given c =
+    let reading : is_reading c.self.inside.phase ≡ true = ap (λ (l : LinkState). is_reading l.phase) c.self.view_is ∙ c.requires.reads in
+    let old : c.args.self.now.half ≡ bytes_in c.self.inside.arriving = sym (ap (λ (l : LinkState). l.half) c.self.view_is) ∙ cond_true _ _ _ reading in
+    rw old c.take_alone.ensures.given
+
+pub returns-clause-serves : goal.returns-clause-serves
+returns-clause-serves c =
+    let phase = ap (λ (l : LinkState). l.phase) c.self.view_is in
+    rw (← phase) (may_serve (λ arrived. arrived) c.self.inside.phase c.take_alone.result c.self.inside.arriving.passing c.self.invariant c.take_alone.ensures.passed)
