@@ -1,3 +1,5 @@
 mod NumberSet
 mod Marked
 mod Ahead
+mod Whole
+mod Counting

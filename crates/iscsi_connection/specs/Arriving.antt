@@ -1,8 +1,7 @@
 -- The bytes of a connection that have come and are not taken.
-use Rattle.std.specs.Prelude.{◌≡◌, ◌⊎◌, ℕ, List, [], ◌++◌, length, take, true, false, Option, None, Some, ⊤}
+use Rattle.std.specs.Prelude.{◌≡◌, ◌<◌, ℕ, List, length, take, Bool, true, false, ⊤}
 use Rattle.iscsi_pdu.specs.Header.{header_length, data_length, opcode_number}
-use Rattle.iscsi_pdu.specs.Frames.{Frame, has_frame, frame_length}
-use Rattle.iscsi_framer.specs.Passing.{IsPassing}
+use Rattle.iscsi_pdu.specs.Frames.{Frame}
 use Rattle.iscsi_session.specs.Unread.{takes_in}
 use Rattle.iscsi_transfer.specs.Counted.{brought}
 use Rattle.iscsi_world.specs.declared.phase.Phase.{Phase}
@@ -11,23 +10,9 @@ use Rattle.iscsi_connection.specs.declared.arriving.Arrived.{Arrived}
 use Rattle.iscsi_connection.specs.declared.arriving.Arrived.TheVariants.{Whole, Passed}
 
 pub record ArrivingState : Type 0 where
-  -- a Data-Out of which only the header and the number of bytes are kept; none if there is no such
-  pub passing : List ℕ
-  -- the bytes after it
-  pub after : List ℕ
-
-abbrev pub bytes_in : ArrivingState → List ℕ
-bytes_in arriving = arriving.passing ++ arriving.after
-
--- these bytes are one PDU, which is whole
-pub record IsAlone (bytes : List ℕ) : Type 0 where
-  pub whole : has_frame bytes ≡ true
-  pub alone : frame_length bytes ≡ length bytes
-
--- the bytes after a PDU that was taken
-abbrev pub rest_in : Option (List ℕ) → List ℕ
-rest_in None = []
-rest_in (Some bytes) = bytes
+  pub bytes : List ℕ
+  -- of a Data-Out in front only the header and the number of bytes are kept
+  pub is_counted : Bool
 
 abbrev pub frame_of : Arrived → Frame
 frame_of (Whole frame) = frame
@@ -44,14 +29,15 @@ IsUntaken (Login login) out = ⊤
 IsUntaken (FullFeature session) out = takes_in session.transfers out ≡ false
 IsUntaken Closing out = ⊤
 
--- if a Data-Out is only counted, no command takes it
-abbrev pub CanPass : Phase → List ℕ → Type 0
-CanPass phase passing = (passing ≡ []) ⊎ IsUntaken phase (out_in passing)
+-- if a Data-Out is only counted, its header is there, and no command takes it
+abbrev pub CanPass : Phase → ArrivingState → Type 0
+CanPass phase arriving = arriving.is_counted ≡ true → (header_length < length arriving.bytes) × IsUntaken phase (out_in arriving.bytes)
 
 -- a Data-Out that was only counted is that one
-abbrev pub IsOfPassing : Arrived → List ℕ → Type 0
-IsOfPassing (Whole frame) passing = ⊤
-IsOfPassing (Passed out) passing = (out.header ≡ take header_length passing) × IsPassing passing
+abbrev pub IsOfCounted : Arrived → ArrivingState → Type 0
+IsOfCounted (Whole frame) arriving = ⊤
+IsOfCounted (Passed out) arriving =
+    (arriving.is_counted ≡ true) × (opcode_number out.header ≡ 0x05) × (out.header ≡ take header_length arriving.bytes)
 
 -- what was taken may be served: no command takes a Data-Out that was only counted
 abbrev pub MayServe : Phase → Arrived → Type 0

@@ -1,22 +1,24 @@
 //! The bytes of a connection that have come and are not taken.
 
-ghost use Rattle.std.specs.Prelude.{◌≡◌, ◌+◌, ◌≤◌, ◌++◌, ℕ, List, [], length, take, drop, true, Some, None, IfOk, IfSome, IfNone, OnOk, OnErr};
+ghost use Rattle.std.specs.Prelude.{◌≡◌, ◌+◌, ◌≤◌, ◌↔◌, ◌++◌, [], length, take, drop, true, false, IfOk, IfSome, IfNone, OnOk, OnErr};
+ghost use Rattle.std.specs.Result.{IsErrOf};
 ghost use Rattle.iscsi_pdu.specs.Header.{header_length};
 ghost use Rattle.iscsi_pdu.specs.Frames.{has_frame, is_long, wanted};
-ghost use Rattle.iscsi_framer.specs.Passing.{IsPassing};
 ghost use Rattle.iscsi_world.specs.History.{arrivals};
 ghost use Rattle.iscsi_world.specs.Machine.{GivesFrame};
 ghost use Rattle.iscsi_world.specs.declared.phase.Phase.{Phase};
-ghost use Rattle.iscsi_connection.specs.Passing.{IsInFront};
-ghost use Rattle.iscsi_connection.specs.Arriving.{ArrivingState, bytes_in, rest_in, frame_of, IsAlone, IsUntaken, CanPass, IsOfPassing, out_in};
+ghost use Rattle.iscsi_framer.specs.Framer.{HoldsNoMore};
+ghost use Rattle.iscsi_connection.specs.Passing.{IsHalfRead};
+ghost use Rattle.iscsi_connection.specs.Arriving.{frame_of, CanPass, IsUntaken, IsOfCounted, out_in};
 
+use crate::passed::PassedDataOut;
+use call_record::Record;
 use data_parts::SpareBuffers;
-use iscsi_framer::{FrameRoom, Framer, Front, PassedDataOut, PassingDataOut};
-use iscsi_pdu::{Frame, Header};
+use iscsi_framer::{FrameRoom, Framer};
+use iscsi_pdu::{Frame, HEADER_LENGTH, Header, Part, PduFault};
 use std::alloc::Global;
 use std::marker::Model;
 use std::mem;
-use target_limits::Memory;
 
 /// A PDU that has come.
 #[derive(Drop)]
@@ -27,87 +29,158 @@ pub enum Arrived {
     Passed(PassedDataOut),
 }
 
-/// A PDU that was taken, and the bytes after it.
+/// A PDU that was taken with the next bytes of a piece.
 #[derive(Drop)]
 pub struct Taken {
     /// The PDU.
     pub arrived: Arrived,
-    /// The bytes after it, if there are any.
-    pub rest: Option<Framer>,
+    /// How many bytes of the piece were used.
+    pub used: usize,
 }
 
 /// The bytes of a connection that have come and are not taken. Of a Data-Out in front whose data nobody needs, only the
 /// header and the number of bytes are kept. Clauses see all bytes.
 #[derive(Drop)]
 pub(crate) struct Arriving {
-    /// The Data-Out in front, if it is only counted.
-    passing: Option<PassingDataOut>,
-    /// The bytes after it.
     framer: Framer,
-    alloc: Global,
+    /// Whether a Data-Out in front is only counted.
+    is_counted: bool,
+    /// The bytes after its header, if it is. No memory holds them.
+    noted: Record,
 }
 
 impl Model for Arriving {
-    ghost use Rattle.iscsi_connection.specs.Passing.{IsInFront};
-    ghost use Rattle.iscsi_connection.specs.Arriving.{ArrivingState, rest_in};
+    ghost use Rattle.std.specs.Prelude.{◌≡◌, ◌++◌, true, take, if◌then◌else◌};
+    ghost use Rattle.iscsi_pdu.specs.Header.{header_length};
+    ghost use Rattle.iscsi_connection.specs.Passing.{bytes_noted, IsCounted};
+    ghost use Rattle.iscsi_connection.specs.Arriving.{ArrivingState};
 
     ghost Value = { ArrivingState };
 
-    ghost view = { λ a. record { passing = rest_in a.passing; after = a.framer } };
+    ghost view = { λ a. record {
+      bytes = if a.is_counted then take header_length a.framer ++ bytes_noted a.noted.calls else a.framer;
+      is_counted = a.is_counted;
+    } };
 
-    ghost invariant = { λ a. IsInFront a.passing a.framer };
-}
-
-/// Counts the bytes of a piece that belong to a Data-Out in front. Returns their number.
-fn count(passing: &mut Option<PassingDataOut>, piece: &[u8]) -> usize
-    ensures within { result ≤ length piece.now }
-    ensures bytes { (after : List ℕ) → IsInFront passing.old after
-        → rest_in passing.new ++ (after ++ drop result piece.now) ≡ rest_in passing.old ++ (after ++ piece.now) }
-    ensures front { (after : List ℕ) → IsInFront passing.old after → IsInFront passing.new (after ++ drop result piece.now) }
-    ensures passing { (phase : Phase) (after : List ℕ) → IsInFront passing.old after → CanPass phase (rest_in passing.old)
-        → CanPass phase (rest_in passing.new) }
-{
-    match passing {
-        Some(passing) => passing.count(piece),
-        None => 0,
-    }
+    ghost invariant = { λ a. a.is_counted ≡ true → IsCounted a.framer (take header_length a.framer ++ bytes_noted a.noted.calls) };
 }
 
 impl Arriving {
     /// Returns no bytes. Allocates nothing.
     pub(crate) fn new(alloc: Global) -> Arriving
-        ensures { result ≡ record { passing = []; after = [] } }
+        ensures { result ≡ record { bytes = []; is_counted = false } }
     {
         Arriving {
-            passing: None,
             framer: Framer::new(alloc),
-            alloc,
+            is_counted: false,
+            noted: Record::new(),
         }
     }
 
-    /// Keeps a further piece of the bytes, or their number. If an allocation fails, other bytes may be kept than before.
-    pub(crate) fn keep(&mut self, piece: &[u8], spares: &mut SpareBuffers) -> Result<(), Memory>
-        ensures ok { OnOk result (bytes_in self.new ≡ bytes_in self.old ++ piece.now) }
-        ensures passing { (phase : Phase) → CanPass phase self.old.passing → CanPass phase self.new.passing }
+    /// Takes the next bytes of a piece, up to the end of the PDU in front, and that PDU if it is whole with them. If it is
+    /// not, all of the piece is kept, or its number of bytes. A fault changes nothing.
+    pub(crate) fn take(
+        &mut self,
+        piece: &[u8],
+        spares: &mut SpareBuffers,
+    ) -> Result<Option<Taken>, PduFault>
+        requires { HoldsNoMore self.old.bytes }
+        ensures within { IfOk result (λ o. IfSome o (λ t. t.used ≤ length piece.now)) }
+        ensures given { IfOk result (λ o. IfSome o (λ t. GivesFrame (frame_of t.arrived) (self.old.bytes ++ piece.now) (drop t.used piece.now))) }
+        ensures left { IfOk result (λ o. IfSome o (λ _. self.new ≡ record { bytes = []; is_counted = false })) }
+        ensures passed { IfOk result (λ o. IfSome o (λ t. IsOfCounted t.arrived self.old)) }
+        ensures kept { IfOk result (λ o. IfNone o (self.new ≡ record self.old { bytes = self.old.bytes ++ piece.now })) }
+        ensures part { IfOk result (λ o. IfNone o (arrivals (self.old.bytes ++ piece.now) ≡ [])) }
+        ensures too_long { IsErrOf result PduFault.TooLong ↔ (is_long (self.old.bytes ++ piece.now) ≡ true) }
+        ensures passing { (phase : Phase) → CanPass phase self.old → CanPass phase self.new }
+        ensures err { OnErr result (self.new ≡ self.old) }
     {
-        let counted = count(&mut self.passing, piece);
-        // The framer reports no other fault here.
-        if self.framer.feed_with(&piece[counted..], spares).is_err() {
-            return Err(Memory);
+        if self.is_counted {
+            return self.count(piece);
         }
-        Ok(())
+        let (used, frame) = self.framer.take_frame(piece, spares)?;
+        let Some(frame) = frame else {
+            return Ok(None);
+        };
+        Ok(Some(Taken {
+            arrived: Arrived::Whole(frame),
+            used,
+        }))
+    }
+
+    /// Counts the next bytes of a Data-Out in front, as [`Arriving::take`] does.
+    fn count(&mut self, piece: &[u8]) -> Result<Option<Taken>, PduFault>
+        requires { self.old.is_counted ≡ true }
+        ensures within { IfOk result (λ o. IfSome o (λ t. t.used ≤ length piece.now)) }
+        ensures given { IfOk result (λ o. IfSome o (λ t. GivesFrame (frame_of t.arrived) (self.old.bytes ++ piece.now) (drop t.used piece.now))) }
+        ensures left { IfOk result (λ o. IfSome o (λ _. self.new ≡ record { bytes = []; is_counted = false })) }
+        ensures passed { IfOk result (λ o. IfSome o (λ t. IsOfCounted t.arrived self.old)) }
+        ensures kept { IfOk result (λ o. IfNone o (self.new ≡ record self.old { bytes = self.old.bytes ++ piece.now })) }
+        ensures part { IfOk result (λ o. IfNone o (arrivals (self.old.bytes ++ piece.now) ≡ [])) }
+        ensures too_long { IsErrOf result PduFault.TooLong ↔ (is_long (self.old.bytes ++ piece.now) ≡ true) }
+        ensures passing { (phase : Phase) → CanPass phase self.old → CanPass phase self.new }
+        ensures err { OnErr result (self.new ≡ self.old) }
+    {
+        let mut used = 0;
+        loop {
+            let (more, part) = self.framer.take(&piece[used..])?;
+            self.noted.note(&[], &piece[used..][..more], &[]);
+            used += more;
+            match part {
+                Part::Data(_, _) => {}
+                Part::End(header) => {
+                    self.is_counted = false;
+                    let noted = mem::replace(&mut self.noted, Record::new());
+                    return Ok(Some(Taken {
+                        arrived: Arrived::Passed(PassedDataOut::new(header, noted)),
+                        used,
+                    }));
+                }
+                Part::Nothing | Part::Frame(_) => return Ok(None),
+            }
+        }
+    }
+
+    /// Returns whether a piece may bring more of a PDU than its header, so that a buffer is of use: bytes are kept, or it
+    /// begins with a header that names additional headers or data (RFC 7143 §11.2.1).
+    pub(crate) fn wants_buffer(&self, piece: &[u8]) -> bool {
+        if piece.len() <= HEADER_LENGTH {
+            return false;
+        }
+        piece[4] | piece[5] | piece[6] | piece[7] != 0 || !self.framer.is_empty()
+    }
+
+    /// Returns whether more is kept than one PDU.
+    pub(crate) fn holds_more(&self) -> bool
+        ensures no { result ≡ false → HoldsNoMore self.now.bytes }
+        ensures yes { result ≡ true → has_frame self.now.bytes ≡ true }
+    {
+        if self.is_counted {
+            return false;
+        }
+        self.framer.holds_more()
+    }
+
+    /// Takes all bytes, and those of a piece after them.
+    pub(crate) fn take_all(&mut self, piece: &[u8]) -> Result<Vec<u8>, PduFault>
+        requires { has_frame self.old.bytes ≡ true }
+        ensures bytes { IfOk result (λ bytes. bytes.items ≡ self.old.bytes ++ piece.now) }
+        ensures none { OnOk result (self.new ≡ record { bytes = []; is_counted = false }) }
+        ensures err { OnErr result (self.new ≡ self.old) }
+    {
+        self.framer.take_all(piece)
     }
 
     /// Lends the buffer of a half-read PDU to a reader, as [`Framer::lend_room`] does.
     pub(crate) fn lend_room(&mut self, room: usize, spares: &mut SpareBuffers) -> Option<FrameRoom>
-        ensures bytes { IfSome result (λ lent. bytes_in self.old ≡ bytes_in self.new ++ take lent.from lent.buffer.items) }
-        ensures header { IfSome result (λ _. length (bytes_in self.new) ≡ header_length) }
+        ensures bytes { IfSome result (λ lent. self.old.bytes ≡ self.new.bytes ++ take lent.from lent.buffer.items) }
+        ensures header { IfSome result (λ _. length self.new.bytes ≡ header_length) }
         ensures room { IfSome result (λ lent. lent.to ≡ lent.from + room) }
         ensures within { IfSome result (λ lent. lent.to ≤ length lent.buffer.items) }
-        ensures passing { IfSome result (λ _. self.new.passing ≡ []) }
+        ensures counted { IfSome result (λ _. self.new.is_counted ≡ false) }
         ensures none { IfNone result (self.new ≡ self.old) }
     {
-        if self.passing.is_some() {
+        if self.is_counted {
             return None;
         }
         self.framer.lend_room(room, spares)
@@ -115,137 +188,19 @@ impl Arriving {
 
     /// Takes back the buffer of a half-read PDU, of which the reader has filled `count` bytes.
     pub(crate) fn take_room(&mut self, lent: FrameRoom, count: usize)
-        requires header { length (bytes_in self.old) ≡ header_length }
+        requires header { length self.old.bytes ≡ header_length }
         requires within { lent.from + count ≤ length lent.buffer.items }
-        ensures bytes { bytes_in self.new ≡ bytes_in self.old ++ take (lent.from + count) lent.buffer.items }
-        ensures passing { self.new.passing ≡ [] }
+        ensures { self.new ≡ record { bytes = self.old.bytes ++ take (lent.from + count) lent.buffer.items; is_counted = false } }
     {
         self.framer.take_room(lent, count);
     }
 
-    /// Returns what stands in front of the bytes.
-    pub(crate) fn front(&self) -> Front
-        ensures part { result ≡ Front.Part → arrivals (bytes_in self.now) ≡ [] }
-        ensures alone { result ≡ Front.Alone → IsAlone (bytes_in self.now) }
-        ensures followed { result ≡ Front.Followed → has_frame (bytes_in self.now) ≡ true }
-        ensures long { result ≡ Front.TooLong → is_long (bytes_in self.now) ≡ true }
-    {
-        match &self.passing {
-            None => self.framer.front(),
-            Some(passing) if !passing.is_whole() => Front::Part,
-            Some(_) if self.framer.is_empty() => Front::Alone,
-            Some(_) => Front::Followed,
-        }
-    }
-
-    /// Takes the PDU that has come, after which no byte has.
-    pub(crate) fn take_alone(&mut self) -> Result<Arrived, Memory>
-        requires { IsAlone (bytes_in self.old) }
-        ensures given { IfOk result (λ arrived. GivesFrame (frame_of arrived) (bytes_in self.old) []) }
-        ensures left { OnOk result (self.new ≡ record { passing = []; after = [] }) }
-        ensures passed { IfOk result (λ arrived. IsOfPassing arrived self.old.passing) }
-        ensures err { OnErr result (self.new ≡ self.old) }
-    {
-        if self.passing.is_some() {
-            return self.take_passing();
-        }
-        self.take_frame()
-    }
-
-    /// Takes the PDU that has come, of which all bytes are kept, and after which no byte has come.
-    fn take_frame(&mut self) -> Result<Arrived, Memory>
-        requires alone { IsAlone (bytes_in self.old) }
-        requires kept { self.old.passing ≡ [] }
-        ensures given { IfOk result (λ arrived. GivesFrame (frame_of arrived) (bytes_in self.old) []) }
-        ensures left { OnOk result (self.new ≡ record { passing = []; after = [] }) }
-        ensures passed { IfOk result (λ arrived. IsOfPassing arrived self.old.passing) }
-        ensures err { OnErr result (self.new ≡ self.old) }
-    {
-        match self.framer.take_first() {
-            Ok(frame) => Ok(Arrived::Whole(frame)),
-            // The framer reports no other fault here.
-            Err(_) => Err(Memory),
-        }
-    }
-
-    /// Takes a Data-Out that was only counted, and after which no byte has come, or any other PDU.
-    #[inline(never)]
-    fn take_passing(&mut self) -> Result<Arrived, Memory>
-        requires { IsAlone (bytes_in self.old) }
-        ensures given { IfOk result (λ arrived. GivesFrame (frame_of arrived) (bytes_in self.old) []) }
-        ensures left { OnOk result (self.new ≡ record { passing = []; after = [] }) }
-        ensures passed { IfOk result (λ arrived. IsOfPassing arrived self.old.passing) }
-        ensures err { OnErr result (self.new ≡ self.old) }
-    {
-        match self.passing.take() {
-            Some(passing) => Ok(Arrived::Passed(passing.into_passed())),
-            None => self.take_frame(),
-        }
-    }
-
-    /// Takes the first PDU, which is whole, with all bytes after it.
-    pub(crate) fn take_pdu(&mut self) -> Result<Taken, Memory>
-        requires { has_frame (bytes_in self.old) ≡ true }
-        ensures given { IfOk result (λ t. GivesFrame (frame_of t.arrived) (bytes_in self.old) (rest_in t.rest)) }
-        ensures left { OnOk result (self.new ≡ record { passing = []; after = [] }) }
-        ensures passed { IfOk result (λ t. IsOfPassing t.arrived self.old.passing) }
-        ensures err { OnErr result (self.new ≡ self.old) }
-    {
-        match self.passing.take() {
-            Some(passing) => Ok(self.take_passed(passing)),
-            None => match self.framer.take_first() {
-                Ok(frame) => Ok(Taken {
-                    arrived: Arrived::Whole(frame),
-                    rest: self.take_rest(),
-                }),
-                // The framer reports no other fault here.
-                Err(_) => Err(Memory),
-            },
-        }
-    }
-
-    /// Returns a Data-Out that was in front and is whole, with all bytes after it, which it takes.
-    #[inline(never)]
-    fn take_passed(&mut self, passing: PassingDataOut) -> Taken
-        requires none { self.old.passing ≡ [] }
-        requires passing { IsPassing passing }
-        requires whole { has_frame passing ≡ true }
-        ensures given { GivesFrame (frame_of result.arrived) (passing ++ self.old.after) (rest_in result.rest) }
-        ensures left { self.new ≡ record { passing = []; after = [] } }
-        ensures passed { IsOfPassing result.arrived passing }
-    {
-        Taken {
-            arrived: Arrived::Passed(passing.into_passed()),
-            rest: self.take_rest(),
-        }
-    }
-
-    /// Takes the bytes after a PDU, if there are any.
-    fn take_rest(&mut self) -> Option<Framer>
-        requires { self.old.passing ≡ [] }
-        ensures rest { rest_in result ≡ self.old.after }
-        ensures left { self.new ≡ record { passing = []; after = [] } }
-    {
-        if self.framer.is_empty() {
-            return None;
-        }
-        Some(mem::replace(&mut self.framer, Framer::new(self.alloc)))
-    }
-
-    /// Puts the bytes after a PDU back.
-    pub(crate) fn put_back(&mut self, rest: Framer)
-        requires { bytes_in self.old ≡ [] }
-        ensures { self.new ≡ record { passing = []; after = rest } }
-    {
-        self.framer = rest;
-    }
-
     /// Returns the header of a half-read PDU whose bytes are all kept.
     pub(crate) fn header(&self) -> Option<Header>
-        ensures some { IfSome result (λ h. (h ≡ take header_length (bytes_in self.now)) × (header_length ≤ length (bytes_in self.now))) }
-        ensures kept { IfSome result (λ _. self.now.passing ≡ []) }
+        ensures some { IfSome result (λ h. (h ≡ take header_length self.now.bytes) × (header_length ≤ length self.now.bytes)) }
+        ensures kept { IfSome result (λ _. self.now.is_counted ≡ false) }
     {
-        if self.passing.is_some() {
+        if self.is_counted {
             return None;
         }
         self.framer.header()
@@ -253,22 +208,29 @@ impl Arriving {
 
     /// Counts the bytes of a half-read Data-Out from now on, if that is possible. None of them is kept.
     pub(crate) fn pass_over(&mut self)
-        requires { IsPassing (bytes_in self.old) }
-        ensures bytes { bytes_in self.new ≡ bytes_in self.old }
-        ensures passing { (phase : Phase) → CanPass phase self.old.passing → IsUntaken phase (out_in (bytes_in self.old)) → CanPass phase self.new.passing }
+        requires { IsHalfRead self.old.bytes }
+        ensures bytes { self.new.bytes ≡ self.old.bytes }
+        ensures passing { (phase : Phase) → CanPass phase self.old → IsUntaken phase (out_in self.old.bytes) → CanPass phase self.new }
     {
-        if self.passing.is_none() {
-            self.passing = self.framer.pass_over();
+        if self.is_counted {
+            return;
+        }
+        let Some(bytes) = self.framer.after_header() else {
+            return;
+        };
+        let mut noted = Record::new();
+        noted.note(&[], bytes, &[]);
+        // Nothing is given, as the Data-Out is not whole: its bytes are replaced by their number.
+        if let Ok((_, Part::Nothing)) = self.framer.take(&[]) {
+            self.noted = noted;
+            self.is_counted = true;
         }
     }
 
     /// Returns how many bytes are missing of the next header, or of its PDU.
     pub(crate) fn want(&self) -> usize
-        ensures { result ≡ wanted (bytes_in self.now) }
+        ensures { result ≡ wanted self.now.bytes }
     {
-        match &self.passing {
-            Some(passing) => passing.want(),
-            None => self.framer.want(),
-        }
+        self.framer.want()
     }
 }

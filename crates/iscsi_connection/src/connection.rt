@@ -1,6 +1,7 @@
 //! One connection: its bytes, its phase and its output that is still to be sent.
 
-ghost use Rattle.std.specs.Prelude.{◌≡◌, ◌+◌, ◌<◌, ◌≤◌, ◌++◌, [], None, true, false, length, take, nat_lt, if◌then◌else◌, IfOk, IfSome, IfNone, OnOk, OnErr};
+ghost use Rattle.std.specs.Prelude.{◌≡◌, ◌+◌, ◌<◌, ◌≤◌, ◌↔◌, ◌++◌, [], None, true, false, length, take, drop, nat_lt, if◌then◌else◌, IfOk, IfSome, IfNone, OnOk, OnErr};
+ghost use Rattle.std.specs.Result.{IsErrOf};
 ghost use Rattle.iscsi_pdu.specs.Frames.{has_frame, is_long, wanted};
 ghost use Rattle.iscsi_pdu.specs.Header.{header_length, data_length};
 ghost use Rattle.iscsi_pdu.specs.Segment.{most_data};
@@ -15,19 +16,20 @@ ghost use Rattle.iscsi_login.specs.LoginState.{LoginState, IsTargetBelow};
 ghost use Rattle.iscsi_login.specs.Login.{advanced, reply_of};
 ghost use Rattle.iscsi_session.specs.Requests.{begun as begun_past};
 ghost use Rattle.iscsi_session.specs.State.{remembered};
-ghost use Rattle.iscsi_connection.specs.Arriving.{rest_in, frame_of, IsAlone, IsUntaken, MayServe};
+ghost use Rattle.iscsi_framer.specs.Framer.{HoldsNoMore};
+ghost use Rattle.iscsi_connection.specs.Arriving.{frame_of, IsUntaken, MayServe};
 ghost use Rattle.iscsi_connection.specs.Rooms.{LendsRoom};
 ghost use Rattle.iscsi_world.specs.History.{arrivals};
 ghost use Rattle.iscsi_world.specs.Machine.{LinkState, is_reading, is_logging_in, session_in_phase, free_link, opened_link, shut_link, begun_link, GivesFrame, IsAnswered, IsWithin, sent_link, is_settled, is_silent, most_waiting};
 ghost use Rattle.iscsi_world.specs.declared.phase.Phase.TheVariants.{Login as UnderWay};
 
-use crate::arriving::{Arrived, Arriving, Taken};
+use crate::arriving::{Arriving, Taken};
 use bytes::BytesMut;
 use data_parts::SpareBuffers;
-use iscsi_framer::{FrameRoom, Framer, Front};
+use iscsi_framer::FrameRoom;
 use iscsi_login::{Directory, Login, Reply, SessionParams};
 use iscsi_outbox::Outbox;
-use iscsi_pdu::{Answer, Frame, Header, LoginResponse, MOST_DATA, Opcode};
+use iscsi_pdu::{Answer, Frame, Header, LoginResponse, MOST_DATA, Opcode, PduFault};
 use iscsi_session::Session;
 use iscsi_world::Phase;
 use media_store::Store;
@@ -55,11 +57,11 @@ impl Model for Connection {
 
     ghost Value = { LinkState };
 
-    ghost use Rattle.iscsi_connection.specs.Arriving.{bytes_in, CanPass};
+    ghost use Rattle.iscsi_connection.specs.Arriving.{CanPass};
 
-    ghost view = { λ l. record { half = if is_reading l.phase then bytes_in l.arriving else []; phase = l.phase; waiting = l.waiting.items } };
+    ghost view = { λ l. record { half = if is_reading l.phase then l.arriving.bytes else []; phase = l.phase; waiting = l.waiting.items } };
 
-    ghost invariant = { λ l. CanPass l.phase l.arriving.passing };
+    ghost invariant = { λ l. CanPass l.phase l.arriving };
 }
 
 // Dropped by a call of its own, so that code that drops a connection does not take its bytes and phase apart.
@@ -133,14 +135,26 @@ impl Connection {
         self.phase.change(Phase::Closing);
     }
 
-    /// Keeps a further piece of the connection's bytes. Of a half-read Data-Out that is only counted ([`Connection::forget`]),
-    /// the number of bytes is kept. If an allocation fails, other bytes may be kept than before.
-    pub fn keep(&mut self, piece: &[u8], spares: &mut SpareBuffers) -> Result<(), Memory>
-        requires { is_reading self.old.phase ≡ true }
-        ensures ok { OnOk result (self.new ≡ record self.old { half = self.old.half ++ piece.now }) }
-        ensures err { OnErr result (self.new ≡ record self.old { half = self.new.half }) }
+    /// Takes the next bytes of a piece, up to the end of the PDU in front, and that PDU if it is whole with them. If it is
+    /// not, all of the piece is kept; of a half-read Data-Out that is only counted ([`Connection::forget`]), the number
+    /// of bytes is. A fault changes nothing.
+    pub fn take(
+        &mut self,
+        piece: &[u8],
+        spares: &mut SpareBuffers,
+    ) -> Result<Option<Taken>, PduFault>
+        requires reads { is_reading self.old.phase ≡ true }
+        requires no_more { HoldsNoMore self.old.half }
+        ensures within { IfOk result (λ o. IfSome o (λ t. t.used ≤ length piece.now)) }
+        ensures given { IfOk result (λ o. IfSome o (λ t. GivesFrame (frame_of t.arrived) (self.old.half ++ piece.now) (drop t.used piece.now))) }
+        ensures left { IfOk result (λ o. IfSome o (λ _. self.new ≡ record self.old { half = [] })) }
+        ensures serves { IfOk result (λ o. IfSome o (λ t. MayServe self.old.phase t.arrived)) }
+        ensures kept { IfOk result (λ o. IfNone o (self.new ≡ record self.old { half = self.old.half ++ piece.now })) }
+        ensures part { IfOk result (λ o. IfNone o (arrivals (self.old.half ++ piece.now) ≡ [])) }
+        ensures too_long { IsErrOf result PduFault.TooLong ↔ (is_long (self.old.half ++ piece.now) ≡ true) }
+        ensures err { OnErr result (self.new ≡ self.old) }
     {
-        self.arriving.keep(piece, spares)
+        self.arriving.take(piece, spares)
     }
 
     /// Lends the buffer of a half-read PDU to a reader, who is to fill `room` bytes of it. Until it is taken back only the
@@ -189,54 +203,29 @@ impl Connection {
         }
     }
 
-    /// Returns what stands in front of the bytes.
-    pub fn front(&self) -> Front
+    /// Returns whether a buffer is of use to take a piece: it may bring more of a PDU than its header.
+    pub fn wants_buffer(&self, piece: &[u8]) -> bool {
+        self.arriving.wants_buffer(piece)
+    }
+
+    /// Returns whether more is kept than one PDU.
+    pub fn holds_more(&self) -> bool
         requires { is_reading self.now.phase ≡ true }
-        ensures part { result ≡ Front.Part → arrivals self.now.half ≡ [] }
-        ensures alone { result ≡ Front.Alone → IsAlone self.now.half }
-        ensures followed { result ≡ Front.Followed → has_frame self.now.half ≡ true }
-        ensures long { result ≡ Front.TooLong → is_long self.now.half ≡ true }
+        ensures no { result ≡ false → HoldsNoMore self.now.half }
+        ensures yes { result ≡ true → has_frame self.now.half ≡ true }
     {
-        self.arriving.front()
+        self.arriving.holds_more()
     }
 
-    /// Takes the PDU that has come, after which no byte has. So nothing is to be put back.
-    pub fn take_alone(&mut self) -> Result<Arrived, Memory>
-        requires reads { is_reading self.old.phase ≡ true }
-        requires alone { IsAlone self.old.half }
-        ensures given { IfOk result (λ arrived. GivesFrame (frame_of arrived) self.old.half []) }
-        ensures same { self.new ≡ record self.old { half = self.new.half } }
-        ensures left { OnOk result (self.new.half ≡ []) }
-        ensures serves { IfOk result (λ arrived. MayServe self.old.phase arrived) }
-        ensures err { OnErr result (self.new ≡ self.old) }
-    {
-        self.arriving.take_alone()
-    }
-
-    /// Takes the first PDU, which is whole, with all bytes after it, which [`Connection::put_back`] puts back.
-    pub fn take_pdu(&mut self) -> Result<Taken, Memory>
+    /// Takes all bytes that are kept, and those of a piece after them.
+    pub fn take_all(&mut self, piece: &[u8]) -> Result<Vec<u8>, PduFault>
         requires reads { is_reading self.old.phase ≡ true }
         requires whole { has_frame self.old.half ≡ true }
-        ensures given { IfOk result (λ t. GivesFrame (frame_of t.arrived) self.old.half (rest_in t.rest)) }
-        ensures same { self.new ≡ record self.old { half = self.new.half } }
-        ensures left { OnOk result (self.new.half ≡ []) }
-        ensures serves { IfOk result (λ t. MayServe self.old.phase t.arrived) }
+        ensures bytes { IfOk result (λ bytes. bytes.items ≡ self.old.half ++ piece.now) }
+        ensures none { OnOk result (self.new ≡ record self.old { half = [] }) }
         ensures err { OnErr result (self.new ≡ self.old) }
     {
-        self.arriving.take_pdu()
-    }
-
-    /// Puts the bytes after a PDU that was taken back, if the connection is still read.
-    pub fn put_back(&mut self, rest: Option<Framer>)
-        requires { self.old.half ≡ [] }
-        ensures { self.new ≡ record self.old { half = if is_reading self.old.phase then rest_in rest else [] } }
-    {
-        let Some(rest) = rest else {
-            return;
-        };
-        if self.phase.reads() {
-            self.arriving.put_back(rest);
-        }
+        self.arriving.take_all(piece)
     }
 
     /// Queues an answer. If an allocation fails, nothing changes.

@@ -4,7 +4,7 @@ ghost use Rattle.std.specs.Prelude.{◌≡◌, ◌≤◌, length, take, true, fa
 ghost use Rattle.iscsi_pdu.specs.Frames.{has_frame};
 ghost use Rattle.iscsi_pdu.specs.Header.{header_length, data_length};
 ghost use Rattle.iscsi_pdu.specs.Segment.{most_data};
-ghost use Rattle.iscsi_framer.specs.Passing.{IsPassing};
+ghost use Rattle.iscsi_connection.specs.Passing.{IsHalfRead};
 ghost use Rattle.iscsi_world.specs.Machine.{is_reading};
 ghost use Rattle.iscsi_connection.specs.Arriving.{IsUntaken, out_in};
 
@@ -16,7 +16,7 @@ impl Connection {
     pub fn can_forget(&self) -> bool
         requires { has_frame self.now.half ≡ false }
         ensures reads { result ≡ true → is_reading self.now.phase ≡ true }
-        ensures passing { result ≡ true → IsPassing self.now.half }
+        ensures half { result ≡ true → IsHalfRead self.now.half }
         ensures untaken { result ≡ true → IsUntaken self.now.phase (out_in self.now.half) }
     {
         if !self.phase.reads() {
@@ -34,7 +34,7 @@ impl Connection {
         requires header { header ≡ take header_length self.now.half }
         requires there { header_length ≤ length self.now.half }
         requires part { has_frame self.now.half ≡ false }
-        ensures passing { result ≡ true → IsPassing self.now.half }
+        ensures half { result ≡ true → IsHalfRead self.now.half }
         ensures short { result ≡ true → data_length header ≤ most_data }
     {
         let data = header.data_length();
@@ -46,7 +46,7 @@ impl Connection {
     /// Counts the bytes of a half-read Data-Out from now on. None of them is kept.
     pub fn forget(&mut self)
         requires reads { is_reading self.old.phase ≡ true }
-        requires passing { IsPassing self.old.half }
+        requires half { IsHalfRead self.old.half }
         requires untaken { IsUntaken self.old.phase (out_in self.old.half) }
         ensures { self.new ≡ self.old }
     {

@@ -1,9 +1,9 @@
 //! The connections of an iSCSI target: their bytes, their phases, and the answers that wait to be sent.
 //!
 //! ```text
-//!   keep(piece)   ┌──────────────── Connection ────────────────┐   out, skip_front
+//!   take(piece)   ┌──────────────── Connection ────────────────┐   out, skip_front
 //!   ------------> │ arriving   phase                  outbox   │ ---------------->
-//!   take_pdu      │ half a PDU Login, FullFeature ..  answers  │
+//!   a PDU         │ half a PDU Login, FullFeature ..  answers  │
 //!   <------------ └──┬─────────────────────────────────────────┘
 //!                    └ log_in, begin, serve, settle, lose: what a frame, or another session, does to it
 //! ```
@@ -28,10 +28,12 @@ mod connections;
 mod forgetting;
 mod losing;
 mod number_set;
+mod passed;
 mod session_calls;
 mod sessions;
 
 pub use arriving::{Arrived, Taken};
 pub use connection::{Connection, MOST_ROOM_KEPT};
 pub use connections::Connections;
+pub use passed::PassedDataOut;
 pub use sessions::{named, older};

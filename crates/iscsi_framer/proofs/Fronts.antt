@@ -16,7 +16,7 @@ use Rattle.iscsi_pdu.proofs.Frames.{has_frame-from, is_long-true, is_long-from, 
 use Rattle.iscsi_pdu.proofs.Cuts.{data_length-append, long_is_no_frame, long_stays}
 use Rattle.iscsi_framer.proofs.Split.{front_full}
 use Rattle.iscsi_pdu.proofs.Fields.{fields}
-use Rattle.iscsi_pdu.proofs.DataOuts.{is_data_out-short, data_so_far-short, shown-other, one_other, has_frame-short}
+use Rattle.iscsi_pdu.proofs.DataOuts.{is_data_out-short, is_data_out-more, is_data_out-header, data_so_far-short, shown-other, one_other, has_frame-short}
 
 -- ---- no header yet
 
@@ -202,6 +202,14 @@ held_within b one short =
             | inr fits ↦ fits
           ])
     ]
+
+-- of a Data-Out whose header is there all of it is the piece's
+pub front_lent : (before piece front more bytes : List ℕ) → Fronted before piece front more bytes → is_data_out before ≡ true → is_long before ≡ false
+    → (is_data_out bytes ≡ true) × (is_long bytes ≡ false)
+front_lent before piece front more bytes f out short = (
+  ap is_data_out f.bytes_are ∙ is_data_out-more before front out,
+  ap is_long f.bytes_are ∙ long_alike before front (is_data_out-header before out) ∙ short,
+)
 
 -- what is kept is less than two PDUs
 pub one_within : (before piece front more bytes : List ℕ) → Fronted before piece front more bytes → HoldsOne before → is_long bytes ≡ false

@@ -2,4 +2,4 @@ mod Split
 pub mod Taking
 pub mod Gathering
 pub mod Fronts
-pub mod Counting
+pub mod Whole

@@ -1,2 +1,1 @@
 pub mod Framer
-pub mod Passing

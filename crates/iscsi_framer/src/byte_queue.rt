@@ -124,6 +124,18 @@ impl ByteQueue {
         Ok(bytes)
     }
 
+    /// Returns a copy of all bytes, after those of a header.
+    pub(crate) fn copied_after(&self, header: &[u8]) -> Result<Vec<u8>, PduFault>
+        ensures value { IfOk result (λ bytes. bytes.items ≡ header.now ++ self.now) }
+        ensures memory { IfErr result (λ fault. fault ≡ PduFault.Memory) }
+    {
+        let kept = self.kept();
+        let mut bytes = Vec::from_slice(self.alloc, header)?;
+        bytes.extend_from_slice(kept)?;
+        put_zeros(&mut bytes, self.len() - kept.len())?;
+        Ok(bytes)
+    }
+
     /// Removes `n` bytes from the front.
     pub(crate) fn skip(&mut self, n: usize)
         requires { n ≤ length self.old }

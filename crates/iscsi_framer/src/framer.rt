@@ -1,18 +1,15 @@
 //! Cutting the bytes of a connection into frames.
 
 ghost use Rattle.std.specs.Prelude.{◌≡◌, ◌+◌, ◌<◌, ◌≤◌, ◌↔◌, ℕ, List, [], ◌∷◌, ◌++◌, length, take, drop, true, false, IsOk, IfOk, IfErr, IfSome, IfNone, OnOk, OnErr};
-ghost use Rattle.iscsi_pdu.specs.Parts.{is_data_out, HoldsOne, Takes};
 ghost use Rattle.std.specs.Result.{IsErrOf};
-ghost use Rattle.iscsi_framer.specs.Framer.{LendsSome};
-ghost use Rattle.iscsi_framer.specs.Passing.{IsPassing};
+ghost use Rattle.iscsi_framer.specs.Framer.{HoldsNoMore};
 
 use crate::byte_queue::ByteQueue;
-use crate::frame_buffer::{FrameRoom, cut_front};
+use crate::frame_buffer::FrameRoom;
 use crate::front::Front;
-use crate::passing::PassingDataOut;
 use arrayvec::ArrayVec;
 use data_parts::SpareBuffers;
-use iscsi_pdu::{Frame, HEADER_LENGTH, Header, MOST_DATA, Part, PduFault, padded};
+use iscsi_pdu::{Frame, HEADER_LENGTH, Header, MOST_DATA, PduFault, padded};
 use std::alloc::Global;
 use std::marker::Model;
 
@@ -24,9 +21,9 @@ use std::marker::Model;
 #[derive(Drop)]
 pub struct Framer {
     /// The part of the first header that has come.
-    header: ArrayVec<u8, HEADER_LENGTH>,
+    pub(crate) header: ArrayVec<u8, HEADER_LENGTH>,
     /// The bytes that have come after that header.
-    behind: ByteQueue,
+    pub(crate) behind: ByteQueue,
 }
 
 impl Model for Framer {
@@ -42,7 +39,7 @@ impl Model for Framer {
 }
 
 /// Appends bytes of a header, for which there is room.
-fn put(header: &mut ArrayVec<u8, HEADER_LENGTH>, bytes: &[u8])
+pub(crate) fn put(header: &mut ArrayVec<u8, HEADER_LENGTH>, bytes: &[u8])
     requires { length header.old.items + length bytes.now ≤ 48 }
     ensures { header.new.items ≡ header.old.items ++ bytes.now }
 {
@@ -71,18 +68,6 @@ impl Framer {
         ensures memory { IfErr result (λ fault. fault ≡ PduFault.Memory) }
         ensures err { OnErr result (self.new ≡ self.old) }
     {
-        let mut spares = self.behind.no_spares();
-        self.feed_with(piece, &mut spares)
-    }
-
-    /// Takes the next piece of the connection's bytes, as [`feed`](Framer::feed) does. The data of a frame goes into
-    /// a spare buffer.
-    pub fn feed_with(&mut self, piece: &[u8], spares: &mut SpareBuffers) -> Result<(), PduFault>
-        ensures ok { OnOk result (self.new ≡ self.old ++ piece.now) }
-        ensures empty { piece.now ≡ [] → IsOk result }
-        ensures memory { IfErr result (λ fault. fault ≡ PduFault.Memory) }
-        ensures err { OnErr result (self.new ≡ self.old) }
-    {
         let had = self.header.len();
         let (front, more) = piece.split_at(piece.len().min(HEADER_LENGTH - had));
         put(&mut self.header, front);
@@ -90,7 +75,8 @@ impl Framer {
             return Ok(());
         }
         let room = self.want().min(MOST_DATA);
-        if let Err(fault) = self.behind.append(more, room, spares) {
+        let mut spares = self.behind.no_spares();
+        if let Err(fault) = self.behind.append(more, room, &mut spares) {
             self.header.truncate(had);
             return Err(fault);
         }
@@ -128,19 +114,16 @@ impl Framer {
         self.behind.take_back(lent, count);
     }
 
-    /// Takes the bytes of a half-read Data-Out, to count them and those after them. Returns `None`, and changes nothing,
-    /// if some are only counted here ([`take`](Framer::take)).
-    pub fn pass_over(&mut self) -> Option<PassingDataOut>
-        requires { IsPassing self.old }
-        ensures passing { IfSome result (λ p. p ≡ self.old) }
-        ensures rest { IfSome result (λ _. self.new ≡ []) }
-        ensures none { IfNone result (self.new ≡ self.old) }
+    /// Returns the bytes after the first header, if it is whole and none of them are only counted
+    /// ([`take`](Framer::take)).
+    pub fn after_header(&self) -> Option<&[u8]>
+        ensures { IfSome result (λ bytes. self.now ≡ take header_length self.now ++ bytes.now) }
     {
-        let header = self.header()?;
-        let passing = PassingDataOut::new(header, self.behind.all_kept()?);
-        self.header.clear();
-        self.behind.clear();
-        Some(passing)
+        if !self.header.is_full() {
+            return None;
+        }
+        let bytes = self.behind.all_kept()?;
+        Some(bytes)
     }
 
     /// Takes the first frame from the front of the bytes. Returns `None` if the bytes are less than a frame.
@@ -212,113 +195,29 @@ impl Framer {
         Ok(Frame { header, body })
     }
 
-    /// Takes the next bytes of a piece. Returns how many were used, and what they brought. The data of a Data-Out is
-    /// lent from the piece while its PDU arrives; any other PDU is kept until it is whole.
-    ///
-    /// May be called if no more than one Data-Out is kept, and of any other PDU less than all. That holds of a new
-    /// framer, and after each call. After [`PduFault::TooLong`] the header is kept, and out of memory changes nothing.
-    pub fn take<'p>(&mut self, piece: &'p [u8]) -> Result<(usize, Part<'p>), PduFault>
-        requires { HoldsOne self.old }
-        ensures part { IfOk result (λ r. Takes self.old piece.now r.0 r.1 self.new) }
-        ensures some { IfOk result (λ r. LendsSome r.1) }
-        ensures one { HoldsOne self.new }
-        ensures too_long { IsErrOf result PduFault.TooLong ↔ (is_long (self.old ++ piece.now) ≡ true) }
-        ensures long { IsErrOf result PduFault.TooLong → is_long self.new ≡ true }
-        ensures memory { IsErrOf result PduFault.Memory → self.new ≡ self.old }
+    /// Returns whether more is kept than one PDU.
+    pub fn holds_more(&self) -> bool
+        ensures no { result ≡ false → HoldsNoMore self.now }
+        ensures yes { result ≡ true → has_frame self.now ≡ true }
     {
-        let had = self.header.len();
-        let (front, more) = piece.split_at(piece.len().min(HEADER_LENGTH - had));
-        put(&mut self.header, front);
-        match self.take_more(more) {
-            Ok((used, part)) => Ok((front.len() + used, part)),
-            Err(PduFault::TooLong) => Err(PduFault::TooLong),
-            Err(PduFault::Memory) => {
-                self.header.truncate(had);
-                Err(PduFault::Memory)
-            }
+        match self.front() {
+            Front::Followed => true,
+            Front::Part | Front::Alone | Front::TooLong => false,
         }
     }
 
-    /// Takes the next bytes of a piece, like [`take`](Framer::take), after those of the first header.
-    fn take_more<'p>(&mut self, more: &'p [u8]) -> Result<(usize, Part<'p>), PduFault>
-        requires within { is_long self.old ≡ false → length self.old ≤ frame_length self.old }
-        requires first { length self.old < header_length → more.now ≡ [] }
-        ensures part { IfOk result (λ r. Takes self.old more.now r.0 r.1 self.new) }
-        ensures some { IfOk result (λ r. LendsSome r.1) }
-        ensures one { OnOk result (HoldsOne self.new) }
-        ensures too_long { IsErrOf result PduFault.TooLong ↔ (is_long self.old ≡ true) }
-        ensures err { OnErr result (self.new ≡ self.old) }
-    {
-        let Some(header) = self.header() else {
-            return Ok((0, Part::Nothing));
-        };
-        if header.data_length() > MOST_DATA {
-            return Err(PduFault::TooLong);
-        }
-        if header.is_data_out() {
-            return Ok(self.lend(header, more));
-        }
-        self.gather(header, more)
-    }
-
-    /// Takes the next bytes of a Data-Out with this header. Its data is lent.
-    fn lend<'p>(&mut self, header: Header, more: &'p [u8]) -> (usize, Part<'p>)
-        requires there { header_length ≤ length self.old }
-        requires header { header ≡ take header_length self.old }
-        requires short { data_length header ≤ most_data }
-        requires within { length self.old ≤ frame_length self.old }
-        requires out { is_data_out self.old ≡ true }
-        ensures part { Takes self.old more.now result.0 result.1 self.new }
-        ensures some { LendsSome result.1 }
-        ensures one { HoldsOne self.new }
-    {
-        let had = self.len();
-        let start = HEADER_LENGTH + header.additional_length();
-        let end = start + header.data_length();
-        let whole = start + padded(header.data_length());
-        let skipped = start.saturating_sub(had).min(more.len());
-        let count = end.saturating_sub(had + skipped).min(more.len() - skipped);
-        if count > 0 {
-            let used = skipped + count;
-            self.behind.forget(used);
-            return (used, Part::Data(header, &more[skipped..used]));
-        }
-        let used = (whole - had).min(more.len());
-        if had + used < whole {
-            self.behind.forget(used);
-            return (used, Part::Nothing);
-        }
-        self.header.clear();
-        self.behind.clear();
-        (used, Part::End(header))
-    }
-
-    /// Takes the next bytes of any other PDU with this header. All are kept until it is whole.
-    fn gather<'p>(&mut self, header: Header, more: &'p [u8]) -> Result<(usize, Part<'p>), PduFault>
-        requires there { header_length ≤ length self.old }
-        requires header { header ≡ take header_length self.old }
-        requires short { data_length header ≤ most_data }
-        requires within { length self.old ≤ frame_length self.old }
-        requires other { is_data_out self.old ≡ false }
-        ensures part { IfOk result (λ r. Takes self.old more.now r.0 r.1 self.new) }
-        ensures some { IfOk result (λ r. LendsSome r.1) }
-        ensures one { OnOk result (HoldsOne self.new) }
+    /// Takes all bytes, and those of a piece after them.
+    pub fn take_all(&mut self, piece: &[u8]) -> Result<Vec<u8>, PduFault>
+        ensures bytes { IfOk result (λ bytes. bytes.items ≡ self.old ++ piece.now) }
+        ensures none { OnOk result (self.new ≡ []) }
         ensures memory { IfErr result (λ fault. fault ≡ PduFault.Memory) }
         ensures err { OnErr result (self.new ≡ self.old) }
     {
-        let data = header.data_length();
-        let additional = header.additional_length();
-        let missing = HEADER_LENGTH + additional + padded(data) - self.len();
-        if more.len() < missing {
-            let mut spares = self.behind.no_spares();
-            self.behind.append(more, missing, &mut spares)?;
-            return Ok((more.len(), Part::Nothing));
-        }
-        let mut body = self.behind.complete(&more[..missing])?;
-        cut_front(&mut body, additional);
-        body.truncate(data);
+        let mut all = self.behind.copied_after(self.header.as_slice())?;
+        all.extend_from_slice(piece)?;
         self.header.clear();
-        Ok((missing, Part::Frame(Frame { header, body })))
+        self.behind.clear();
+        Ok(all)
     }
 
     /// Takes the data segment after the header and `additional` bytes. The frame is removed from the bytes.
@@ -385,7 +284,7 @@ impl Framer {
     }
 
     /// Returns the number of bytes.
-    fn len(&self) -> usize
+    pub(crate) fn len(&self) -> usize
         ensures { result ≡ length self.now }
     {
         self.header.len() + self.behind.len()

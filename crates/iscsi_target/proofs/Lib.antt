@@ -7,3 +7,4 @@ pub use Rattle.iscsi_world.proofs.Standing
 mod Rooms
 mod Pieces
 mod Rows
+mod Bytes

@@ -1,63 +1,95 @@
 //! The bytes of a connection: whole frames are taken in order.
 
-ghost use Rattle.std.specs.Prelude.{◌≡◌, ◌<◌, ◌≤◌, ◌+◌, ◌++◌, [], true, false, length, take, IfOk, IfSome, IfNone, OnOk, OnErr};
-ghost use Rattle.iscsi_pdu.specs.Frames.{has_frame};
+ghost use Rattle.std.specs.Prelude.{◌≡◌, ◌<◌, ◌≤◌, ◌↔◌, ◌+◌, ◌++◌, [], true, false, length, take, drop, IfOk, IfSome, IfNone, OnOk, OnErr};
+ghost use Rattle.std.specs.Result.{IsErrOf};
+ghost use Rattle.iscsi_pdu.specs.Frames.{has_frame, is_long};
 ghost use Rattle.iscsi_pdu.specs.Header.{header_length};
-ghost use Rattle.iscsi_connection.specs.Arriving.{frame_of, rest_in, IsAlone, MayServe};
+ghost use Rattle.iscsi_framer.specs.Framer.{HoldsNoMore};
+ghost use Rattle.iscsi_connection.specs.Arriving.{frame_of, MayServe};
 ghost use Rattle.iscsi_target.specs.Feeding.{LendsRoomAt};
 ghost use Rattle.iscsi_world.specs.History.{arrivals};
 ghost use Rattle.iscsi_world.specs.Machine.{GivesFrame, link_at, with_link, is_logging_in, is_reading};
-ghost use Rattle.iscsi_world.specs.Serving.{TakesFrame, TakesOne, TakesAll, first_starved, kept_piece, put_back};
+ghost use Rattle.iscsi_world.specs.Serving.{TakesFrame, TakesBytes, first_starved, kept_piece};
 
 use crate::serve::earlier_of;
 use crate::target::Target;
 use data_parts::SpareBuffers;
 use iscsi_connection::{Arrived, Taken};
-use iscsi_framer::{FrameRoom, Framer, Front};
-use iscsi_pdu::{HEADER_LENGTH, Opcode};
+use iscsi_framer::FrameRoom;
+use iscsi_pdu::{Opcode, PduFault};
 use iscsi_world::{Phase, Starved};
 use media_store::Store;
 use target_limits::Memory;
 
 impl<S: Store> Target<S> {
-    /// Keeps a further piece of a connection's bytes. If an allocation fails, other bytes may be kept than before.
-    pub(crate) fn keep(&mut self, c: usize, piece: &[u8]) -> Result<(), Memory>
+    /// Takes the next bytes of a piece on a connection, up to the end of a PDU, and the PDU if it is whole with them.
+    /// If it is not, all of the piece is kept. A fault changes nothing.
+    fn take_pdu(&mut self, c: usize, piece: &[u8]) -> Result<Option<Taken>, PduFault>
         requires in_range { c < 64 }
         requires reads { is_reading (link_at self.old c).phase ≡ true }
-        ensures ok { OnOk result (self.new ≡ kept_piece c piece.now self.old) }
-        ensures err { OnErr result (self.new ≡ with_link self.old c (record (link_at self.old c) { half = (link_at self.new c).half })) }
+        requires no_more { HoldsNoMore (link_at self.old c).half }
+        ensures within { IfOk result (λ o. IfSome o (λ t. t.used ≤ length piece.now)) }
+        ensures given { IfOk result (λ o. IfSome o (λ t. GivesFrame (frame_of t.arrived) ((link_at self.old c).half ++ piece.now) (drop t.used piece.now))) }
+        ensures left { IfOk result (λ o. IfSome o (λ _. self.new ≡ with_link self.old c (record (link_at self.old c) { half = [] }))) }
+        ensures serves { IfOk result (λ o. IfSome o (λ t. MayServe (link_at self.old c).phase t.arrived)) }
+        ensures kept { IfOk result (λ o. IfNone o (self.new ≡ kept_piece c piece.now self.old)) }
+        ensures part { IfOk result (λ o. IfNone o (arrivals ((link_at self.old c).half ++ piece.now) ≡ [])) }
+        ensures too_long { IsErrOf result PduFault.TooLong ↔ (is_long ((link_at self.old c).half ++ piece.now) ≡ true) }
+        ensures err { OnErr result (self.new ≡ self.old) }
+        ensures count { length self.old.links ≡ 64 }
     {
         match self.home(c) {
-            // A header needs no buffer, and mostly it comes alone.
-            Some(target) if piece.len() > HEADER_LENGTH => self.keep_for(c, piece, target),
-            _ => self.keep_with(c, piece, &mut SpareBuffers::new(self.alloc)),
+            Some(target) if self.connections.at(c).wants_buffer(piece) => {
+                self.take_for(c, piece, target)
+            }
+            _ => self.take_with(c, piece, &mut SpareBuffers::new(self.alloc)),
         }
     }
 
-    /// Keeps a further piece of a connection's bytes as [`Target::keep`] does, using the spare buffers of a target's units.
-    fn keep_for(&mut self, c: usize, piece: &[u8], target: usize) -> Result<(), Memory>
+    /// Takes the next bytes of a piece as [`Target::take_pdu`] does, using the spare buffers of a target's units.
+    fn take_for(&mut self, c: usize, piece: &[u8], target: usize) -> Result<Option<Taken>, PduFault>
         requires in_range { c < 64 }
         requires reads { is_reading (link_at self.old c).phase ≡ true }
+        requires no_more { HoldsNoMore (link_at self.old c).half }
         requires target { target < length self.old.units }
-        ensures ok { OnOk result (self.new ≡ kept_piece c piece.now self.old) }
-        ensures err { OnErr result (self.new ≡ with_link self.old c (record (link_at self.old c) { half = (link_at self.new c).half })) }
+        ensures within { IfOk result (λ o. IfSome o (λ t. t.used ≤ length piece.now)) }
+        ensures given { IfOk result (λ o. IfSome o (λ t. GivesFrame (frame_of t.arrived) ((link_at self.old c).half ++ piece.now) (drop t.used piece.now))) }
+        ensures left { IfOk result (λ o. IfSome o (λ _. self.new ≡ with_link self.old c (record (link_at self.old c) { half = [] }))) }
+        ensures serves { IfOk result (λ o. IfSome o (λ t. MayServe (link_at self.old c).phase t.arrived)) }
+        ensures kept { IfOk result (λ o. IfNone o (self.new ≡ kept_piece c piece.now self.old)) }
+        ensures part { IfOk result (λ o. IfNone o (arrivals ((link_at self.old c).half ++ piece.now) ≡ [])) }
+        ensures too_long { IsErrOf result PduFault.TooLong ↔ (is_long ((link_at self.old c).half ++ piece.now) ≡ true) }
+        ensures err { OnErr result (self.new ≡ self.old) }
+        ensures count { length self.old.links ≡ 64 }
     {
         let mut spares = self.lend_buffers(target);
-        let kept = self.keep_with(c, piece, &mut spares);
+        let taken = self.take_with(c, piece, &mut spares);
         self.return_buffers(target, spares);
-        kept
+        taken
     }
 
-    /// Keeps a further piece of a connection's bytes as [`Target::keep`] does, using spare buffers.
-    fn keep_with(&mut self, c: usize, piece: &[u8], spares: &mut SpareBuffers) -> Result<(), Memory>
+    /// Takes the next bytes of a piece as [`Target::take_pdu`] does, using spare buffers.
+    fn take_with(
+        &mut self,
+        c: usize,
+        piece: &[u8],
+        spares: &mut SpareBuffers,
+    ) -> Result<Option<Taken>, PduFault>
         requires in_range { c < 64 }
         requires reads { is_reading (link_at self.old c).phase ≡ true }
-        ensures ok { OnOk result (self.new ≡ kept_piece c piece.now self.old) }
-        ensures err { OnErr result (self.new ≡ with_link self.old c (record (link_at self.old c) { half = (link_at self.new c).half })) }
+        requires no_more { HoldsNoMore (link_at self.old c).half }
+        ensures within { IfOk result (λ o. IfSome o (λ t. t.used ≤ length piece.now)) }
+        ensures given { IfOk result (λ o. IfSome o (λ t. GivesFrame (frame_of t.arrived) ((link_at self.old c).half ++ piece.now) (drop t.used piece.now))) }
+        ensures left { IfOk result (λ o. IfSome o (λ _. self.new ≡ with_link self.old c (record (link_at self.old c) { half = [] }))) }
+        ensures serves { IfOk result (λ o. IfSome o (λ t. MayServe (link_at self.old c).phase t.arrived)) }
+        ensures kept { IfOk result (λ o. IfNone o (self.new ≡ kept_piece c piece.now self.old)) }
+        ensures part { IfOk result (λ o. IfNone o (arrivals ((link_at self.old c).half ++ piece.now) ≡ [])) }
+        ensures too_long { IsErrOf result PduFault.TooLong ↔ (is_long ((link_at self.old c).half ++ piece.now) ≡ true) }
+        ensures err { OnErr result (self.new ≡ self.old) }
         ensures count { length self.old.links ≡ 64 }
     {
         let connection = self.connections.at_mut(c);
-        connection.keep(piece, spares)
+        connection.take(piece, spares)
     }
 
     /// Forgets the data of a connection's half-read Data-Out if it is not needed.
@@ -141,118 +173,78 @@ impl<S: Store> Target<S> {
         units.return_buffers(spares);
     }
 
-    /// Takes the first PDU of a connection, which is whole, with all bytes after it, which [`Target::put_back`] puts back.
-    fn take_pdu(&mut self, c: usize) -> Result<Taken, Memory>
+    /// Takes all PDUs in order that are whole with a piece of a connection's bytes, and keeps the bytes after them. Stops
+    /// if the connection closes.
+    pub(crate) fn take_piece(&mut self, c: usize, piece: &[u8]) -> Result<(), Starved>
+        requires in_range { c < 64 }
+        requires reads { is_reading (link_at self.old c).phase ≡ true }
+        ensures { TakesBytes c (first_starved result) (kept_piece c piece.now self.old) self.new }
+    {
+        if self.connections.at(c).holds_more() {
+            return self.take_all(c, piece);
+        }
+        self.take_frames(c, piece)
+    }
+
+    /// Takes all PDUs as [`Target::take_piece`] does, where more is kept than one: only a reader that filled more than it
+    /// was to ([`Target::feed_room`]) brings that about.
+    #[inline(never)]
+    fn take_all(&mut self, c: usize, piece: &[u8]) -> Result<(), Starved>
         requires in_range { c < 64 }
         requires reads { is_reading (link_at self.old c).phase ≡ true }
         requires whole { has_frame (link_at self.old c).half ≡ true }
-        ensures given { IfOk result (λ t. GivesFrame (frame_of t.arrived) (link_at self.old c).half (rest_in t.rest)) }
-        ensures same { self.new ≡ with_link self.old c (record (link_at self.old c) { half = (link_at self.new c).half }) }
-        ensures left { OnOk result ((link_at self.new c).half ≡ []) }
-        ensures serves { IfOk result (λ t. MayServe (link_at self.old c).phase t.arrived) }
-        ensures err { OnErr result (self.new ≡ self.old) }
-        ensures count { length self.old.links ≡ 64 }
+        ensures { TakesBytes c (first_starved result) (kept_piece c piece.now self.old) self.new }
     {
-        let connection = self.connections.at_mut(c);
-        connection.take_pdu()
+        match self.unpack(c, piece) {
+            Ok(bytes) => self.take_frames(c, bytes.as_slice()),
+            Err(_) => Err(self.starve(c)),
+        }
     }
 
-    /// Takes the PDU of a connection after which no byte has come.
-    fn take_pdu_alone(&mut self, c: usize) -> Result<Arrived, Memory>
+    /// Takes all bytes that are kept of a connection, and those of a piece after them.
+    fn unpack(&mut self, c: usize, piece: &[u8]) -> Result<Vec<u8>, PduFault>
         requires in_range { c < 64 }
         requires reads { is_reading (link_at self.old c).phase ≡ true }
-        requires alone { IsAlone (link_at self.old c).half }
-        ensures given { IfOk result (λ arrived. GivesFrame (frame_of arrived) (link_at self.old c).half []) }
-        ensures same { self.new ≡ with_link self.old c (record (link_at self.old c) { half = (link_at self.new c).half }) }
-        ensures left { OnOk result ((link_at self.new c).half ≡ []) }
-        ensures serves { IfOk result (λ arrived. MayServe (link_at self.old c).phase arrived) }
+        requires whole { has_frame (link_at self.old c).half ≡ true }
+        ensures bytes { IfOk result (λ bytes. bytes.items ≡ (link_at self.old c).half ++ piece.now) }
+        ensures none { OnOk result (self.new ≡ with_link self.old c (record (link_at self.old c) { half = [] })) }
         ensures err { OnErr result (self.new ≡ self.old) }
         ensures count { length self.old.links ≡ 64 }
     {
         let connection = self.connections.at_mut(c);
-        connection.take_alone()
+        connection.take_all(piece)
     }
 
-    /// Puts the bytes after a PDU that was taken back, if the connection is still read.
-    fn put_back(&mut self, c: usize, rest: Option<Framer>)
-        requires in_range { c < 64 }
-        requires none { (link_at self.old c).half ≡ [] }
-        ensures back { self.new ≡ put_back c (rest_in rest) self.old }
-        ensures count { length self.old.links ≡ 64 }
-    {
-        let connection = self.connections.at_mut(c);
-        connection.put_back(rest);
-    }
-
-    /// Takes all whole frames of a connection in order. Stops if the connection closes.
+    /// Takes all PDUs as [`Target::take_piece`] does, where no more is kept than one. A header that names too much data is
+    /// a violation.
     #[inline(always)]
-    pub(crate) fn take_frames(&mut self, c: usize) -> Result<(), Starved>
+    fn take_frames(&mut self, c: usize, piece: &[u8]) -> Result<(), Starved>
         requires in_range { c < 64 }
         requires reads { is_reading (link_at self.old c).phase ≡ true }
-        ensures takes { TakesAll c (first_starved result) self.old self.new }
+        requires no_more { HoldsNoMore (link_at self.old c).half }
+        ensures { TakesBytes c (first_starved result) (kept_piece c piece.now self.old) self.new }
     {
         let mut outcome = Ok(());
+        let mut rest = piece;
         while self.reads(c) {
-            let Some(taken) = self.take_next(c) else {
-                break;
-            };
-            outcome = earlier_of(outcome, taken);
+            match self.take_pdu(c, rest) {
+                Ok(Some(taken)) => {
+                    rest = &rest[taken.used..];
+                    let served = self.take_frame(c, taken.arrived);
+                    outcome = earlier_of(outcome, served);
+                    if rest.is_empty() {
+                        break;
+                    }
+                }
+                Ok(None) => break,
+                Err(PduFault::TooLong) => {
+                    self.close(c);
+                    break;
+                }
+                Err(PduFault::Memory) => return earlier_of(outcome, Err(self.starve(c))),
+            }
         }
         outcome
-    }
-
-    /// Takes the first whole frame of a connection, if there is one. A header that names too much data is a
-    /// violation.
-    #[inline(always)]
-    fn take_next(&mut self, c: usize) -> Option<Result<(), Starved>>
-        requires in_range { c < 64 }
-        requires reads { is_reading (link_at self.old c).phase ≡ true }
-        ensures takes { IfSome result (λ taken. TakesOne c (first_starved taken) self.old self.new) }
-        ensures none { IfNone result (self.new ≡ self.old) }
-        ensures whole { IfNone result (arrivals (link_at self.old c).half ≡ []) }
-    {
-        match self.connections.at(c).front() {
-            Front::Part => None,
-            Front::Alone => Some(self.take_alone(c)),
-            Front::Followed => Some(self.take_first(c)),
-            Front::TooLong => {
-                self.close(c);
-                Some(Ok(()))
-            }
-        }
-    }
-
-    /// Takes the frame of a connection after which no byte has come. It stays a call, since its values would be zeroed for
-    /// each piece.
-    #[inline(never)]
-    fn take_alone(&mut self, c: usize) -> Result<(), Starved>
-        requires in_range { c < 64 }
-        requires reads { is_reading (link_at self.old c).phase ≡ true }
-        requires alone { IsAlone (link_at self.old c).half }
-        ensures { TakesOne c (first_starved result) self.old self.new }
-    {
-        match self.take_pdu_alone(c) {
-            Ok(arrived) => self.take_frame(c, arrived),
-            Err(Memory) => Err(self.starve(c)),
-        }
-    }
-
-    /// Takes the first frame of a connection, which is whole. It stays a call, as [`Target::take_alone`] does.
-    #[inline(never)]
-    fn take_first(&mut self, c: usize) -> Result<(), Starved>
-        requires in_range { c < 64 }
-        requires reads { is_reading (link_at self.old c).phase ≡ true }
-        requires whole { has_frame (link_at self.old c).half ≡ true }
-        ensures { TakesOne c (first_starved result) self.old self.new }
-    {
-        match self.take_pdu(c) {
-            Ok(Taken { arrived, rest }) => {
-                let taken = self.take_frame(c, arrived);
-                self.put_back(c, rest);
-                taken
-            }
-            Err(Memory) => Err(self.starve(c)),
-        }
     }
 
     /// Takes one PDU of a connection, by its phase. If an allocation fails, the connection is closed, as if just before one

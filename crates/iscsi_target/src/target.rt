@@ -143,10 +143,7 @@ impl<S: Store> Target<S> {
         if !self.reads(c) {
             return Ok(());
         }
-        if let Err(Memory) = self.keep(c, piece) {
-            return Err(self.starve(c));
-        }
-        let taken = self.take_frames(c);
+        let taken = self.take_piece(c, piece);
         self.forget_unneeded(c);
         taken
     }
@@ -180,7 +177,7 @@ impl<S: Store> Target<S> {
         ensures { (before : Machine) → LacksRoom c lent before self.old → TakesPiece c (filled_in lent count) result before self.new }
     {
         self.take_room(c, lent, count);
-        self.take_frames(c)
+        self.take_piece(c, &[])
     }
 
     /// Takes back the buffer that [`Target::lend_room`] lent to a reader to whom nothing came.

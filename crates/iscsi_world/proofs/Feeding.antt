@@ -1,5 +1,5 @@
 -- A whole event of bytes keeps the code where the World is.
-use Rattle.std.proofs.Common.{◌≡◌, ◌≢◌, ℕ, ◌+◌, ◌<◌, List, [], ◌∷◌, ◌++◌, length, Bool, true, false, Option, Some, None, refl, sym, ap, ◌∙◌, subst, arith, inl, inr}
+use Rattle.std.proofs.Common.{◌≡◌, ◌≢◌, ℕ, ◌<◌, List, [], ◌∷◌, ◌++◌, length, Bool, true, false, Option, Some, None, refl, sym, ap, ◌∙◌, subst, arith, inl, inr}
 use Rattle.std.specs.Prelude.{All, Result, Ok, Err, OnOk, IfErr}
 use Rattle.std.specs.List.{fold, enumerate_from}
 use Rattle.std.proofs.lemmas.Bool.Decides.{eqb_tells}
@@ -11,24 +11,24 @@ use Rattle.scsi_unit.specs.Units.{UnitStates, AreSound}
 use Rattle.iscsi_login.specs.Directory.{KnownTargets}
 use Rattle.iscsi_session.specs.Comings.{Coming, AreAhead, ArePlain, IsCalm}
 use Rattle.iscsi_session.proofs.Came.{plain_ahead, ahead_self}
-use Rattle.iscsi_world.specs.History.{Bytes, Arriving, AtEnd, Point, Mark, History, Arrival, arrivals, new_arrivals, happening, plain, marked, connection_limit}
+use Rattle.iscsi_world.specs.History.{Bytes, AtEnd, Mark, History, Arrival, arrivals, new_arrivals, happening, plain, marked, connection_limit}
 use Rattle.iscsi_world.specs.Life.{Life, reads}
-use Rattle.iscsi_world.specs.World.{Setting, World, present, changed, reads_life, is_marked, close, reaching, take_step, arrive, brought, longer, bring, begun_event, world}
+use Rattle.iscsi_world.specs.World.{Setting, World, present, changed, reads_life, is_marked, reaching, take_step, arrive, brought, longer, bring, begun_event, world}
 use Rattle.iscsi_world.specs.Machine.{Machine, IsSound, IsSoundAt, WhereSound, Feeds, link_at, with_link, closed, is_reading, is_open_at}
 use Rattle.iscsi_world.specs.Stands.{link_of, half_of, IsShort, IsStarved, StandsAt, Stands, StandsAfter, stand_in, are_reached, Begins}
-use Rattle.iscsi_world.specs.Serving.{Serves, first_starved, with_half, kept_piece, is_among, reached_since, TakesAll}
+use Rattle.iscsi_world.specs.Serving.{Serves, Agrees, first_starved, with_half, kept_piece, is_among, reached_since, TakesAll}
 use Rattle.iscsi_world.specs.declared.fault.Starved.{Starved}
 use Rattle.iscsi_world.proofs.Arrivals.{new_is}
 use Rattle.iscsi_world.proofs.Moving.{own_self, changes_feeds}
 use Rattle.iscsi_world.proofs.Reflected.{sound_back}
-use Rattle.iscsi_world.proofs.Marks.{mark_at, marked_one, marked_none, unmarked}
+use Rattle.iscsi_world.proofs.Marks.{mark_at, marked_none, unmarked}
 use Rattle.iscsi_world.proofs.Walks.{any_arrivals, on-arrivals}
-use Rattle.iscsi_world.proofs.Keeping.{Prolongs, Stays, goes, on-close, on-reaching, on-then, on-same}
-use Rattle.iscsi_world.proofs.Linked.{reads_there, some_reads, half_there, count_there, closes, present-close, serves_as, serves_reaching, present-reaching}
+use Rattle.iscsi_world.proofs.Keeping.{Prolongs, Stays, goes, on-reaching, on-then, on-same}
+use Rattle.iscsi_world.proofs.Linked.{reads_there, some_reads, half_there, count_there, serves_as, serves_reaching}
 use Rattle.iscsi_world.proofs.Comings.{comings_changed}
 use Rattle.iscsi_world.proofs.Fed.{piece_came, came_here, came_other, longer_serves, halves_came}
 use Rattle.iscsi_world.proofs.Standing.{fresh, halves_of, present-begun, present-fresh, stands_as, machine_same, serving, is_open_there}
-use Rattle.iscsi_world.proofs.Frames.{idle_step, unmarked_step, marked_step, reached_first}
+use Rattle.iscsi_world.proofs.Frames.{idle_step, unmarked_step}
 use Rattle.iscsi_world.proofs.Doing.{reached_both}
 use Rattle.iscsi_world.proofs.Taking.{halving, halved_link, rehalved, halves_idle, half_twice, idle_all, serves_halves}
 
@@ -47,7 +47,7 @@ here_short : (bytes : List ℕ) (x : Life) (after : Option Life) → x.bytes ≡
 here_short bytes x after e s short = grind arith
 
 -- where the World that the arrivals made of the longer one is served, it is stood at
-stands_again : (s : Setting) (sent : ℕ → ℕ) (w v : World) (machine now : Machine) (comings : List Coming) (c : ℕ) (piece : List ℕ) (life : Life)
+pub stands_again : (s : Setting) (sent : ℕ → ℕ) (w v : World) (machine now : Machine) (comings : List Coming) (c : ℕ) (piece : List ℕ) (life : Life)
     → StandsAt s sent w machine → present c w ≡ Some life → Prolongs (piece_came comings c piece w) v
     → (reads_life (present c v) ≡ true → is_long (rest (life.bytes ++ piece)) ≡ false)
     → Serves s sent (with_half c (rest (life.bytes ++ piece)) (halves_of w)) v now → StandsAt s sent v now
@@ -96,18 +96,32 @@ ended_by false s sent half marks c v machine r free h = record {
 -- ---- the event
 
 -- a connection that reads, and a piece that it keeps
-record Fed (s : Setting) (sent : ℕ → ℕ) (w : World) (machine first : Machine) (c : ℕ) (piece : List ℕ) : Type 0 where
-  in_range : c < connection_limit
-  stands : StandsAt s sent w machine
-  reads_so : is_reading (link_at machine c).phase ≡ true
-  is : first ≡ kept_piece c piece machine
+pub record Fed (s : Setting) (sent : ℕ → ℕ) (w : World) (machine first : Machine) (c : ℕ) (piece : List ℕ) : Type 0 where
+  pub in_range : c < connection_limit
+  pub stands : StandsAt s sent w machine
+  pub reads_so : is_reading (link_at machine c).phase ≡ true
+  pub is : first ≡ kept_piece c piece machine
 
 -- what the event makes of both
-record Came (s : Setting) (sent : ℕ → ℕ) (w : World) (comings : List Coming) (c : ℕ) (piece : List ℕ) (starved : Option ℕ) (now : Machine) : Type 0 where
-  marks : List Mark
-  first : Begins starved marks
-  reached : are_reached marks (bring s marks c piece (begun_event comings w)) ≡ true
-  stands : StandsAt s sent (bring s marks c piece (begun_event comings w)) now
+pub record Came (s : Setting) (sent : ℕ → ℕ) (w : World) (comings : List Coming) (c : ℕ) (piece : List ℕ) (starved : Option ℕ) (now : Machine) : Type 0 where
+  pub marks : List Mark
+  pub first : Begins starved marks
+  pub reached : are_reached marks (bring s marks c piece (begun_event comings w)) ≡ true
+  pub stands : StandsAt s sent (bring s marks c piece (begun_event comings w)) now
+
+-- The arrivals were taken: what is so before the event's end. The event's marks, and those of the arrivals, are given
+-- by the place of the first arrival.
+pub record Walked (s : Setting) (sent : ℕ → ℕ) (w : World) (comings : List Coming) (c : ℕ) (piece : List ℕ) (marks failed : ℕ → List Mark)
+    (now : Machine) : Type 0 where
+  pub place : ℕ
+  pub life : Life
+  pub there : present c w ≡ Some life
+  pub last : World
+  pub brings : bring s (marks place) c piece (begun_event comings w) ≡ take_step (marks place) c AtEnd (λ u. u) last
+  pub serves : Serves s sent (with_half c (rest (life.bytes ++ piece)) (halves_of w)) last now
+  pub goes : Prolongs (piece_came comings c piece w) last
+  pub reached : stand_in (failed place) (reached_since (piece_came comings c piece w) last) ≡ true
+  pub short : is_reading (link_at now c).phase ≡ true → is_long (rest (life.bytes ++ piece)) ≡ false
 
 brings : (s : Setting) (marks : List Mark) (comings : List Coming) (c : ℕ) (piece : List ℕ) (w : World) (life : Life) → present c w ≡ Some life
     → is_long (rest life.bytes) ≡ false
@@ -120,100 +134,69 @@ short_there : (o : Option Life) (life : Life) → o ≡ Some life → IsShort o 
 short_there o life e h r = (subst IsShort e h) r
 
 -- no point is reached before an event
-reached_event : (marks : List Mark) (comings : List Coming) (c : ℕ) (piece : List ℕ) (w v : World)
+pub reached_event : (marks : List Mark) (comings : List Coming) (c : ℕ) (piece : List ℕ) (w v : World)
     → stand_in marks (reached_since (piece_came comings c piece w) v) ≡ true → are_reached marks v ≡ true
 unfolding changed
 reached_event marks comings c piece w v h = h
 
-comes : (s : Setting) (sent : ℕ → ℕ) (w : World) (machine first now : Machine) (comings : List Coming) (c : ℕ) (piece : List ℕ) (starved : Option ℕ)
-    → Fed s sent w machine first c piece → (takes : TakesAll c starved first now) → AreAhead takes.takes.came comings
-    → Came s sent w comings c piece starved now
-comes s sent w machine first now comings c piece starved f takes ahead =
+-- with marks that are, at the arrivals' points, those of the arrivals
+pub walks : (s : Setting) (sent : ℕ → ℕ) (w : World) (machine first now : Machine) (comings : List Coming) (c : ℕ) (piece : List ℕ) (starved : Option ℕ)
+    → Fed s sent w machine first c piece → (takes : TakesAll c starved first now) → AreAhead takes.takes.came comings → (marks : ℕ → List Mark)
+    → ((n place : ℕ) → Agrees (is_among n place) (marks place) (takes.takes.failed place))
+    → Walked s sent w comings c piece marks takes.takes.failed now
+walks s sent w machine first now comings c piece starved f takes ahead marks agree =
     let half = halves_of w in
     let serves = serving s sent w machine f.stands in
     let there = some_reads (present c w) (sym (reads_there s sent half w machine c f.in_range serves) ∙ f.reads_so) in
     let life = there.0 in
     let short = short_there (present c w) life there.1 (f.stands.short c f.in_range) there.2 in
     let n = length (arrivals life.bytes) in
-    let marks = takes.takes.failed n in
     let bytes : List ℕ = (link_at first c).half in
     let all_bytes : bytes ≡ rest life.bytes ++ piece = grind (arith, halved_link, half_there, count_there) in
     let more : List ℕ = (link_at machine c).half ++ piece in
     let kept = with_half c more half in
     let serves_first = serves_as s sent kept w _ first f.is (rehalved s sent half w machine c more f.in_range f.reads_so serves) in
     let v0 = piece_came comings c piece w in
-    let at = takes.takes.stands s sent kept v0 n marks (λ mark is. refl)
+    let at = takes.takes.stands s sent kept v0 n (marks n) (agree (length (arrivals bytes)) n)
     (subst (AreAhead takes.takes.came) (sym (comings_changed (longer piece) c (begun_event comings w))) ahead)
     (longer_serves s sent kept w first comings c piece life f.in_range there.1 serves_first) in
     let left_ = rest bytes in
     let all = enumerate_from n (arrivals bytes) in
-    let v = fold (arrive s marks c) v0 all in
-    let serves_v = serves_halves s sent (with_half c left_ kept) (with_half c left_ half) v now (half_twice c more left_ half) at.0 in
-    let free : is_marked marks c AtEnd ≡ false = unmarked (is_among (length (arrivals bytes)) n) marks (mark_at c AtEnd) (takes.takes.of_kind n) refl in
-    let e = ended_by (reads_life (present c v)) s sent (with_half c left_ half) marks c v now (refl {a = reads_life (present c v)}) free serves_v in
-    let whole : bring s marks c piece (begun_event comings w) ≡ e.last = grind (arith, brings, e.is) in
+    let v = fold (arrive s (marks n) c) v0 all in
     let left : left_ ≡ rest (life.bytes ++ piece) = grind (arith, rest_in_pieces) in
-    let walked = on-arrivals (goes s marks c) v0 all (any_arrivals c all) in
     record {
-      marks = marks;
-      first = takes.takes.first n;
-      reached = rw whole (reached_event marks comings c piece w e.last
-          (let more = reached_both marks [] v0 v e.last walked e.goes at.1 (refl {a = true}) in rw append-nil at more));
-      stands = rw whole (stands_again s sent w e.last machine now comings c piece life f.stands there.1 (on-then v0 v e.last walked e.goes)
-          (λ r. ap is_long (sym left) ∙ takes.short (rw (reads_there s sent (with_half c left_ half) e.last now c f.in_range e.serves) r))
-          (subst (λ (l : List ℕ). Serves s sent (with_half c l half) e.last now) left e.serves));
+      place = n;
+      life = life;
+      there = there.1;
+      last = v;
+      brings = grind (arith, brings);
+      serves = subst (λ (l : List ℕ). Serves s sent (with_half c l half) v now) left
+          (serves_halves s sent (with_half c left_ kept) (with_half c left_ half) v now (half_twice c more left_ half) at.0);
+      goes = on-arrivals (goes s (marks n) c) v0 all (any_arrivals c all);
+      reached = at.1;
+      short = λ r. ap is_long (sym left) ∙ takes.short r;
     }
 
--- ---- the piece could not be kept
-
--- it failed as the next frame was to come, or at the event's end where none comes
-abbrev first_point : ℕ → List Arrival → Point
-first_point n [] = AtEnd
-first_point n (arrival ∷ arrivals) = Arriving n
-
-starves_by : (s : Setting) (c n : ℕ) (v0 : World) (life : Life) (all : List Arrival) → present c v0 ≡ Some life → reads life.phase ≡ true
-    → (let marks = mark_at c (first_point n all) ∷ [] in take_step marks c AtEnd (λ u. u) (fold (arrive s marks c) v0 (enumerate_from n all)))
-    ≡ close c (reaching c (first_point n all ∷ []) v0)
-unfolding arrive
-starves_by s c n v0 life [] at r = marked_step (mark_at c AtEnd ∷ []) c AtEnd (λ u. u) v0 (ap reads_life at ∙ r) (marked_one c AtEnd)
-starves_by s c n v0 life (arrival ∷ all) at r =
-    let marks = mark_at c (Arriving n) ∷ [] in
-    let v = close c (reaching c (Arriving n ∷ []) v0) in
-    let one : arrive s marks c v0 (n, arrival) ≡ v = marked_step marks c (Arriving n) _ v0 (ap reads_life at ∙ r) (marked_one c (Arriving n)) in
-    let idle_ : reads_life (present c v) ≡ false = ap reads_life (present-close c (reaching c (Arriving n ∷ []) v0) life
-    (present-reaching c c (Arriving n ∷ []) v0 ∙ at)) in
-    ap (λ (u : World). take_step marks c AtEnd (λ x. x) (fold (arrive s marks c) u (enumerate_from (n + 1) all))) one
-    ∙ ap (take_step marks c AtEnd (λ x. x)) (idle_all s marks c v (enumerate_from (n + 1) all) idle_) ∙ idle_step marks c AtEnd (λ x. x) v idle_
-
-comes_starved : (s : Setting) (sent : ℕ → ℕ) (w : World) (machine now : Machine) (c : ℕ) (piece : List ℕ) → c < connection_limit
-    → StandsAt s sent w machine → is_reading (link_at machine c).phase ≡ true → now ≡ closed machine c
-    → Came s sent w [] c piece (Some c) now
-comes_starved s sent w machine now c piece lt stands r is =
-    let half = halves_of w in
-    let serves = serving s sent w machine stands in
-    let there = some_reads (present c w) (sym (reads_there s sent half w machine c lt serves) ∙ r) in
-    let life = there.0 in
-    let short = short_there (present c w) life there.1 (stands.short c lt) there.2 in
-    let n = length (arrivals life.bytes) in
-    let all = arrivals (rest life.bytes ++ piece) in
-    let point = first_point n all in
-    let marks = mark_at c point ∷ [] in
-    let v0 = piece_came [] c piece w in
-    let v = reaching c (point ∷ []) v0 in
-    let at_v : present c v ≡ Some (longer piece life) = present-reaching c c (point ∷ []) v0 ∙ came_here [] c piece w life there.1 in
-    let serves_v = serves_reaching s sent half v0 machine c (point ∷ []) (longer_serves s sent half w machine [] c piece life lt there.1 serves) in
-    let shut_ : reads_life (present c (close c v)) ≡ false = ap reads_life (present-close c v (longer piece life) at_v) in
-    let left_ = rest (life.bytes ++ piece) in
-    let last = halves_idle s sent half (close c v) now c left_ shut_ (serves_as s sent half (close c v) (closed machine c) now is
-    (closes s sent half v machine c (longer piece life) lt serves_v at_v)) in
-    let whole : bring s marks c piece (fresh w) ≡ close c v = brings s marks [] c piece w life there.1 short
-    ∙ starves_by s c n v0 (longer piece life) all (came_here [] c piece w life there.1) there.2 in
+comes : (s : Setting) (sent : ℕ → ℕ) (w : World) (machine first now : Machine) (comings : List Coming) (c : ℕ) (piece : List ℕ) (starved : Option ℕ)
+    → Fed s sent w machine first c piece → (takes : TakesAll c starved first now) → AreAhead takes.takes.came comings
+    → Came s sent w comings c piece starved now
+comes s sent w machine first now comings c piece starved f takes ahead =
+    let failed = takes.takes.failed in
+    let k = walks s sent w machine first now comings c piece starved f takes ahead failed (λ n place mark is. refl) in
+    let marks = failed k.place in
+    let half = with_half c (rest (k.life.bytes ++ piece)) (halves_of w) in
+    let v0 = piece_came comings c piece w in
+    let free : is_marked marks c AtEnd ≡ false =
+    unmarked (is_among (length (arrivals (link_at first c).half)) k.place) marks (mark_at c AtEnd) (takes.takes.of_kind k.place) refl in
+    let e = ended_by (reads_life (present c k.last)) s sent half marks c k.last now (refl {a = reads_life (present c k.last)}) free k.serves in
+    let whole : bring s marks c piece (begun_event comings w) ≡ e.last = k.brings ∙ e.is in
     record {
       marks = marks;
-      first = refl;
-      reached = ap (are_reached marks) whole ∙ reached_event marks [] c piece w (close c v) (reached_first c point v0);
-      stands = rw whole (stands_again s sent w (close c v) machine now [] c piece life stands there.1
-          (on-then v0 v (close c v) (on-reaching c (point ∷ []) v0) (on-close c v)) (λ e. absurd (cc (e, shut_))) last);
+      first = takes.takes.first k.place;
+      reached = rw whole (reached_event marks comings c piece w e.last
+          (let more = reached_both marks [] v0 k.last e.last k.goes e.goes k.reached (refl {a = true}) in rw append-nil at more));
+      stands = rw whole (stands_again s sent w e.last machine now comings c piece k.life f.stands k.there (on-then v0 k.last e.last k.goes e.goes)
+          (λ r. k.short (rw (reads_there s sent half e.last now c f.in_range e.serves) r)) e.serves);
     }
 
 -- ---- bytes for a connection that does not read, and an empty piece
@@ -278,7 +261,7 @@ pub kept_reads : (machine first : Machine) (c : ℕ) (piece : List ℕ) → c < 
     → first ≡ kept_piece c piece machine → is_reading (link_at first c).phase ≡ true
 kept_reads machine first c piece lt r is = grind (arith, get_or-set_same)
 
-stands_after : (s : Setting) (sent : ℕ → ℕ) (h : History) (now : Machine) (comings : List Coming) (c : ℕ) (piece : List ℕ) (starved : Option ℕ)
+pub stands_after : (s : Setting) (sent : ℕ → ℕ) (h : History) (now : Machine) (comings : List Coming) (c : ℕ) (piece : List ℕ) (starved : Option ℕ)
     → (IsSound now → ArePlain comings) → ((target : ℕ) → IsSoundAt target now → IsCalm target comings)
     → Came s sent (world s h) comings c piece starved now → StandsAfter s sent h (Bytes c piece) starved now
 stands_after s sent h now comings c piece starved plain_ calm k = record {
@@ -296,14 +279,14 @@ plain_marks : (s : Setting) (sent : ℕ → ℕ) (h : History) (now : Machine) (
 plain_marks s sent h now c piece k = stands_as s sent now h (plain (Bytes c piece)) _ refl
     (subst (λ (marks : List Mark). StandsAt s sent (bring s marks c piece (fresh (world s h))) now) k.first k.stands)
 
-starved_marks : (s : Setting) (sent : ℕ → ℕ) (h : History) (now : Machine) (c d : ℕ) (piece : List ℕ) → Came s sent (world s h) [] c piece (Some d) now
+pub starved_marks : (s : Setting) (sent : ℕ → ℕ) (h : History) (now : Machine) (c d : ℕ) (piece : List ℕ) → Came s sent (world s h) [] c piece (Some d) now
     → (marks : List Mark) × IsStarved s (world s h) (Bytes c piece) d marks × Stands s sent now (h ++ marked marks (Bytes c piece) ∷ [])
 starved_marks s sent h now c d piece k =
     (k.marks, record { first = k.first; reached = k.reached }, stands_as s sent now h (marked k.marks (Bytes c piece)) _ refl k.stands)
 
 module _ (machine first now : Machine) (c : ℕ) (piece : List ℕ) (lt : c < connection_limit)
     (reads_so : is_reading (link_at machine c).phase ≡ true) (is : first ≡ kept_piece c piece machine) where
-  first_sound : (starved : Option ℕ) → TakesAll c starved first now → IsSound now → IsSound machine
+  pub first_sound : (starved : Option ℕ) → TakesAll c starved first now → IsSound now → IsSound machine
   first_sound starved takes sound = subst (λ (us : List UnitStates). All AreSound us) (ap (λ (m : Machine). m.units) is)
       (sound_back first now takes.leaves.back sound)
 
@@ -342,17 +325,3 @@ pub none_after : (s : Setting) (sent : ℕ → ℕ) (h : History) (now : Machine
     → StandsAt s sent (bring s [] c piece (fresh (world s h))) now → StandsAfter s sent h (Bytes c piece) None now
 none_after s sent h now c piece at =
     stands_after s sent h now [] c piece None (λ sound. tt) (λ target sound. tt) (record { marks = []; first = refl; reached = refl; stands = at })
-
-pub starved_after : (s : Setting) (sent : ℕ → ℕ) (h : History) (machine now : Machine) (c named : ℕ) (piece : List ℕ) → named ≡ c
-    → c < connection_limit → Stands s sent machine h → is_reading (link_at machine c).phase ≡ true → now ≡ closed machine c
-    → StandsAfter s sent h (Bytes c piece) (Some named) now
-starved_after s sent h machine now c named piece e lt stands r is =
-    stands_after s sent h now [] c piece (Some named) (λ sound. tt) (λ target sound. tt)
-    (subst (λ (d : ℕ). Came s sent (world s h) [] c piece (Some d) now) (sym e) (comes_starved s sent (world s h) machine now c piece lt stands r is))
-
-pub starved_came : (s : Setting) (sent : ℕ → ℕ) (h : History) (machine now : Machine) (c named : ℕ) (piece : List ℕ) → named ≡ c
-    → c < connection_limit → Stands s sent machine h → is_reading (link_at machine c).phase ≡ true → now ≡ closed machine c
-    → (marks : List Mark) × IsStarved s (world s h) (Bytes c piece) named marks × Stands s sent now (h ++ marked marks (Bytes c piece) ∷ [])
-starved_came s sent h machine now c named piece e lt stands r is =
-    starved_marks s sent h now c named piece (subst (λ (d : ℕ). Came s sent (world s h) [] c piece (Some d) now) (sym e)
-    (comes_starved s sent (world s h) machine now c piece lt stands r is))

@@ -47,6 +47,7 @@ pub mod PutBack
 pub mod Wanting
 pub mod Fed
 pub mod Feeding
+pub mod Starving
 pub mod Tables
 pub mod Tracking
 pub mod Running

@@ -13,7 +13,7 @@ use Rattle.iscsi_world.specs.Bounded.{AddsAtMost}
 use Rattle.iscsi_world.specs.Serving.{Serves, with_half, IsClosed, KeepsHalf, TakesFrame, TakesOne, put_back}
 use Rattle.iscsi_world.proofs.Linked.{reads_there, serves_as}
 use Rattle.iscsi_world.proofs.Standing.{machine_same}
-use Rattle.iscsi_world.proofs.Taking.{rehalved, halves_idle, halving, some_whole, halved_reads, halved_link}
+use Rattle.iscsi_world.proofs.Taking.{reads_below, rehalved, halves_idle, halving, some_whole, halved_reads, halved_link}
 use Rattle.iscsi_world.proofs.Apart.{part_halved, part_as, part_none, part_then}
 use Rattle.iscsi_world.proofs.Heavier.{halved_adds, header_whole}
 use Rattle.iscsi_world.proofs.Moving.{link_set, link_other, own_self, feeds_then, changes_feeds, moves_none}
@@ -33,14 +33,14 @@ halves_twice : (s : Setting) (sent : ℕ → ℕ) (half : ℕ → List ℕ) (w :
     → Serves s sent (with_half c two (with_half c one half)) w machine → Serves s sent (with_half c two half) w machine
 halves_twice s sent half w machine c one two h = grind (arith, machine_same)
 
-same_link : (machine : Machine) (c : ℕ) (link : LinkState) → link ≡ link_at machine c → c < length machine.links → with_link machine c link ≡ machine
-same_link machine c link is lt = grind (arith, set-get_or)
+same_link : (machine : Machine) (c : ℕ) (link : LinkState) → link ≡ link_at machine c → with_link machine c link ≡ machine
+same_link machine c link is = grind (arith, set-get_or)
 
-put_some : (given after : Machine) (c : ℕ) (more : List ℕ) → c < connection_limit → length given.links ≡ connection_limit
-    → is_reading (link_at given c).phase ≡ true → after ≡ with_link given c (record (link_at given c) { half = more }) → PutsBack c more given after
-put_some given after c more lt count r is =
+put_some : (given after : Machine) (c : ℕ) (more : List ℕ) → c < connection_limit → is_reading (link_at given c).phase ≡ true
+    → after ≡ with_link given c (record (link_at given c) { half = more }) → PutsBack c more given after
+put_some given after c more lt r is =
     let new : LinkState = record (link_at given c) { half = more } in
-    let below : c < length given.links = omega (arith, count) in
+    let below = reads_below given c r in
     record {
       units = ap (λ (m : Machine). m.units) is;
       link = ap (λ (m : Machine). link_at m c) is ∙ rw r (link_set given given.units c new below);
@@ -53,9 +53,9 @@ put_some given after c more lt count r is =
           (rehalved s sent (with_half c [] half) w given c more lt r h));
     }
 
-put_none : (given after : Machine) (c : ℕ) (more : List ℕ) → c < connection_limit → length given.links ≡ connection_limit
-    → is_reading (link_at given c).phase ≡ false → (link_at given c).half ≡ [] → after ≡ given → PutsBack c more given after
-put_none given after c more lt count r none is =
+put_none : (given after : Machine) (c : ℕ) (more : List ℕ) → c < connection_limit → is_reading (link_at given c).phase ≡ false
+    → (link_at given c).half ≡ [] → after ≡ given → PutsBack c more given after
+put_none given after c more lt r none is =
     record {
       units = ap (λ (m : Machine). m.units) is;
       link = ap (λ (m : Machine). link_at m c) is
@@ -73,12 +73,12 @@ put_none given after c more lt count r none is =
     idle_there s sent half w machine c lt r h = grind (arith, reads_there)
 
 puts_back : (reads : Bool) (given after : Machine) (c : ℕ) (more : List ℕ) → is_reading (link_at given c).phase ≡ reads → c < connection_limit
-    → length given.links ≡ connection_limit → (link_at given c).half ≡ [] → after ≡ put_back c more given → PutsBack c more given after
-puts_back true given after c more r lt count none is =
-    put_some given after c more lt count r (is ∙ rw r refl)
-puts_back false given after c more r lt count none is =
-    put_none given after c more lt count r none (is ∙ rw r (same_link given c _
-    (ap (λ (bytes : List ℕ). (let link : LinkState = record (link_at given c) { half = bytes } in link)) (sym none)) (omega (arith, count))))
+    → (link_at given c).half ≡ [] → after ≡ put_back c more given → PutsBack c more given after
+puts_back true given after c more r lt none is =
+    put_some given after c more lt r (is ∙ rw r refl)
+puts_back false given after c more r lt none is =
+    put_none given after c more lt r none (is ∙ rw r (same_link given c _
+    (ap (λ (bytes : List ℕ). (let link : LinkState = record (link_at given c) { half = bytes } in link)) (sym none))))
 
 -- a connection that was served without its bytes has none
 kept_none : (reads : Bool) (link : LinkState) → is_reading link.phase ≡ reads → KeepsHalf [] link → link.half ≡ []
@@ -180,34 +180,9 @@ left_none old given taken c frame starved lt count r is t =
     (ap (λ (l : LinkState). l.half) (halved_link old given c [] lt count is)) t
 
 pub takes_arrived : (old given taken new : Machine) (c : ℕ) (frame : Frame) (more : List ℕ) (starved : Option ℕ) → c < connection_limit
-    → length old.links ≡ connection_limit → length taken.links ≡ connection_limit → is_reading (link_at old c).phase ≡ true
+    → length old.links ≡ connection_limit → is_reading (link_at old c).phase ≡ true
     → GivesFrame frame (link_at old c).half more → given ≡ with_link old c (record (link_at old c) { half = [] })
     → TakesFrame c frame starved given taken → new ≡ put_back c more taken → TakesOne c starved old new
-takes_arrived old given taken new c frame more starved lt count still r gives is t back =
+takes_arrived old given taken new c frame more starved lt count r gives is t back =
     takes_put old given taken new c frame more starved lt count r gives is t
-    (puts_back _ taken new c more refl lt still (left_none old given taken c frame starved lt count r is t) back)
-
--- the same, if no byte has come after it
-puts_nothing : (reads : Bool) (taken : Machine) (c : ℕ) → is_reading (link_at taken c).phase ≡ reads → (link_at taken c).half ≡ []
-    → PutsBack c [] taken taken
-puts_nothing reads taken c r none = record {
-  units = refl;
-  link = nothing_there reads (link_at taken c) r none;
-  others = λ d other. refl;
-  feeds = (moves_none c taken).alters.feeds;
-  part = part_none c taken;
-  serves = λ s sent half w h. h;
-}
-  where
-    nothing_there : (reads : Bool) (link : LinkState) → is_reading link.phase ≡ reads → link.half ≡ []
-        → link ≡ record link { half = if is_reading link.phase then [] else [] }
-    nothing_there true link r none = rw r (ap (λ (bytes : List ℕ). (let l : LinkState = record link { half = bytes } in l)) none)
-    nothing_there false link r none = rw r (ap (λ (bytes : List ℕ). (let l : LinkState = record link { half = bytes } in l)) none)
-
-pub takes_alone : (old given taken : Machine) (c : ℕ) (frame : Frame) (starved : Option ℕ) → c < connection_limit
-    → length old.links ≡ connection_limit → is_reading (link_at old c).phase ≡ true
-    → GivesFrame frame (link_at old c).half [] → given ≡ with_link old c (record (link_at old c) { half = [] })
-    → TakesFrame c frame starved given taken → TakesOne c starved old taken
-takes_alone old given taken c frame starved lt count r gives is t =
-    takes_put old given taken taken c frame [] starved lt count r gives is t
-    (puts_nothing _ taken c refl (left_none old given taken c frame starved lt count r is t))
+    (puts_back _ taken new c more refl lt (left_none old given taken c frame starved lt count r is t) back)

@@ -1,5 +1,5 @@
 -- The whole frames of a piece are taken, one after the other.
-use Rattle.std.proofs.Common.{◌≡◌, ℕ, ◌+◌, ◌<◌, ◌≤◌, List, [], ◌∷◌, ◌++◌, length, drop, Bool, true, false, Option, Some, None, refl, sym, ap, ◌∙◌, subst, arith, append_assoc}
+use Rattle.std.proofs.Common.{◌≡◌, ℕ, ◌+◌, ◌<◌, ◌≤◌, List, [], ◌∷◌, ◌++◌, length, get_or, drop, zero, suc, Bool, true, false, Option, Some, None, refl, sym, ap, ◌∙◌, subst, arith, append_assoc}
 use Rattle.std.specs.List.{fold, enumerate_from}
 use Rattle.std.proofs.lemmas.List.{append-nil, length-append, set-get_or, get_or-set_same}
 use Rattle.iscsi_pdu.specs.Frames.{Frame, frames, rest, is_long, has_frame, first_frame, frame_length}
@@ -24,6 +24,15 @@ use Rattle.iscsi_world.proofs.Apart.{part_closed, part_as, part_then}
 use Rattle.iscsi_world.proofs.Bounding.{adds_then}
 use Rattle.iscsi_world.proofs.Heavier.{closed_loads}
 use Rattle.iscsi_world.proofs.Moving.{keeps_same, Changes, own_self, feeds_then, closed_then, closed_moves, starved_moves, moves_as, moves_none}
+
+-- only a connection that there is reads
+links_below : (links : List LinkState) (c : ℕ) → is_reading (get_or links c free_link).phase ≡ true → c < length links
+links_below [] c r = absurd (cc r)
+links_below (link ∷ links) zero r = omega arith
+links_below (link ∷ links) (suc c) r = let lt = links_below links c r in omega (arith, lt)
+
+pub reads_below : (machine : Machine) (c : ℕ) → is_reading (link_at machine c).phase ≡ true → c < length machine.links
+reads_below machine c r = links_below machine.links c r
 
 -- ---- the bytes that are kept
 
@@ -81,7 +90,7 @@ none_left bytes link kept = grind (arith, rest_no_frame, no_frame)
 pub halving : (link : LinkState) (more : List ℕ) → is_reading link.phase ≡ true → Changes link (record link { half = more })
 halving link more r = grind (arith, append-nil)
 
-closed_keeps : (machine : Machine) (c : ℕ) (more : List ℕ) → c < length machine.links → KeepsHalf more (link_at (closed machine c) c)
+pub closed_keeps : (machine : Machine) (c : ℕ) (more : List ℕ) → c < length machine.links → KeepsHalf more (link_at (closed machine c) c)
 unfolding closed
 closed_keeps machine c more lt = grind (arith, get_or-set_same)
 

@@ -1,5 +1,5 @@
 -- While frames are taken, the code stands where the World does: the effect of each call on both.
-use Rattle.std.specs.Prelude.{◌≡◌, ◌≢◌, ℕ, ◌+◌, ◌<◌, List, [], ◌∷◌, ◌++◌, length, drop, Bool, true, false, if◌then◌else◌, ◌&&◌, not, ◌==◌, nat_lt, Option, Some, None, Result, Ok, Err, ⊤}
+use Rattle.std.specs.Prelude.{◌≡◌, ◌≢◌, ◌⊎◌, ℕ, ◌+◌, ◌<◌, List, [], ◌∷◌, ◌++◌, length, drop, Bool, true, false, if◌then◌else◌, ◌&&◌, not, ◌==◌, nat_lt, Option, Some, None, Result, Ok, Err, ⊤}
 use Rattle.std.specs.List.{list_all, fold, enumerate_from}
 use Rattle.iscsi_pdu.specs.Frames.{Frame, rest, is_long}
 use Rattle.iscsi_pdu.specs.Header.{header_length}
@@ -208,6 +208,19 @@ pub record TakesAll (c : ℕ) (starved : Option ℕ) (old new : Machine) : Type 
   pub short : is_reading (link_at new c).phase ≡ true → is_long (rest (link_at old c).half) ≡ false
   pub takes : TakesSome c (arrivals (link_at old c).half) (rest (link_at old c).half) starved old new
   pub leaves : Leaves c (length (arrivals (link_at old c).half)) starved old new
+
+-- The bytes after the last PDU could not be kept: when all arrivals were taken, the connection was closed.
+pub record StarvesAfter (c : ℕ) (starved : Option ℕ) (old new : Machine) : Type 0 where
+  pub earlier : Option ℕ
+  pub mid : Machine
+  pub takes : TakesAll c earlier old mid
+  pub reads : is_reading (link_at mid c).phase ≡ true
+  pub closes : new ≡ closed mid c
+  pub first : starved ≡ first_of earlier (Some c)
+
+-- all arrivals are taken; the bytes after them are kept, unless an allocation fails
+abbrev pub TakesBytes : ℕ → Option ℕ → Machine → Machine → Type 0
+TakesBytes c starved old new = TakesAll c starved old new ⊎ StarvesAfter c starved old new
 
 -- the commands of the sessions of a target are done
 abbrev pub Settles : ℕ → Option ℕ → Machine → Machine → Type 0

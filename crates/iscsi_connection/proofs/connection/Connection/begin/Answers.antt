@@ -1,7 +1,7 @@
 use Rattle.std.proofs.Common.{◌≡◌, ◌++◌, ◌∙◌, true, refl, ap}
 use Rattle.iscsi_pdu.specs.Answer.{spelling}
 use Rattle.iscsi_world.specs.Machine.{LinkState, is_reading}
-use Rattle.std.proofs.Common.{inr, sym, subst}
+use Rattle.std.proofs.Common.{sym, subst}
 use Rattle.iscsi_world.specs.declared.phase.Phase.{Phase}
 use Rattle.iscsi_world.specs.declared.phase.Phase.TheVariants.{FullFeature}
 use Rattle.iscsi_connection.specs.Arriving.{IsUntaken, out_in}
@@ -16,6 +16,9 @@ returns-clause-ok g c =
     rw (c.change.ensures, c.in_ok-begun.ensures.same, c.in_ok-reserved.ensures, written, ← c.self.view_is, reading) refl
 
 pub invariant_of-self-2 : goal.invariant_of-self-2
-invariant_of-self-2 g c = inr (subst (λ (phase : Phase). IsUntaken phase (out_in c.self.inside.arriving.passing))
-    (sym (c.change.ensures ∙ ap FullFeature (c.in_ok-begun.ensures.same ∙ c.in_ok-reserved.ensures)))
-    (begun_untaken c.args.session (out_in c.self.inside.arriving.passing)))
+invariant_of-self-2 g c = λ counted. (
+  (c.self.invariant counted).0,
+  subst (λ (phase : Phase). IsUntaken phase (out_in c.self.inside.arriving.bytes))
+      (sym (c.change.ensures ∙ ap FullFeature (c.in_ok-begun.ensures.same ∙ c.in_ok-reserved.ensures)))
+      (begun_untaken c.args.session (out_in c.self.inside.arriving.bytes)),
+)

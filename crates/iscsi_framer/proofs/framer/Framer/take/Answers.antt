@@ -1,6 +1,7 @@
 use Rattle.std.proofs.Common.{◌≡◌, ℕ, Err, List, ◌++◌, length, take, refl, sym, ap, ◌∙◌, subst, arith}
+use Rattle.std.proofs.lemmas.Bool.{false≢true}
 use Rattle.iscsi_pdu.specs.Parts.{HoldsOne}
-use Rattle.iscsi_framer.proofs.Fronts.{Fronted, fronted_by, front_takes, front_long, one_within, one_long, no_fault, only_memory, TakenBack, taken_back}
+use Rattle.iscsi_framer.proofs.Fronts.{Fronted, fronted_by, front_takes, front_long, front_lent, one_within, one_long, no_fault, only_memory, TakenBack, taken_back}
 use Rattle.iscsi_framer.proofs.framer.Framer.take.Goals as goal
 
 pub take_more-requires-clause-within : goal.take_more-requires-clause-within
@@ -93,3 +94,18 @@ returns-in-Err-Memory-clause-memory c =
     let same : c.truncate.new.self.items ++ c.self-2.inside.behind ≡ c.args.self.now =
     ap (λ (x : List ℕ). x ++ c.self-2.inside.behind) cut ∙ back.same ∙ c.self.view_is in
     λ e. same
+
+pub returns-in-Err-TooLong-clause-lent : goal.returns-in-Err-TooLong-clause-lent
+returns-in-Err-TooLong-clause-lent c =
+    let fr : Fronted c.args.self.now c.args.piece.now c.split_at.result.0.now c.split_at.result.1.now (c.put.new.header.items ++ c.self.inside.behind) =
+    fronted_by c.args.self.now c.self.inside.header.items c.self.inside.behind c.args.piece.now c.split_at.result.0.now c.split_at.result.1.now
+    c.put.new.header.items c.min.result c.self.view_is c.self.invariant (omega arith) c.split_at.ensures.front c.split_at.ensures.back c.put.ensures in
+    let long = c.in-Err-TooLong.ensures.too_long.0 (ap Err c.in-Err-TooLong.field-0-is) in
+    λ out short. absurd (false≢true (sym (front_lent _ _ _ _ _ fr out short).1 ∙ long))
+
+pub returns-in-Err-Memory-clause-lent : goal.returns-in-Err-Memory-clause-lent
+returns-in-Err-Memory-clause-lent c =
+    let fr : Fronted c.args.self.now c.args.piece.now c.split_at.result.0.now c.split_at.result.1.now (c.put.new.header.items ++ c.self.inside.behind) =
+    fronted_by c.args.self.now c.self.inside.header.items c.self.inside.behind c.args.piece.now c.split_at.result.0.now c.split_at.result.1.now
+    c.put.new.header.items c.min.result c.self.view_is c.self.invariant (omega arith) c.split_at.ensures.front c.split_at.ensures.back c.put.ensures in
+    λ out short. (let l = front_lent _ _ _ _ _ fr out short in c.in-Err-Memory.ensures.lent l.0 l.1)

@@ -1,13 +1,13 @@
 use Rattle.std.proofs.Common.{length}
 use Rattle.iscsi_world.specs.Machine.{link_at}
-use Rattle.iscsi_world.specs.Serving.{first_starved}
-use Rattle.iscsi_world.proofs.Taking.{Progress}
+use Rattle.iscsi_world.specs.Serving.{first_starved, kept_piece}
+use Rattle.iscsi_target.proofs.Bytes.{TakesOn, joined}
 use Rattle.iscsi_target.proofs.target.Target.take_frames.Given as goal
 
--- some of what is whole is taken
-abbrev pub invariant-loop-self : goal.invariant-loop-self
-invariant-loop-self g l = Progress l.c (first_starved l.outcome) l.initial.self l.self
+-- some of the PDUs are taken
+abbrev pub invariant-loop-rest : goal.invariant-loop-rest
+invariant-loop-rest g l = TakesOn l.c (first_starved l.outcome) (kept_piece l.c l.piece l.initial.self) l.rest l.self
 
 -- each that is taken leaves fewer bytes
-abbrev pub decreases-loop-self : goal.decreases-loop-self
-decreases-loop-self g l = length (link_at l.self l.c).half
+abbrev pub decreases-loop-rest : goal.decreases-loop-rest
+decreases-loop-rest g l = length (link_at (joined l.c l.rest l.self) l.c).half
