@@ -14,7 +14,7 @@ ghost use Rattle.iscsi_connection.specs.Arriving.{frame_of, CanPass, IsUntaken, 
 use crate::passed::PassedDataOut;
 use call_record::Record;
 use data_parts::SpareBuffers;
-use iscsi_framer::{FrameRoom, Framer};
+use iscsi_framer::{FrameRoom, Framer, names_more};
 use iscsi_pdu::{Frame, HEADER_LENGTH, Header, Part, PduFault};
 use std::alloc::Global;
 use std::marker::Model;
@@ -75,6 +75,20 @@ impl Arriving {
             is_counted: false,
             noted: Record::new(),
         }
+    }
+
+    /// Keeps a piece that ends before the PDU in front does, as [`Framer::keep_part`] does. Returns whether it did: if not,
+    /// nothing is changed.
+    pub(crate) fn keep_part(&mut self, piece: &[u8]) -> bool
+        ensures kept { result ≡ true → self.new ≡ record self.old { bytes = self.old.bytes ++ piece.now } }
+        ensures part { result ≡ true → arrivals (self.old.bytes ++ piece.now) ≡ [] }
+        ensures passing { (phase : Phase) → CanPass phase self.old → CanPass phase self.new }
+        ensures other { result ≡ false → self.new ≡ self.old }
+    {
+        if self.is_counted {
+            return false;
+        }
+        self.framer.keep_part(piece)
     }
 
     /// Takes the next bytes of a piece, up to the end of the PDU in front, and that PDU if it is whole with them. If it is
@@ -144,10 +158,7 @@ impl Arriving {
     /// Returns whether a piece may bring more of a PDU than its header, so that a buffer is of use: bytes are kept, or it
     /// begins with a header that names additional headers or data (RFC 7143 §11.2.1).
     pub(crate) fn wants_buffer(&self, piece: &[u8]) -> bool {
-        if piece.len() <= HEADER_LENGTH {
-            return false;
-        }
-        piece[4] | piece[5] | piece[6] | piece[7] != 0 || !self.framer.is_empty()
+        piece.len() > HEADER_LENGTH && (names_more(piece) || !self.framer.is_empty())
     }
 
     /// Returns whether more is kept than one PDU.

@@ -135,6 +135,17 @@ impl Connection {
         self.phase.change(Phase::Closing);
     }
 
+    /// Keeps a piece that ends before the PDU in front does, if no buffer has to be found for it. Returns whether it did: if
+    /// not, nothing is changed.
+    pub fn keep_part(&mut self, piece: &[u8]) -> bool
+        requires { is_reading self.old.phase ≡ true }
+        ensures kept { result ≡ true → self.new ≡ record self.old { half = self.old.half ++ piece.now } }
+        ensures part { result ≡ true → arrivals (self.old.half ++ piece.now) ≡ [] }
+        ensures other { result ≡ false → self.new ≡ self.old }
+    {
+        self.arriving.keep_part(piece)
+    }
+
     /// Takes the next bytes of a piece, up to the end of the PDU in front, and that PDU if it is whole with them. If it is
     /// not, all of the piece is kept; of a half-read Data-Out that is only counted ([`Connection::forget`]), the number
     /// of bytes is. A fault changes nothing.

@@ -1,5 +1,5 @@
 -- The first PDU is taken from the bytes that are kept and those of a piece.
-use Rattle.std.proofs.Common.{◌≡◌, ℕ, ◌+◌, ◌<◌, ◌≤◌, false, List, ◌++◌, length, take, Option, Some, None, sym, ap, ◌∙◌, subst, inl, inr, arith, append_assoc, append-nil, length-append}
+use Rattle.std.proofs.Common.{◌≡◌, ℕ, ◌+◌, ◌-◌, ◌<◌, ◌≤◌, false, List, ◌++◌, length, take, Option, Some, None, sym, ap, ◌∙◌, subst, inl, inr, arith, append_assoc, append-nil, length-append}
 use Rattle.std.specs.Prelude.{IfSome}
 use Rattle.std.proofs.Math.Seq.{take-append-add}
 use Rattle.std.proofs.lemmas.Bool.{cases_Bool, cases_lt}
@@ -26,6 +26,13 @@ no_header_frame bytes short =
       | inl there ↦ (let header = (has_frame-true bytes there).header in absurd (omega (arith, header, short)))
       | inr none ↦ none
     ]
+
+-- nor is it with a piece that does not end the header
+pub short_with : (front behind bytes piece : List ℕ) → IsSplit header_length front behind → front ++ behind ≡ bytes
+    → length piece < header_length - length front → length (bytes ++ piece) < header_length
+short_with front behind bytes piece s is less =
+    let only : bytes ≡ front = sym is ∙ ap (λ (x : List ℕ). front ++ x) (s.whole (omega (arith, less))) ∙ append-nil front in
+    omega (arith, less, length-append bytes piece, ap (λ (x : List ℕ). length x) only)
 
 -- ---- no more than one
 

@@ -1,6 +1,6 @@
 //! Bytes that are appended at the end and taken from the front.
 
-ghost use Rattle.std.specs.Prelude.{◌≡◌, ◌+◌, ◌-◌, ◌^◌, ◌<◌, ◌≤◌, [], ◌++◌, length, take, drop, replicate, IfOk, IfErr, IfSome, IfNone, OnOk, OnErr};
+ghost use Rattle.std.specs.Prelude.{◌≡◌, ◌+◌, ◌-◌, ◌^◌, ◌<◌, ◌≤◌, [], ◌++◌, true, false, length, take, drop, replicate, IfOk, IfErr, IfSome, IfNone, OnOk, OnErr};
 
 use crate::frame_buffer::{FrameBuffer, FrameRoom, put_zeros};
 use data_parts::SpareBuffers;
@@ -95,13 +95,34 @@ impl ByteQueue {
         self.bytes.append(piece, room)
     }
 
+    /// Appends a piece to bytes that are there, in their buffer, with room for `room` bytes if that is more. Returns whether
+    /// it did: if not, nothing is changed.
+    #[inline(always)]
+    pub(crate) fn append_more(&mut self, piece: &[u8], room: usize) -> bool
+        ensures kept { result ≡ true → self.new ≡ self.old ++ piece.now }
+        ensures other { result ≡ false → self.new ≡ self.old }
+    {
+        if self.bytes.len() == 0 || self.taken > 0 || self.zeros > 0 {
+            return false;
+        }
+        match self.bytes.append(piece, room) {
+            Ok(()) => true,
+            Err(_) => false,
+        }
+    }
+
     /// Appends the last piece and takes all bytes, in their buffer.
+    #[inline(always)]
     pub(crate) fn complete(&mut self, piece: &[u8]) -> Result<Vec<u8>, PduFault>
         ensures bytes { IfOk result (λ bytes. bytes.items ≡ self.old ++ piece.now) }
         ensures none { OnOk result (self.new ≡ []) }
         ensures memory { IfErr result (λ fault. fault ≡ PduFault.Memory) }
         ensures err { OnErr result (self.new ≡ self.old) }
     {
+        // Most PDUs have no data.
+        if piece.is_empty() && self.bytes.len() == 0 && self.zeros == 0 {
+            return Ok(Vec::new(self.alloc));
+        }
         self.bytes.pack(self.taken, self.zeros)?;
         self.taken = 0;
         self.zeros = 0;
@@ -185,6 +206,7 @@ impl ByteQueue {
     }
 
     /// Takes a spare buffer with room for `room` bytes if there are no bytes.
+    #[inline(always)]
     pub(crate) fn prepare(&mut self, room: usize, spares: &mut SpareBuffers) -> bool
         ensures { self.new ≡ self.old }
     {

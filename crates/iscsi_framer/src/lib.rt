@@ -1,6 +1,7 @@
 //! The bytes of a connection, cut into the frames that `iscsi_pdu` defines (RFC 7143 §11).
 //!
 //! ```text
+//!   a piece ──> Framer::keep_part ──> nothing, as more of its PDU has to come
 //!   a piece ──> Framer::take_frame ──> Frame { header, body }, and how much of the piece it took
 //!   a piece ──> Framer::take ──> Part: a frame, or data lent from the piece, of which only the number is kept
 //!   a piece ──> Framer::feed, next ──> Frame: the plain form, with which the others are compared
@@ -28,3 +29,4 @@ mod pieces;
 pub use frame_buffer::FrameRoom;
 pub use framer::Framer;
 pub use front::Front;
+pub use pieces::names_more;

@@ -1,12 +1,13 @@
 //! Frames are taken out of a piece, or the data of a Data-Out is lent from it.
 
-ghost use Rattle.std.specs.Prelude.{◌≡◌, ◌<◌, ◌≤◌, ◌↔◌, ℕ, List, [], ◌++◌, length, take, true, false, IsOk, IfOk, IfErr, IfSome, IfNone, OnOk, OnErr};
+ghost use Rattle.std.specs.Prelude.{◌≡◌, ◌<◌, ◌≤◌, ◌↔◌, ◌+◌, ℕ, List, [], ◌++◌, length, take, true, false, IsOk, IfOk, IfErr, IfSome, IfNone, OnOk, OnErr};
 ghost use Rattle.std.specs.Result.{IsErrOf};
 ghost use Rattle.iscsi_pdu.specs.Parts.{is_data_out, HoldsOne, Takes};
 ghost use Rattle.iscsi_framer.specs.Framer.{LendsSome, HoldsNoMore, IsWholly, part_of};
 
 use crate::frame_buffer::cut_front;
 use crate::framer::{Framer, put};
+use crate::front::Front;
 use data_parts::SpareBuffers;
 use iscsi_pdu::{Frame, HEADER_LENGTH, Header, MOST_DATA, Part, PduFault, padded};
 
@@ -20,10 +21,75 @@ fn part_of<'p>(frame: Option<Frame>) -> Part<'p>
     }
 }
 
+/// Returns whether a piece that begins with a header names additional headers or data (RFC 7143 §11.2.1).
+pub fn names_more(piece: &[u8]) -> bool {
+    piece.len() > 7 && piece[4] | piece[5] | piece[6] | piece[7] != 0
+}
+
 impl Framer {
     ghost use Rattle.iscsi_pdu.specs.Header.{header_length, data_length};
     ghost use Rattle.iscsi_pdu.specs.Segment.{most_data};
     ghost use Rattle.iscsi_pdu.specs.Frames.{has_frame, is_long, frame_length};
+
+    /// Keeps a piece that ends before the PDU in front does, if no buffer has to be found for it. Returns whether it did: if
+    /// not, nothing is changed.
+    pub fn keep_part(&mut self, piece: &[u8]) -> bool
+        ensures kept { result ≡ true → self.new ≡ self.old ++ piece.now }
+        ensures part { result ≡ true → (has_frame (self.old ++ piece.now) ≡ false) × (is_long (self.old ++ piece.now) ≡ false) }
+        ensures other { result ≡ false → self.new ≡ self.old }
+    {
+        let had = self.header.len();
+        if piece.len() < HEADER_LENGTH - had {
+            put(&mut self.header, piece);
+            return true;
+        }
+        if had == HEADER_LENGTH {
+            return self.keep_more(piece);
+        }
+        if piece.len() > HEADER_LENGTH - had || had == 0 && !names_more(piece) {
+            return false;
+        }
+        self.keep_header(piece)
+    }
+
+    /// Keeps the end of a header as [`keep_part`](Framer::keep_part) does.
+    fn keep_header(&mut self, piece: &[u8]) -> bool
+        requires { length self.old + length piece.now ≡ header_length }
+        ensures kept { result ≡ true → self.new ≡ self.old ++ piece.now }
+        ensures part { result ≡ true → (has_frame (self.old ++ piece.now) ≡ false) × (is_long (self.old ++ piece.now) ≡ false) }
+        ensures other { result ≡ false → self.new ≡ self.old }
+    {
+        let had = self.header.len();
+        put(&mut self.header, piece);
+        if let Front::Part = self.front() {
+            return true;
+        }
+        self.header.truncate(had);
+        false
+    }
+
+    /// Keeps bytes after a header as [`keep_part`](Framer::keep_part) does.
+    #[inline(always)]
+    fn keep_more(&mut self, piece: &[u8]) -> bool
+        ensures kept { result ≡ true → self.new ≡ self.old ++ piece.now }
+        ensures part { result ≡ true → (has_frame (self.old ++ piece.now) ≡ false) × (is_long (self.old ++ piece.now) ≡ false) }
+        ensures other { result ≡ false → self.new ≡ self.old }
+    {
+        let Some(header) = self.header() else {
+            return false;
+        };
+        let data = header.data_length();
+        if data > MOST_DATA {
+            return false;
+        }
+        let missing = (HEADER_LENGTH + header.additional_length() + padded(data)).saturating_sub(
+            self.len(),
+        );
+        if piece.len() >= missing {
+            return false;
+        }
+        self.behind.append_more(piece, missing)
+    }
 
     /// Takes the next bytes of a piece, up to the end of a frame, and that frame if it is whole with them. Returns how
     /// many were used. Bytes that make no frame whole are all kept. Data goes into a spare buffer.
@@ -56,6 +122,7 @@ impl Framer {
     }
 
     /// Takes the next bytes of a piece, like [`take_frame`](Framer::take_frame), after those of the first header.
+    #[inline(always)]
     fn take_whole(
         &mut self,
         more: &[u8],
@@ -168,6 +235,7 @@ impl Framer {
     }
 
     /// Takes the next bytes of a PDU with this header, and its frame if it is whole with them. If it is not, all are kept.
+    #[inline(always)]
     fn gather(
         &mut self,
         header: Header,

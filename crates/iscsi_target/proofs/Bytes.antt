@@ -139,6 +139,18 @@ takes_kept c starved first machine after piece in_range r on is none =
     (ends_whole c starved first (joined c piece machine) (reads_joined c piece machine lt r)
     (ap arrivals (half_joined c piece machine lt r) ∙ none) on.progress))
 
+-- nothing is whole from the start
+pub takes_part : (c : ℕ) (machine after : Machine) (piece : List ℕ) → c < connection_limit → is_reading (link_at machine c).phase ≡ true
+    → after ≡ kept_piece c piece machine → arrivals ((link_at machine c).half ++ piece) ≡ [] → TakesBytes c None (kept_piece c piece machine) after
+takes_part c machine after piece in_range r is none =
+    let first = joined c piece machine in
+    let lt = reads_below machine c r in
+    let reads = reads_joined c piece machine lt r in
+    let takes : TakesBytes c None first first = inl (ends_whole c None first first reads (ap arrivals (half_joined c piece machine lt r) ∙ none)
+    (begins first c in_range reads)) in
+    subst (λ (m : Machine). TakesBytes c None (kept_piece c piece machine) m) (sym is)
+    (subst (λ (m : Machine). TakesBytes c None m m) (as_kept c piece machine r) takes)
+
 -- the piece ends where a PDU does
 pub takes_end : (c : ℕ) (starved : Option ℕ) (first machine : Machine) (piece : List ℕ) → c < connection_limit → TakesOn c starved first piece machine
     → piece ≡ [] → (link_at machine c).half ≡ [] → TakesBytes c starved first machine

@@ -22,8 +22,23 @@ use media_store::Store;
 use target_limits::Memory;
 
 impl<S: Store> Target<S> {
+    /// Keeps a piece on a connection that ends before the PDU in front does, if no buffer has to be found for it. Returns
+    /// whether it did: if not, nothing is changed.
+    fn keep_part(&mut self, c: usize, piece: &[u8]) -> bool
+        requires in_range { c < 64 }
+        requires reads { is_reading (link_at self.old c).phase ≡ true }
+        ensures kept { result ≡ true → self.new ≡ kept_piece c piece.now self.old }
+        ensures part { result ≡ true → arrivals ((link_at self.old c).half ++ piece.now) ≡ [] }
+        ensures other { result ≡ false → self.new ≡ self.old }
+        ensures count { length self.old.links ≡ 64 }
+    {
+        let connection = self.connections.at_mut(c);
+        connection.keep_part(piece)
+    }
+
     /// Takes the next bytes of a piece on a connection, up to the end of a PDU, and the PDU if it is whole with them.
     /// If it is not, all of the piece is kept. A fault changes nothing.
+    #[inline(always)]
     fn take_pdu(&mut self, c: usize, piece: &[u8]) -> Result<Option<Taken>, PduFault>
         requires in_range { c < 64 }
         requires reads { is_reading (link_at self.old c).phase ≡ true }
@@ -69,6 +84,7 @@ impl<S: Store> Target<S> {
     }
 
     /// Takes the next bytes of a piece as [`Target::take_pdu`] does, using spare buffers.
+    #[inline(always)]
     fn take_with(
         &mut self,
         c: usize,
@@ -180,6 +196,9 @@ impl<S: Store> Target<S> {
         requires reads { is_reading (link_at self.old c).phase ≡ true }
         ensures { TakesBytes c (first_starved result) (kept_piece c piece.now self.old) self.new }
     {
+        if self.keep_part(c, piece) {
+            return Ok(());
+        }
         if self.connections.at(c).holds_more() {
             return self.take_all(c, piece);
         }
