@@ -2,6 +2,8 @@
 
 ghost use Rattle.std.specs.Prelude.{◌≡◌, ◌<◌, ◌≤◌, ◌↔◌, ◌+◌, ℕ, List, [], ◌++◌, length, take, true, false, IsOk, IfOk, IfErr, IfSome, IfNone, OnOk, OnErr};
 ghost use Rattle.std.specs.Result.{IsErrOf};
+ghost use Rattle.iscsi_pdu.specs.Header.{header_length};
+ghost use Rattle.iscsi_pdu.specs.Frames.{frame_length};
 ghost use Rattle.iscsi_pdu.specs.Parts.{is_data_out, HoldsOne, Takes};
 ghost use Rattle.iscsi_framer.specs.Framer.{LendsSome, HoldsNoMore, IsWholly, part_of};
 
@@ -21,9 +23,14 @@ fn part_of<'p>(frame: Option<Frame>) -> Part<'p>
     }
 }
 
-/// Returns whether a piece that begins with a header names additional headers or data (RFC 7143 §11.2.1).
-pub fn names_more(piece: &[u8]) -> bool {
-    piece.len() > 7 && piece[4] | piece[5] | piece[6] | piece[7] != 0
+/// Returns whether a piece begins with a whole header that names additional headers or data (RFC 7143 §11.2.1), so that
+/// its PDU is longer than its header.
+#[tactic(auto, unfolding(iscsi_pdu::specs::Frames::frame_length))]
+pub fn names_more(piece: &[u8]) -> bool
+    ensures { (result ≡ true) ↔ ((header_length ≤ length piece.now) × (header_length < frame_length piece.now)) }
+{
+    piece.len() >= HEADER_LENGTH
+        && (piece[4] != 0 || piece[5] != 0 || piece[6] != 0 || piece[7] != 0)
 }
 
 impl Framer {
