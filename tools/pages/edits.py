@@ -5,7 +5,7 @@ from pathlib import Path
 
 TOP = Path(__file__).resolve().parent.parent.parent
 PAGE = "crates/WRONG_BODIES.md"
-MOST = 147  # each costs a check of its crate
+MOST = 149  # each costs a check of its crate
 GROUPS = (
     "Commands",
     "Numbers and tags",

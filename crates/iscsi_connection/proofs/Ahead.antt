@@ -1,5 +1,5 @@
 -- The bytes of a connection: the PDU in front is taken, or only counted.
-use Rattle.std.proofs.Common.{◌≡◌, ℕ, ◌+◌, ◌-◌, ◌==◌, ◌<◌, ◌≤◌, List, [], ◌++◌, length, take, drop, true, false, Option, Some, None, refl, sym, ap, ◌∙◌, subst, arith, inl, inr, length-append, append_assoc}
+use Rattle.std.proofs.Common.{◌≡◌, ℕ, ◌+◌, ◌-◌, ◌==◌, ◌<◌, ◌≤◌, List, [], ◌++◌, length, take, drop, true, false, Option, Some, None, refl, sym, ap, ◌∙◌, subst, arith, inl, inr, length-append, append_assoc, append-nil}
 use Rattle.std.proofs.lemmas.List.{drop_all, take-append-le, take-append-drop}
 use Rattle.std.proofs.lemmas.Bool.{cases_Bool, le-leb, ltb-true}
 use Rattle.std.specs.Prelude.{nat_lt, Result, Ok, Err, IfOk, IfSome}
@@ -11,7 +11,7 @@ use Rattle.iscsi_pdu.proofs.Frames.{drop_shorter, frames_taken, rest_taken}
 use Rattle.iscsi_pdu.proofs.Cuts.{has_frame-append, first_frame-append, behind-append, data_length-append, data_length-take}
 use Rattle.iscsi_pdu.proofs.DataOuts.{is_data_out-header, is_data_out-more}
 use Rattle.iscsi_pdu.proofs.Fields.{fields, not_long}
-use Rattle.iscsi_framer.specs.Framer.{IsWholly}
+use Rattle.iscsi_framer.specs.Framer.{IsWholly, HoldsNoMore}
 use Rattle.iscsi_framer.proofs.Fronts.{long_alike}
 use Rattle.iscsi_transfer.specs.Counted.{brought}
 use Rattle.iscsi_login.specs.declared.session_params.SessionParams.{SessionParams}
@@ -50,6 +50,16 @@ gives_used frame bytes piece used w =
     subst (λ (x : List ℕ). GivesFrame frame x (drop used piece))
     (append_assoc bytes (take used piece) (drop used piece) ∙ ap (λ (x : List ℕ). bytes ++ x) (take-append-drop used piece))
     (gives_all frame (bytes ++ take used piece) (drop used piece) w)
+
+-- with none of them: it is all that there is
+pub gives_alone : (o : Option Frame) (kept bytes : List ℕ) → bytes ≡ kept → IfSome o (λ frame. IsWholly frame kept)
+    → IfSome o (λ frame. GivesFrame frame bytes [])
+gives_alone None kept bytes is w = tt
+gives_alone (Some frame) kept bytes is w = subst (λ (x : List ℕ). GivesFrame frame x []) (append-nil kept ∙ sym is) (gives_all frame kept [] w)
+
+pub alone_only : (o : Option Frame) (kept bytes : List ℕ) → bytes ≡ kept → IfSome o (λ frame. IsWholly frame kept) → IfSome o (λ _. HoldsNoMore bytes)
+alone_only None kept bytes is w = tt
+alone_only (Some frame) kept bytes is w = subst HoldsNoMore (sym is) (λ short. (let exact = w.exact in omega (arith, exact)))
 
 -- none is whole, and none names too much data
 pub none_taken : (bytes : List ℕ) → has_frame bytes ≡ false → (is_long bytes ≡ true → ⊥) → arrivals bytes ≡ []

@@ -91,6 +91,20 @@ impl Arriving {
         self.framer.keep_part(piece)
     }
 
+    /// Takes the PDU in front as [`Framer::take_alone`] does. Returns `None`, and changes nothing, also if it is only counted.
+    #[inline(always)]
+    pub(crate) fn take_alone(&mut self) -> Option<Frame>
+        ensures given { IfSome result (λ frame. GivesFrame frame self.old.bytes []) }
+        ensures no_more { IfSome result (λ _. HoldsNoMore self.old.bytes) }
+        ensures left { IfSome result (λ _. self.new ≡ record { bytes = []; is_counted = false }) }
+        ensures none { IfNone result (self.new ≡ self.old) }
+    {
+        if self.is_counted {
+            return None;
+        }
+        self.framer.take_alone()
+    }
+
     /// Takes the next bytes of a piece, up to the end of the PDU in front, and that PDU if it is whole with them. If it is
     /// not, all of the piece is kept, or its number of bytes. A fault changes nothing.
     pub(crate) fn take(

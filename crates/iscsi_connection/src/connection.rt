@@ -146,6 +146,18 @@ impl Connection {
         self.arriving.keep_part(piece)
     }
 
+    /// Takes the PDU in front, in the buffer in which it came, if it is whole and no byte has come after it. Returns `None`, and
+    /// changes nothing, if not, if it is only counted, or if its additional headers cannot be cut off as an allocation fails.
+    pub fn take_alone(&mut self) -> Option<Frame>
+        requires { is_reading self.old.phase ≡ true }
+        ensures given { IfSome result (λ frame. GivesFrame frame self.old.half []) }
+        ensures no_more { IfSome result (λ _. HoldsNoMore self.old.half) }
+        ensures left { IfSome result (λ _. self.new ≡ record self.old { half = [] }) }
+        ensures none { IfNone result (self.new ≡ self.old) }
+    {
+        self.arriving.take_alone()
+    }
+
     /// Takes the next bytes of a piece, up to the end of the PDU in front, and that PDU if it is whole with them. If it is
     /// not, all of the piece is kept; of a half-read Data-Out that is only counted ([`Connection::forget`]), the number
     /// of bytes is. A fault changes nothing.

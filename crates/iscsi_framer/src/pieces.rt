@@ -98,6 +98,20 @@ impl Framer {
         self.behind.append_more(piece, missing)
     }
 
+    /// Takes the frame in front, in the buffer in which it came, if it is whole and no byte has come after it. Returns `None`,
+    /// and changes nothing, if not, or if its additional headers cannot be cut off as an allocation fails.
+    #[inline(always)]
+    pub fn take_alone(&mut self) -> Option<Frame>
+        ensures given { IfSome result (λ frame. IsWholly frame self.old) }
+        ensures left { IfSome result (λ _. self.new ≡ []) }
+        ensures none { IfNone result (self.new ≡ self.old) }
+    {
+        match self.front() {
+            Front::Alone => self.take_first().ok(),
+            Front::Part | Front::Followed | Front::TooLong => None,
+        }
+    }
+
     /// Takes the next bytes of a piece, up to the end of a frame, and that frame if it is whole with them. Returns how
     /// many were used. Bytes that make no frame whole are all kept. Data goes into a spare buffer.
     ///

@@ -16,7 +16,7 @@ use crate::target::Target;
 use data_parts::SpareBuffers;
 use iscsi_connection::{Arrived, Taken};
 use iscsi_framer::FrameRoom;
-use iscsi_pdu::{Opcode, PduFault};
+use iscsi_pdu::{Frame, Opcode, PduFault};
 use iscsi_world::{Phase, Starved};
 use media_store::Store;
 use target_limits::Memory;
@@ -34,6 +34,21 @@ impl<S: Store> Target<S> {
     {
         let connection = self.connections.at_mut(c);
         connection.keep_part(piece)
+    }
+
+    /// Takes the PDU in front of a connection's bytes as [`Connection::take_alone`] does.
+    #[inline(always)]
+    fn take_alone(&mut self, c: usize) -> Option<Frame>
+        requires in_range { c < 64 }
+        requires reads { is_reading (link_at self.old c).phase ≡ true }
+        ensures given { IfSome result (λ frame. GivesFrame frame (link_at self.old c).half []) }
+        ensures no_more { IfSome result (λ _. HoldsNoMore (link_at self.old c).half) }
+        ensures left { IfSome result (λ _. self.new ≡ with_link self.old c (record (link_at self.old c) { half = [] })) }
+        ensures none { IfNone result (self.new ≡ self.old) }
+        ensures count { length self.old.links ≡ 64 }
+    {
+        let connection = self.connections.at_mut(c);
+        connection.take_alone()
     }
 
     /// Takes the next bytes of a piece on a connection, up to the end of a PDU, and the PDU if it is whole with them.
@@ -203,6 +218,18 @@ impl<S: Store> Target<S> {
             return self.take_all(c, piece);
         }
         self.take_frames(c, piece)
+    }
+
+    /// Takes all PDUs in order that are whole of what a reader has filled in. Mostly it is one, which lies in its own buffer.
+    pub(crate) fn take_filled(&mut self, c: usize) -> Result<(), Starved>
+        requires in_range { c < 64 }
+        requires reads { is_reading (link_at self.old c).phase ≡ true }
+        ensures { TakesBytes c (first_starved result) self.old self.new }
+    {
+        match self.take_alone(c) {
+            Some(frame) => self.take_frame(c, Arrived::Whole(frame)),
+            None => self.take_piece(c, &[]),
+        }
     }
 
     /// Takes all PDUs as [`Target::take_piece`] does, where more is kept than one: only a reader that filled more than it

@@ -177,7 +177,7 @@ impl<S: Store> Target<S> {
         ensures { (before : Machine) → LacksRoom c lent before self.old → TakesPiece c (filled_in lent count) result before self.new }
     {
         self.take_room(c, lent, count);
-        self.take_piece(c, &[])
+        self.take_filled(c)
     }
 
     /// Takes back the buffer that [`Target::lend_room`] lent to a reader to whom nothing came.

@@ -1,7 +1,4 @@
-use Rattle.std.proofs.Common.{◌<◌, length, subst, arith}
-use Rattle.iscsi_world.specs.Machine.{Machine}
-use Rattle.iscsi_world.specs.Serving.{TakesBytes, first_starved}
-use Rattle.iscsi_target.proofs.Bytes.{kept_nothing}
+use Rattle.std.proofs.Common.{◌<◌, length, arith}
 use Rattle.iscsi_connection.specs.Rooms.{filled_in}
 use Rattle.iscsi_target.proofs.Pieces.{takes_piece}
 use Rattle.iscsi_target.proofs.Rooms.{kept_in_room, lacking_links, lacking_reads}
@@ -14,8 +11,7 @@ returns g c = λ before lacks.
     let lent = c.args.lent in
     let in_range = c.requires.in_range in
     let lt : at < length before.links = omega (arith, c.take_room.ensures.count, lacking_links before now at lent lacks, in_range) in
-    takes_piece before c.take_room.new.self c.take_piece.new.self at (filled_in lent c.args.count) c.take_piece.result in_range lt
+    takes_piece before c.take_room.new.self c.take_filled.new.self at (filled_in lent c.args.count) c.take_filled.result in_range lt
     (lacking_reads before now at lent lacks c.requires.reads)
     (kept_in_room before now c.take_room.new.self at lent c.args.count lacks c.take_room.ensures.same)
-    (subst (λ (m : Machine). TakesBytes at (first_starved c.take_piece.result) m c.take_piece.new.self) (kept_nothing at c.take_room.new.self)
-    c.take_piece.ensures))
+    c.take_filled.ensures)
